@@ -1,0 +1,201 @@
+-- Demand 3 of a build, for any height from 6. Assumes nothing.
+use Prim.Native.Nat.{ℕ, zero, suc, _+_, _-_, _^_, _≤_, _<_}
+use mathlib.Core.Path.{_≡_, refl, sym, _∙_}
+use mathlib.Core.Logic.{_⊎_, inl, inr, _≢_}
+use mathlib.Core.Bool.{Bool, true}
+use mathlib.Core.List.{List, [], _∷_, _++_}
+use native.Mathlib.Omega.{arith}
+use lib.Dec.{ltb, lt→ltb}
+use lib.ListN.{length, getD, List·getD-eq-default}
+use Rattle.rules.specs.Lists.{mem, keep, insertAll}
+use Rattle.rules.specs.Cells.{filled, empty, wordLimit}
+use Rattle.rules.specs.Graph.{Node, leaf, gate, pinOf, operands, below, ownBit, value}
+use Rattle.rules.specs.Records.{Group, endpointsOf, waitingOf}
+use Rattle.rules.specs.Reservation.{reservable, reserved}
+use Rattle.rules.specs.Traversal.{over, Setting, setting, levelAt}
+use Rattle.rules.specs.Placing.{filledPlan, tree}
+use Rattle.rules.specs.Ending.{stage, oneStage}
+use Rattle.rules.specs.Build.{Stage, refusal, whole, more, stages, build}
+use Rattle.rules.specs.Depth.{depth, remaining}
+use Rattle.rules.specs.Fold.{bitAt, isLeaf, firstLoad, loadFrom}
+use Rattle.rules.proofs.Lists.Members.{In, split, T→true, in-cons, in-nil, in-append-right, in-insertAll, in-insertAll-old, insertAll-in, keep-in, in-keep}
+use Rattle.rules.proofs.Walk.Levels.{over-least, over-above}
+use Rattle.rules.proofs.Walk.Reverse.{Sub, below-in, below-sub}
+use Rattle.rules.proofs.Needed.Needs.{Sound, Graph, setting-sound}
+use Rattle.rules.proofs.Stage.Last.{Once, nobody}
+use Rattle.rules.proofs.Stage.Staged.{Ended, the-end, stage-holds, remaining-least, remaining-above}
+use Rattle.rules.proofs.Stage.Depth.{Ready, still-ready, stage-cases, After, after, rooms-suffice}
+use Rattle.rules.proofs.Tree.Invariant.{final}
+use Rattle.rules.proofs.Tree.Loads.{Fine, fine-kept, fine-first, ltb-true, ltb-false}
+use Rattle.rules.proofs.Fold.Folds.{value-own}
+use Rattle.rules.proofs.Fold.Whole.{Folded, folded, level-zero}
+use Rattle.rules.proofs.Written.Words.{once-insertAll}
+use Rattle.rules.proofs.Written.Writes.{Written, all-written, more-whole}
+
+-- the document's rule for gates
+pub record Valid (g : List Node) : Type 0 where
+  pub lower : (p a b : ℕ) → getD g p leaf ≡ gate a b → (pinOf a < p) × (pinOf b < p)
+
+operand-of : (g : List Node) → Valid g → (x : Node) (p q : ℕ) → getD g p leaf ≡ x → In q (operands x) → (q < p) × (p < length g)
+unfolding operands
+operand-of g ok leaf p q e i = in-nil q i
+operand-of g ok (gate a b) p q e i =
+    let h = ok .lower p a b e in
+    let n : p < length g = split (ltb p (length g)) (λ c. ltb-true p (length g) c) (λ c. absurd (let d : leaf ≡ gate a b = sym (List·getD-eq-default g leaf (ltb-false p (length g) c)) ∙ e in let z : _≡_ {A = ℕ} 0 1 = cc in omega arith)) in
+    elim (in-cons q (pinOf a) (pinOf b ∷ []) i) [
+      | inl c ↦ (rw c (h .0), n)
+      | inr c ↦ elim (in-cons q (pinOf b) [] c) [ inl d ↦ (rw d (h .1), n) | inr d ↦ in-nil q d ]
+    ]
+
+pub graph : (g : List Node) → Valid g → Graph g (λ p. p)
+graph g ok = record {
+  falls = λ p x i. operand-of g ok (getD g p leaf) p x refl (below-in g [] p x i .1) .0;
+  inside = λ p x i. let h = operand-of g ok (getD g p leaf) p x refl (below-in g [] p x i .1) in omega (arith, h .0, h .1);
+}
+
+-- a pin is no deeper where more pins stop
+depth-sub : (g : List Node) (done stop : List ℕ) → Sub done stop → (f p : ℕ) → depth f g stop p ≤ depth f g done p
+unfolding depth
+depth-sub g done stop h zero p = omega arith
+depth-sub g done stop h (suc f) p = over-least (depth f g stop) (below g stop p) (over (depth f g done) (below g done p))
+    (λ x i. omega (arith, depth-sub g done stop h f x, over-above (depth f g done) (below g done p) x (below-sub g done stop h p x i)))
+
+-- the endpoint pins, the constant left out
+waitingOf-once : (xs : List Group) {ws : List ℕ} → Once ws → Once (waitingOf xs ws)
+unfolding waitingOf
+waitingOf-once [] k = k
+waitingOf-once (x ∷ xs) k = waitingOf-once xs (once-insertAll (keep (ltb 0) (endpointsOf x)) k)
+
+waitingOf-old : (q : ℕ) (xs : List Group) (ws : List ℕ) → In q ws → In q (waitingOf xs ws)
+unfolding waitingOf
+waitingOf-old q [] ws i = i
+waitingOf-old q (x ∷ xs) ws i = waitingOf-old q xs _ (in-insertAll-old q (keep (ltb 0) (endpointsOf x)) ws i)
+
+-- a pin that a group of the list waits for
+pub data Ends (q : ℕ) : List Group → Type 0 where
+  first : {x : Group} {xs : List Group} → In q (endpointsOf x) → Ends q (x ∷ xs)
+  later : {x : Group} {xs : List Group} → Ends q xs → Ends q (x ∷ xs)
+
+ends-wait : (q : ℕ) → 0 < q → {xs : List Group} → Ends q xs → (ws : List ℕ) → In q (waitingOf xs ws)
+unfolding waitingOf
+ends-wait q b (first {x = x} {xs = xs} i) ws = waitingOf-old q xs _ (in-insertAll q (keep (ltb 0) (endpointsOf x)) ws (in-keep (ltb 0) q (endpointsOf x) i (T→true (ltb 0 q) (lt→ltb 0 q b))))
+ends-wait q b (later {x = x} {xs = xs} e) ws = ends-wait q b e (insertAll (keep (ltb 0) (endpointsOf x)) ws)
+
+wait-ends : (q : ℕ) (xs : List Group) (ws : List ℕ) → In q (waitingOf xs ws) → In q ws ⊎ Ends q xs
+unfolding waitingOf
+wait-ends q [] ws i = inl i
+wait-ends q (x ∷ xs) ws i = elim (wait-ends q xs _ i) [
+  | inl a ↦ elim (insertAll-in q (keep (ltb 0) (endpointsOf x)) ws a) [ inl b ↦ inr (first (keep-in (ltb 0) q (endpointsOf x) b .0)) | inr b ↦ inl b ]
+  | inr a ↦ inr (later a)
+]
+
+-- the stages of a plan, each with what it loads and which pins it may load
+module _ (K : ℕ) (g : List Node) (given bits : List ℕ) where
+  -- every filled cell folds to its pin's graph value
+  abbrev pub FoldsRight : (ℕ → Bool) → List ℕ → Type 0
+  FoldsRight load pl = (p : ℕ) → 1 ≤ p → p < 2 ^ (K + 1) → filled (getD pl p empty) ≡ true → bitAt K g pl load p ≡ value (length g) g given bits (getD pl p empty)
+
+  -- every cell of level 0 loads a pin that may be loaded
+  abbrev pub LoadsRight : (ℕ → Type 0) → List ℕ → Type 0
+  LoadsRight held pl = (q : ℕ) → 2 ^ K ≤ q → filled (getD pl q empty) ≡ true → held (getD pl q empty)
+
+  abbrev pub Right : (ℕ → Bool) → (ℕ → Type 0) → List Stage → Type 0
+  Right load held [] = Unit {0}
+  Right load held (s ∷ ss) = FoldsRight load (s .plan) × LoadsRight held (s .plan) × Right (loadFrom K g (s .plan) load) (λ n. In n (tree K (s .plan))) ss
+
+module _ (K : ℕ) (g : List Node) (ok : Valid g) (tall : 6 ≤ K) (small : length g ≤ empty) (given bits : List ℕ) where
+  abbrev pub r : ℕ → ℕ
+  r p = p
+
+  low : 1 ≤ K
+  low = omega arith
+
+  pub G : Graph g r
+  G = graph g ok
+
+  first-own : (n : ℕ) → In n given ⊎ (getD g n leaf ≡ leaf) → firstLoad g given bits n ≡ ownBit bits n
+  unfolding firstLoad isLeaf
+  first-own n (inl e) = rw e
+  first-own n (inr e) = split (mem n given) (λ d. rw d) (λ d. rw (d, e))
+
+  one-right : (done waiting : List ℕ) → Ready g r waiting → Sub given done → (load : ℕ → Bool) (held : ℕ → Type 0) →
+      ((n : ℕ) → In n (setting K g done waiting .seen) → levelAt (setting K g done waiting) n ≡ 0 → (load n ≡ value (length g) g given bits n) × held n) →
+      (room : ℕ) (plan2 words realised waiting2 : List ℕ) → oneStage K g done waiting room ≡ stage plan2 words realised waiting2 →
+      FoldsRight K g given bits load plan2 × LoadsRight K g given bits held plan2 × Ready g r waiting2
+      × ((n : ℕ) → In n (setting K g (realised ++ done) waiting2 .seen) → levelAt (setting K g (realised ++ done) waiting2) n ≡ 0 → (loadFrom K g plan2 load n ≡ value (length g) g given bits n) × In n (tree K plan2))
+  unfolding setting
+  one-right done waiting R some load held right room plan2 words realised waiting2 d =
+      let X : Setting = setting K g done waiting in
+      let S : Sound X r (length g) = setting-sound K g r G done waiting (R .bounded) in
+      let E : Ended X (filledPlan X) plan2 realised waiting2 = the-end K g r G low small done waiting (R .bounded) room plan2 words realised waiting2 d in
+      let R2 : Ready g r waiting2 = still-ready K g r G tall small done waiting R room plan2 words realised waiting2 d in
+      let S2 : Sound (setting K g (realised ++ done) waiting2) r (length g) = setting-sound K g r G (realised ++ done) waiting2 (R2 .bounded) in
+      let fine = final X r (length g) S low (Fine X r (length g) S) (fine-kept X r (length g) S) (fine-first X r (length g) S (2 ^ (K + 1))) plan2 (E .rested) in
+      let F : Folded K g r G tall small given bits plan2 realised load = folded K g r G tall small given bits done waiting R some room plan2 words realised waiting2 d load (λ n i z. right n i z .0) in (
+        F .cells,
+        λ q b k. right (getD plan2 q empty) (fine .1 q k .0) (fine .1 q k .1 b) .1,
+        R2,
+        λ n i z.
+            let h : In n realised = stage-holds K g r G low small done waiting (R .bounded) room plan2 words realised waiting2 d n (elim (S2 .visited .new n i) [ inl a ↦ in-nil n a | inr a ↦ a ]) (sym (S2 .level n i) ∙ z) in
+            (F .next n h, rw (E .realises) at h),
+      )
+
+  rights : (rooms k : ℕ) (done waiting : List ℕ) → Ready g r waiting → Sub given done → (load : ℕ → Bool) (held : ℕ → Type 0) →
+      ((n : ℕ) → In n (setting K g done waiting .seen) → levelAt (setting K g done waiting) n ≡ 0 → (load n ≡ value (length g) g given bits n) × held n) →
+      (room : ℕ) (ss : List Stage) → stages K g rooms k done waiting room ≡ whole ss → Right K g given bits load held ss
+  unfolding stages
+  rights zero k done [] R some load held right room ss e = let z : ss ≡ [] = cc in rw z tt
+  rights zero k done (w ∷ ws) R some load held right room ss e = absurd (let z : _≡_ {A = ℕ} 0 1 = cc in omega arith)
+  rights (suc rooms) k done [] R some load held right room ss e = let z : ss ≡ [] = cc in rw z tt
+  rights (suc rooms) k done (w ∷ ws) R some load held right room ss e = stage-cases K g r G tall small (oneStage K g done (w ∷ ws) room)
+      (λ n d. absurd (let c : refusal n k ≡ whole ss = rw (d, stages) at e in let z : _≡_ {A = ℕ} 0 1 = cc in omega arith))
+      (λ plan2 words realised waiting2 d.
+      let m = more-whole K g r G tall small (record { plan = plan2; words = words }) (stages K g rooms (suc k) (realised ++ done) waiting2 (room - length words)) ss (rw (d, stages) at e) in
+      let t = one-right done (w ∷ ws) R some load held right room plan2 words realised waiting2 d in
+      rw (m .2) (t .0, t .1, rights rooms (suc k) (realised ++ done) waiting2 (t .2) (λ q i. in-append-right q realised done (some q i)) (loadFrom K g plan2 load) (λ n. In n (tree K plan2)) (t .3) (room - length words) (m .0) (m .1)))
+
+  -- the build
+  module _ (groups : List Group) (named : (q : ℕ) → Ends q groups → q < length g) where
+    abbrev pub waiting : List ℕ
+    waiting = waitingOf groups []
+
+    ready : Ready g r waiting
+    ready = record {
+      once = waitingOf-once groups nobody;
+      bounded = λ x i. let h : x < length g = elim (wait-ends x groups [] i) [ inl a ↦ in-nil x a | inr a ↦ named x a ] in (h, h);
+    }
+
+    -- D: the longest chain of gates under any endpoint pin
+    abbrev pub D : ℕ
+    D = remaining (length g) g [] waiting
+
+    given-less : remaining (length g) g given waiting ≤ D
+    given-less = remaining-least (length g) g given waiting D (λ x i. omega (arith, depth-sub g [] given (λ q e. in-nil q e) (length g) x, remaining-above (length g) g [] waiting x i))
+
+    -- if pins still wait after s stages, s is at most D and what remains is at most D - s deep
+    pub depth-falls : (room : ℕ) {s : ℕ} {done2 waiting2 : List ℕ} {room2 : ℕ} → After K g r G tall small given waiting room s done2 waiting2 room2 → waiting2 ≢ [] → (s ≤ D) × (remaining (length g) g done2 waiting2 ≤ D - s)
+    depth-falls room a n = let h = after K g r G tall small given waiting ready room a in (omega (arith, h .2 n, given-less), omega (arith, h .1, given-less))
+
+    -- with D + 1 rooms a build ends in a whole plan, or in 6, 7 or 8
+    pub rooms-enough : (rooms n j : ℕ) → D < rooms → build K g given groups rooms ≡ refusal n j → (n ≡ 6) ⊎ ((n ≡ 7) ⊎ (n ≡ 8))
+    unfolding build
+    rooms-enough rooms n j b e = split (reservable K groups)
+        (λ c. inr (rooms-suffice K g r G tall small rooms 1 given waiting ready (wordLimit K - reserved groups) (inr (omega (arith, given-less))) n j (rw (c, build) at e)))
+        (λ c. let d : refusal 6 0 ≡ refusal n j = rw (c, build) at e in inl (cc))
+
+    whole-stages : (rooms : ℕ) (ss : List Stage) → build K g given groups rooms ≡ whole ss → stages K g rooms 1 given waiting (wordLimit K - reserved groups) ≡ whole ss
+    unfolding build
+    whole-stages rooms ss e = split (reservable K groups) (λ c. rw (c, build) at e) (λ c. absurd (let d : refusal 6 0 ≡ whole ss = rw (c, build) at e in let z : _≡_ {A = ℕ} 0 1 = cc in omega arith))
+
+    -- a whole plan folds right, and loads right: first leaves and given pins, then pins held above level 0 one stage before
+    pub whole-right : (rooms : ℕ) (ss : List Stage) → build K g given groups rooms ≡ whole ss → Right K g given bits (firstLoad g given bits) (λ n. In n given ⊎ (getD g n leaf ≡ leaf)) ss
+    unfolding setting
+    whole-right rooms ss e =
+        let S : Sound (setting K g given waiting) r (length g) = setting-sound K g r G given waiting (ready .bounded) in
+        rights rooms 1 given waiting ready (λ q i. i) (firstLoad g given bits) (λ n. In n given ⊎ (getD g n leaf ≡ leaf))
+        (λ n i z. let h = level-zero (setting K g given waiting) r (length g) S n i z in (first-own n h ∙ sym (value-own g r G given bits (length g) n (omega (arith, S .fuel n i)) h), h))
+        (wordLimit K - reserved groups) ss (whole-stages rooms ss e)
+
+    -- and every endpoint pin but the constant stands in a written word
+    pub whole-written : (rooms : ℕ) (ss : List Stage) → build K g given groups rooms ≡ whole ss → (q : ℕ) → 0 < q → Ends q groups → Written K q ss
+    whole-written rooms ss e q b i = all-written K g r G tall small rooms 1 given waiting ready (wordLimit K - reserved groups) ss (whole-stages rooms ss e) q (ends-wait q b i [])

@@ -1,0 +1,10 @@
+pub mod Cells
+pub mod Lists
+pub mod Walk
+pub mod Needed
+pub mod Tree
+pub mod Stage
+pub mod Fold
+pub mod Written
+pub mod Lean
+pub mod Demand

@@ -1,0 +1,237 @@
+-- Membership in lists of numbers. Assumes nothing.
+use Prim.Native.Nat.{ℕ, zero, suc, _<_}
+use mathlib.Core.Path.{_≡_, refl, sym, subst}
+use mathlib.Core.Logic.{_⊎_, inl, inr, _≢_}
+use mathlib.Core.Bool.{Bool, true, false, _&&_}
+use mathlib.Core.List.{List, [], _∷_, _++_, map, reverse, reverseAux}
+use native.Mathlib.Omega.{arith}
+use lib.Dec.{T, eqb, eqb→eq, eqb-refl}
+use lib.ListN.{length, getD}
+use Rattle.rules.specs.Lists.{mem, keep, insert, insertAll, distinct, gather, lastOf, init, swapOut, swapOutAll}
+
+abbrev pub In : ℕ → List ℕ → Type 0
+In p xs = mem p xs ≡ true
+
+abbrev pub Out : ℕ → List ℕ → Type 0
+Out p xs = mem p xs ≡ false
+
+pub split : {P : Type 0} (b : Bool) → (b ≡ true → P) → (b ≡ false → P) → P
+split true t f = t refl
+split false t f = f refl
+
+pub T→true : (b : Bool) → T b → b ≡ true
+T→true true t = refl
+T→true false t = absurd t
+
+pub true→T : {b : Bool} → b ≡ true → T b
+true→T e = rw e tt
+
+pub true-false : {P : Type 0} {b : Bool} → b ≡ true → b ≡ false → P
+true-false {P} {b} e d = absurd (let z : _≡_ {A = ℕ} 0 1 = cc in omega arith)
+
+pub eqb-same : (p : ℕ) → eqb p p ≡ true
+eqb-same p = T→true (eqb p p) (eqb-refl p)
+
+pub eqb-true : (p q : ℕ) → eqb p q ≡ true → p ≡ q
+eqb-true p q e = eqb→eq p q (true→T e)
+
+pub eqb-false : (p q : ℕ) → eqb p q ≡ false → p ≢ q
+eqb-false p q e d = true-false (subst (λ (x : ℕ). eqb p x ≡ true) d (eqb-same p)) e
+
+pub and-true : (a b : Bool) → a && b ≡ true → (a ≡ true) × (b ≡ true)
+and-true true true e = (refl, refl)
+and-true true false e = true-false e refl
+and-true false true e = true-false e refl
+and-true false false e = true-false e refl
+
+-- `mem` at a list with a head
+pub in-here : (p : ℕ) (xs : List ℕ) → In p (p ∷ xs)
+unfolding mem
+in-here p xs = rw (eqb-same p, mem)
+
+pub in-there : (p x : ℕ) (xs : List ℕ) → In p xs → In p (x ∷ xs)
+unfolding mem
+in-there p x xs e = split (eqb p x) (λ d. rw (d, mem)) (λ d. rw (d, mem) e)
+
+pub in-cons : (p x : ℕ) (xs : List ℕ) → In p (x ∷ xs) → (p ≡ x) ⊎ In p xs
+unfolding mem
+in-cons p x xs e = split (eqb p x) (λ d. inl (eqb-true p x d)) (λ d. inr (rw (d, mem) at e))
+
+pub in-nil : {P : Type 0} (p : ℕ) → In p [] → P
+unfolding mem
+in-nil p e = true-false e refl
+
+pub out-head : (p x : ℕ) (xs : List ℕ) → Out p (x ∷ xs) → p ≢ x
+out-head p x xs e d = true-false (subst (λ (y : ℕ). In p (y ∷ xs)) d (in-here p xs)) e
+
+pub out-tail : (p x : ℕ) (xs : List ℕ) → Out p (x ∷ xs) → Out p xs
+out-tail p x xs e = split (mem p xs) (λ d. true-false (in-there p x xs d) e) (λ d. d)
+
+pub in-append-left : (p : ℕ) (xs ys : List ℕ) → In p xs → In p (xs ++ ys)
+in-append-left p [] ys e = in-nil p e
+in-append-left p (x ∷ xs) ys e = elim (in-cons p x xs e) [ inl d ↦ rw d (in-here x (xs ++ ys)) | inr d ↦ in-there p x (xs ++ ys) (in-append-left p xs ys d) ]
+
+pub in-append-right : (p : ℕ) (xs ys : List ℕ) → In p ys → In p (xs ++ ys)
+in-append-right p [] ys e = e
+in-append-right p (x ∷ xs) ys e = in-there p x (xs ++ ys) (in-append-right p xs ys e)
+
+pub in-append : (p : ℕ) (xs ys : List ℕ) → In p (xs ++ ys) → In p xs ⊎ In p ys
+in-append p [] ys e = inr e
+in-append p (x ∷ xs) ys e = elim (in-cons p x (xs ++ ys) e) [
+  | inl d ↦ inl (rw d (in-here x xs))
+  | inr d ↦ elim (in-append p xs ys d) [ inl c ↦ inl (in-there p x xs c) | inr c ↦ inr c ]
+]
+
+-- different pins, one in and one out
+pub in-out : (p q : ℕ) (xs : List ℕ) → In p xs → Out q xs → p ≢ q
+in-out p q xs e d c = true-false (rw c at e) d
+
+pub in-reverseAux : (p : ℕ) (xs ys : List ℕ) → In p xs ⊎ In p ys → In p (reverseAux xs ys)
+in-reverseAux p [] ys (inl e) = in-nil p e
+in-reverseAux p [] ys (inr e) = e
+in-reverseAux p (x ∷ xs) ys (inl e) = elim (in-cons p x xs e) [
+  | inl d ↦ in-reverseAux p xs (x ∷ ys) (inr (rw d (in-here x ys)))
+  | inr d ↦ in-reverseAux p xs (x ∷ ys) (inl d)
+]
+in-reverseAux p (x ∷ xs) ys (inr e) = in-reverseAux p xs (x ∷ ys) (inr (in-there p x ys e))
+
+pub in-reverse : (p : ℕ) (xs : List ℕ) → In p xs → In p (reverse xs)
+in-reverse p xs e = in-reverseAux p xs [] (inl e)
+
+pub in-keep : (f : ℕ → Bool) (p : ℕ) (xs : List ℕ) → In p xs → f p ≡ true → In p (keep f xs)
+unfolding keep
+in-keep f p [] e d = e
+in-keep f p (x ∷ xs) e d = elim (in-cons p x xs e) [
+  | inl c ↦ let fx : f x ≡ true = rw c at d in rw (fx, keep) (rw c (in-here x (keep f xs)))
+  | inr c ↦ split (f x) (λ b. rw (b, keep) (in-there p x (keep f xs) (in-keep f p xs c d))) (λ b. rw (b, keep) (in-keep f p xs c d))
+]
+
+pub keep-in : (f : ℕ → Bool) (p : ℕ) (xs : List ℕ) → In p (keep f xs) → In p xs × (f p ≡ true)
+unfolding keep
+keep-in f p [] e = in-nil p e
+keep-in f p (x ∷ xs) e = split (f x)
+    (λ b. elim (in-cons p x (keep f xs) (rw (b, keep) at e)) [
+      | inl c ↦ (rw c (in-here x xs), rw c b)
+      | inr c ↦ (in-there p x xs (keep-in f p xs c .0), keep-in f p xs c .1)
+    ])
+    (λ b. let h : In p (keep f xs) = rw (b, keep) at e in (in-there p x xs (keep-in f p xs h .0), keep-in f p xs h .1))
+
+pub in-insert : (p : ℕ) (xs : List ℕ) → In p (insert p xs)
+unfolding insert
+in-insert p xs = split (mem p xs) (λ e. rw (e, insert) e) (λ e. rw (e, insert) (in-append-right p xs (p ∷ []) (in-here p [])))
+
+pub in-insert-old : (q p : ℕ) (xs : List ℕ) → In q xs → In q (insert p xs)
+unfolding insert
+in-insert-old q p xs d = split (mem p xs) (λ e. rw (e, insert) d) (λ e. rw (e, insert) (in-append-left q xs (p ∷ []) d))
+
+pub in-insertAll-old : (q : ℕ) (ps xs : List ℕ) → In q xs → In q (insertAll ps xs)
+unfolding insertAll
+in-insertAll-old q [] xs d = d
+in-insertAll-old q (p ∷ ps) xs d = in-insertAll-old q ps (insert p xs) (in-insert-old q p xs d)
+
+pub in-insertAll : (q : ℕ) (ps xs : List ℕ) → In q ps → In q (insertAll ps xs)
+unfolding insertAll
+in-insertAll q [] xs d = in-nil q d
+in-insertAll q (p ∷ ps) xs d = elim (in-cons q p ps d) [
+  | inl c ↦ in-insertAll-old q ps (insert p xs) (rw c (in-insert p xs))
+  | inr c ↦ in-insertAll q ps (insert p xs) c
+]
+
+pub in-distinct : (q : ℕ) (xs : List ℕ) → In q xs → In q (distinct xs)
+unfolding distinct
+in-distinct q xs e = in-insertAll q xs [] e
+
+pub in-gather : (f : ℕ → List ℕ) (q p : ℕ) (xs : List ℕ) → In p xs → In q (f p) → In q (gather f xs)
+unfolding gather
+in-gather f q p [] e d = in-nil p e
+in-gather f q p (x ∷ xs) e d = elim (in-cons p x xs e) [
+  | inl c ↦ in-append-left q (f x) (gather f xs) (rw c at d)
+  | inr c ↦ in-append-right q (f x) (gather f xs) (in-gather f q p xs c d)
+]
+
+pub out-append : (p : ℕ) (xs ys : List ℕ) → Out p xs → Out p ys → Out p (xs ++ ys)
+out-append p xs ys d e = split (mem p (xs ++ ys)) (λ c. elim (in-append p xs ys c) [ inl b ↦ true-false b d | inr b ↦ true-false b e ]) (λ c. c)
+
+-- the other way round
+pub insert-in : (q p : ℕ) (xs : List ℕ) → In q (insert p xs) → (q ≡ p) ⊎ In q xs
+unfolding insert
+insert-in q p xs e = split (mem p xs) (λ d. inr (rw (d, insert) at e))
+    (λ d. elim (in-append q xs (p ∷ []) (rw (d, insert) at e)) [ inl c ↦ inr c | inr c ↦ elim (in-cons q p [] c) [ inl b ↦ inl b | inr b ↦ in-nil q b ] ])
+
+pub insertAll-in : (q : ℕ) (ps xs : List ℕ) → In q (insertAll ps xs) → In q ps ⊎ In q xs
+unfolding insertAll
+insertAll-in q [] xs e = inr e
+insertAll-in q (p ∷ ps) xs e = elim (insertAll-in q ps (insert p xs) e) [
+  | inl d ↦ inl (in-there q p ps d)
+  | inr d ↦ elim (insert-in q p xs d) [ inl c ↦ inl (rw c (in-here p ps)) | inr c ↦ inr c ]
+]
+
+pub distinct-in : (q : ℕ) (xs : List ℕ) → In q (distinct xs) → In q xs
+unfolding distinct
+distinct-in q xs e = elim (insertAll-in q xs [] e) [ inl d ↦ d | inr d ↦ in-nil q d ]
+
+pub gather-in : (f : ℕ → List ℕ) (q : ℕ) (xs : List ℕ) → In q (gather f xs) → (p : ℕ) × In p xs × In q (f p)
+unfolding gather
+gather-in f q [] e = in-nil q e
+gather-in f q (x ∷ xs) e = elim (in-append q (f x) (gather f xs) e) [
+  | inl d ↦ (x, in-here x xs, d)
+  | inr d ↦ let h = gather-in f q xs d in (h .0, in-there (h .0) x xs (h .1), h .2)
+]
+
+pub in-getD : (xs : List ℕ) (i d : ℕ) → i < length xs → In (getD xs i d) xs
+in-getD [] i d h = absurd (omega arith)
+in-getD (x ∷ xs) zero d h = in-here x xs
+in-getD (x ∷ xs) (suc i) d h = in-there (getD xs i d) x xs (in-getD xs i d (omega arith))
+
+pub getD-in : (xs : List ℕ) (d q : ℕ) → In q xs → (i : ℕ) × (i < length xs) × (getD xs i d ≡ q)
+getD-in [] d q e = in-nil q e
+getD-in (x ∷ xs) d q e = elim (in-cons q x xs e) [
+  | inl c ↦ (0, omega arith, sym c)
+  | inr c ↦ let h = getD-in xs d q c in (suc (h .0), omega (arith, h .1), h .2)
+]
+
+pub reverseAux-in : (p : ℕ) (xs ys : List ℕ) → In p (reverseAux xs ys) → In p xs ⊎ In p ys
+reverseAux-in p [] ys e = inr e
+reverseAux-in p (x ∷ xs) ys e = elim (reverseAux-in p xs (x ∷ ys) e) [
+  | inl d ↦ inl (in-there p x xs d)
+  | inr d ↦ elim (in-cons p x ys d) [ inl c ↦ inl (rw c (in-here x xs)) | inr c ↦ inr c ]
+]
+
+pub reverse-in : (p : ℕ) (xs : List ℕ) → In p (reverse xs) → In p xs
+reverse-in p xs e = elim (reverseAux-in p xs [] e) [ inl d ↦ d | inr d ↦ in-nil p d ]
+
+-- taking out of a list adds nothing
+pub map-in : (h : ℕ → ℕ) (q : ℕ) (xs : List ℕ) → In q (map h xs) → (x : ℕ) × In x xs × (q ≡ h x)
+map-in h q [] e = in-nil q e
+map-in h q (x ∷ xs) e = elim (in-cons q (h x) (map h xs) e) [
+  | inl d ↦ (x, in-here x xs, d)
+  | inr d ↦ let k = map-in h q xs d in (k .0, in-there (k .0) x xs (k .1), k .2)
+]
+
+pub init-in : (q : ℕ) (xs : List ℕ) → In q (init xs) → In q xs
+unfolding init
+init-in q [] e = e
+init-in q (x ∷ []) e = in-nil q e
+init-in q (x ∷ y ∷ ys) e = elim (in-cons q x (init (y ∷ ys)) e) [ inl d ↦ rw d (in-here x (y ∷ ys)) | inr d ↦ in-there q x (y ∷ ys) (init-in q (y ∷ ys) d) ]
+
+pub last-in : (x : ℕ) (xs : List ℕ) → In (lastOf x xs) (x ∷ xs)
+unfolding lastOf
+last-in x [] = in-here x []
+last-in x (y ∷ ys) = in-there (lastOf y ys) x (y ∷ ys) (last-in y ys)
+
+last-of : (x : ℕ) (xs : List ℕ) → In x xs → In (lastOf x xs) xs
+unfolding lastOf
+last-of x [] e = e
+last-of x (y ∷ ys) e = last-in y ys
+
+pub swapOut-in : (p q : ℕ) (xs : List ℕ) → In q (swapOut p xs) → In q xs
+unfolding swapOut
+swapOut-in p q xs e =
+    let k = map-in _ q (init xs) e in
+    let i : In (k .0) xs = init-in (k .0) xs (k .1) in
+    split (eqb (k .0) p) (λ b. let d : q ≡ lastOf (k .0) xs = rw b at (k .2) in rw d (last-of (k .0) xs i)) (λ b. let d : q ≡ k .0 = rw b at (k .2) in rw d i)
+
+pub swapOutAll-in : (ps : List ℕ) (q : ℕ) (xs : List ℕ) → In q (swapOutAll ps xs) → In q xs
+unfolding swapOutAll
+swapOutAll-in [] q xs e = e
+swapOutAll-in (p ∷ ps) q xs e = swapOut-in p q xs (swapOutAll-in ps q (swapOut p xs) e)

@@ -1,0 +1,9 @@
+pub mod Held
+pub mod Invariant
+pub mod Loads
+pub mod Sane
+pub mod Cone
+pub mod Fair
+pub mod Back
+pub mod Tally
+pub mod Cursor

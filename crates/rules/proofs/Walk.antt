@@ -1,0 +1,4 @@
+pub mod Traverse
+pub mod Levels
+pub mod Reverse
+pub mod Bounds

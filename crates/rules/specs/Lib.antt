@@ -1,0 +1,17 @@
+pub mod Lists
+pub mod Cells
+pub mod Graph
+pub mod Records
+pub mod Reservation
+pub mod Checks
+pub mod Traversal
+pub mod Placing
+pub mod Ending
+pub mod Build
+pub mod Depth
+pub mod Fold
+pub mod Merge
+pub mod Job
+pub mod Listing
+pub mod Lean
+pub mod Opened
