@@ -1,3 +1,4 @@
+pub mod Bench
 pub mod Cells
 pub mod Lists
 pub mod Walk
