@@ -9,3 +9,4 @@ pub mod Fold
 pub mod Written
 pub mod Lean
 pub mod Demand
+pub mod Build
