@@ -72,7 +72,7 @@ module _ (X : Setting) (r : ℕ → ℕ) (f : ℕ) (S : Sound X r f) where
       in-distinct x (gather (asks X tr rl) (X .order)) (in-gather (asks X tr rl) x p (X .order) (S .ordered p listed) (rw (pos, o, asks) e))
 
   -- and only listed pins are needed
-  asked-listed : (tr : List ℕ) (p l x : ℕ) → In p (X .seen) → In x (asked X tr p l) → In x (X .seen)
+  pub asked-listed : (tr : List ℕ) (p l x : ℕ) → In p (X .seen) → In x (asked X tr p l) → In x (X .seen)
   unfolding asked
   asked-listed tr p zero x i e = elim (in-cons x p [] (keep-in _ x (p ∷ []) e .0)) [ inl d ↦ rw d i | inr d ↦ in-nil x d ]
   asked-listed tr p (suc zero) x i e = elim (in-cons x p [] e) [ inl d ↦ rw d i | inr d ↦ in-nil x d ]
