@@ -207,6 +207,24 @@ module _ (X : Setting) (r : ℕ → ℕ) (f : ℕ) (S : Sound X r f) (M : Marked
   pub filled-fair : Fair X r f S 0 (filledPlan X)
   filled-fair = rw lean-plan at lean-fair
 
+  -- level 1 is still fair, for rules 8 and 9
+  lean-one : (h : ℕ) → 1 ≤ h → h ≤ X .K → (b : ℕ) (pl : List ℕ) → Fair X r f S h pl → length (wanted X pl) ≤ b → Fair X r f S 1 (lean X h b pl)
+  unfolding lean
+  lean-one zero low high b pl F m = absurd (omega arith)
+  lean-one (suc zero) low high b pl F m = F
+  lean-one (suc (suc l)) low high b pl F m =
+      let s : Swept l pl (sweep X (suc (suc l)) (candidates X (suc (suc l))) b pl) = swept l high (candidates X (suc (suc l))) b pl (going-first (suc (suc l)) b pl F m) in
+      lean-one (suc l) (omega arith) (omega arith) (sweep X (suc (suc l)) (candidates X (suc (suc l))) b pl .most) (sweep X (suc (suc l)) (candidates X (suc (suc l))) b pl .plan) (s .fair) (s .enough)
+
+  lean-any : (h : ℕ) → h ≤ X .K → (b : ℕ) → length (wanted X (blank X)) ≤ b → Fair X r f S 1 (lean X h b (blank X))
+  unfolding lean
+  lean-any zero high b m = fair-first X r f S M small 1
+  lean-any (suc h) high b m = lean-one (suc h) (omega arith) high b (blank X) (fair-first X r f S M small (suc h)) m
+
+  pub lean-tidy : Fair X r f S 1 (leanPlan X)
+  unfolding leanPlan
+  lean-tidy = lean-any top (omega arith) (length (wanted X (blank X))) (omega arith)
+
   -- what rules 8 to 11 read of it
   pub lean-needed : neededOf X (filledPlan X) ≡ wanted X (leanPlan X)
   lean-needed = rw lean-plan (same-needed X r f S M filled-fair)
