@@ -10,3 +10,4 @@ pub mod Written
 pub mod Lean
 pub mod Demand
 pub mod Build
+pub mod Reservation
