@@ -5,3 +5,4 @@ pub mod Last
 pub mod Flat
 pub mod Fuel
 pub mod Depth
+pub mod Branches

@@ -1,0 +1,128 @@
+-- For the code's proofs: rules 8 to 11 one branch at a time. Assumes nothing.
+use Prim.Native.Nat.{ℕ, zero, suc, _+_, _-_, _/_}
+use mathlib.Core.Path.{_≡_, refl, ap, _∙_}
+use mathlib.Core.Bool.{Bool, true, false, _&&_, _||_}
+use mathlib.Core.List.{List, [], _∷_, _++_}
+use lib.Dec.{ltb, leb}
+use lib.ListN.{length, getD}
+use Rattle.rules.specs.Lists.{nothing, found, mem, keep, insert, insertAll}
+use Rattle.rules.specs.Cells.{empty, filled, rowAt, row, firstEmpty}
+use Rattle.rules.specs.Traversal.{Setting}
+use Rattle.rules.specs.Placing.{tree, place}
+use Rattle.rules.specs.Ending.{Sparse, Put, meet, fillIn, putCell, putCells, putRun, putRuns, full, plan, putRest, wordsIn, refused, close, inTree, lastStage, written, rest, moreWords, ending, finish}
+use Rattle.rules.proofs.Lists.Members.{In, Out}
+
+module _ (X : Setting) where
+  -- ---- 8. one cell
+
+  module _ (p : ℕ) (s : Put) where
+    -- what the pins left and the cell decide
+    turn : List ℕ → Put
+    turn l = elim l [ [] ↦ s | e ∷ es ↦ elim (filled (getD (s .plan) p empty)) [ true ↦ meet X p s | false ↦ fillIn X p e es s ] ]
+
+    pub put-none : s .left ≡ [] → putCell X p s ≡ s
+    unfolding putCell turn
+    put-none e = ap turn e
+
+    pub put-fill : (e : ℕ) (es : List ℕ) → s .left ≡ e ∷ es → filled (getD (s .plan) p empty) ≡ false → putCell X p s ≡ fillIn X p e es s
+    unfolding putCell turn
+    put-fill e es l k = ap turn l ∙ rw (k, turn) refl
+
+    pub put-met : (e : ℕ) (es : List ℕ) → s .left ≡ e ∷ es → filled (getD (s .plan) p empty) ≡ true → putCell X p s ≡ meet X p s
+    unfolding putCell turn
+    put-met e es l k = ap turn l ∙ rw (k, turn) refl
+
+    -- the cell's pin waits, or not
+    met : ℕ → Put
+    met c = record { plan = s .plan; left = s .left; real = insertAll (keep (λ q. mem q (X .waiting)) (c ∷ [])) (s .real); words = s .words }
+
+    pub meet-waits : (c : ℕ) → getD (s .plan) p empty ≡ c → In c (X .waiting) → meet X p s ≡ record { plan = s .plan; left = s .left; real = insert c (s .real); words = s .words }
+    unfolding meet met keep insertAll
+    meet-waits c e i = ap met e ∙ rw (i, keep) refl
+
+    pub meet-not : (c : ℕ) → getD (s .plan) p empty ≡ c → Out c (X .waiting) → meet X p s ≡ s
+    unfolding meet met keep insertAll
+    meet-not c e o = ap met e ∙ rw (o, keep) refl
+
+  pub cells-more : (n p : ℕ) (s : Put) → putCells X (suc n) p s ≡ putCells X n (suc p) (putCell X p s)
+  unfolding putCells
+  cells-more n p s = refl
+
+  -- with no pin left nothing happens
+  pub cells-idle : (n p : ℕ) (s : Put) → s .left ≡ [] → putCells X n p s ≡ s
+  unfolding putCells
+  cells-idle zero p s e = refl
+  cells-idle (suc n) p s e = rw (put-none p s e) (cells-idle n (suc p) s e)
+
+  -- ---- 8. one run
+
+  module _ (last : Bool) (s : Put) where
+    pub runs-end : putRuns X last [] s ≡ s
+    unfolding putRuns
+    runs-end = refl
+
+    module _ (r : Sparse) (rs : List Sparse) where
+      pub runs-go : last || leb (32 - r .filled) (length (s .left)) ≡ true → putRuns X last (r ∷ rs) s ≡ putRuns X last rs (putRun X r s)
+      unfolding putRuns
+      runs-go e = rw (e, putRuns) refl
+
+      pub runs-stop : last || leb (32 - r .filled) (length (s .left)) ≡ false → putRuns X last (r ∷ rs) s ≡ s
+      unfolding putRuns
+      runs-stop e = rw (e, putRuns) refl
+
+  -- ---- 9. one needed pin
+
+  module _ (p : ℕ) (ps real pl : List ℕ) where
+    pub rest-skip : mem p real || mem p (tree (X .K) pl) ≡ true → putRest X (p ∷ ps) real pl ≡ putRest X ps real pl
+    unfolding putRest
+    rest-skip e = rw (e, putRest) refl
+
+    pub rest-full : mem p real || mem p (tree (X .K) pl) ≡ false → firstEmpty (rowAt (X .K) 1) (row (X .K) 1 pl) ≡ nothing → putRest X (p ∷ ps) real pl ≡ full
+    unfolding putRest
+    rest-full e d = rw (e, d, putRest) refl
+
+    pub rest-put : (c : ℕ) → mem p real || mem p (tree (X .K) pl) ≡ false → firstEmpty (rowAt (X .K) 1) (row (X .K) 1 pl) ≡ found c → putRest X (p ∷ ps) real pl ≡ putRest X ps real (place X 1 (rowAt (X .K) 1) c p pl)
+    unfolding putRest
+    rest-put c e d = rw (e, d, putRest) refl
+
+  -- ---- tests 7 and 8, rule 10
+
+  module _ (room : ℕ) (pl : List ℕ) where
+    pub finish-seven : ltb room (length (written X pl .words)) ≡ true → finish X room pl ≡ refused 7
+    unfolding finish
+    finish-seven e = rw (e, finish) refl
+
+    module _ (fits : ltb room (length (written X pl .words)) ≡ false) where
+      pub finish-full : rest X pl ≡ full → finish X room pl ≡ refused 8
+      unfolding finish
+      finish-full r = rw (fits, r, finish) refl
+
+      module _ (pl2 : List ℕ) (r : rest X pl ≡ plan pl2) where
+        pub finish-none : firstEmpty 0 (row (X .K) 1 pl2) ≡ nothing → finish X room pl ≡ refused 8
+        unfolding finish
+        finish-none e = rw (fits, r, e, finish) refl
+
+        module _ (c : ℕ) (free : firstEmpty 0 (row (X .K) 1 pl2) ≡ found c) where
+          finish-ending : finish X room pl ≡ ending X room pl pl2
+          unfolding finish
+          finish-ending = rw (fits, r, free, finish) refl
+
+          pub finish-last : lastStage X pl && leb (length (written X pl .words) + length (moreWords X pl pl2)) room ≡ true →
+              finish X room pl ≡ close X pl2 (written X pl .words ++ moreWords X pl pl2) (insertAll (inTree X pl) (written X pl .real))
+          unfolding ending
+          finish-last d = finish-ending ∙ rw (d, ending) refl
+
+          pub finish-more : lastStage X pl && leb (length (written X pl .words) + length (moreWords X pl pl2)) room ≡ false →
+              finish X room pl ≡ close X pl2 (written X pl .words) (written X pl .real)
+          unfolding ending
+          finish-more d = finish-ending ∙ rw (d, ending) refl
+
+-- ---- 10. one cell
+
+pub words-in : (ps : List ℕ) (p c : ℕ) (cs ws : List ℕ) → In c ps → wordsIn ps p (c ∷ cs) ws ≡ wordsIn ps (suc p) cs (insert (p / 32) ws)
+unfolding wordsIn
+words-in ps p c cs ws i = rw (i, wordsIn) refl
+
+pub words-out : (ps : List ℕ) (p c : ℕ) (cs ws : List ℕ) → Out c ps → wordsIn ps p (c ∷ cs) ws ≡ wordsIn ps (suc p) cs ws
+unfolding wordsIn
+words-out ps p c cs ws o = rw (o, wordsIn) refl
