@@ -1,0 +1,96 @@
+-- Frames: what stores and puts keep, one after the other, and what a frame gives. Assumes nothing.
+use mathlib.Core.Path.{_≡_, refl, ap, _∙_}
+use mathlib.Core.Logic.{_⊎_, inl, inr}
+use mathlib.Core.Bool.{Bool, true, false, _||_, true≢false}
+use mathlib.Core.List.{List, [], _∷_}
+use Prim.Native.Nat.{ℕ, _+_, _-_, _*_, _<_, _≤_}
+use native.Mathlib.Omega.{arith}
+use lib.Dec.{eqb}
+use lib.ListN.{length, set, length-set, replicate, length-replicate}
+use lib.Seq.{ext-getD, getD-set-other}
+use Rattle.rules.proofs.Lists.Members.{split, true-false, eqb-same, eqb-true, and-true}
+use Rattle.columns.specs.Area.{col, put, tail, putTail, Room, Frame, among, within}
+use Rattle.columns.proofs.Area.Columns.{apart, inside, same-col}
+use Rattle.columns.proofs.Area.Puts.{length-put, past-put, at-put-other}
+use Rattle.columns.proofs.Area.Tails.{length-tail, getD-tail, length-putTail, at-putTail}
+
+pub frame-none : {fs : List ℕ} {m : ℕ} {w : List ℕ} → Frame fs m w w
+frame-none = record { len = refl; past = λ t j h. refl; cell = λ g e h p k. refl }
+
+pub frame-then : {fs : List ℕ} {m : ℕ} {u v w : List ℕ} → Frame fs m u v → Frame fs m v w → Frame fs m u w
+frame-then a b = record { len = b .len ∙ a .len; past = λ t j h. b .past t j h ∙ a .past t j h; cell = λ g e h p k. b .cell g e h p k ∙ a .cell g e h p k }
+
+-- more names: at numerals `refl` answers `within`
+or-true : (a b : Bool) → a || b ≡ true → (a ≡ true) ⊎ (b ≡ true)
+or-true true b e = inl refl
+or-true false b e = inr e
+
+among-within : (fs gs : List ℕ) → within fs gs ≡ true → (g : ℕ) → among fs g ≡ true → among gs g ≡ true
+among-within [] gs e g a = true-false a refl
+among-within (f ∷ fs) gs e g a = elim (or-true (eqb g f) (among fs g) a) [
+  | inl b ↦ rw (eqb-true g f b) (and-true (among gs f) (within fs gs) e .0)
+  | inr b ↦ among-within fs gs (and-true (among gs f) (within fs gs) e .1) g b
+]
+
+pub frame-more : {fs gs : List ℕ} {m : ℕ} {w w′ : List ℕ} → within fs gs ≡ true → Frame fs m w w′ → Frame gs m w w′
+frame-more {fs} {gs} e a = record { len = a .len; past = λ t j h. a .past (fewer 16 t) j h; cell = λ g t h p k. a .cell g (fewer g t) h p k }
+  where
+    fewer : (g : ℕ) → among gs g ≡ false → among fs g ≡ false
+    fewer g t = split (among fs g) (λ d. true-false (among-within fs gs e g d) t) (λ d. d)
+
+-- two names, where they are variables
+pub among-first : (f g : ℕ) → among (f ∷ g ∷ []) f ≡ true
+among-first f g = rw (eqb-same f)
+
+pub among-second : (f g : ℕ) → among (f ∷ g ∷ []) g ≡ true
+among-second f g = rw (eqb-same g) (or-last (eqb g f))
+  where
+    or-last : (b : Bool) → b || true ≡ true
+    or-last true = refl
+    or-last false = refl
+
+differ : (fs : List ℕ) (f g : ℕ) → among fs f ≡ true → among fs g ≡ false → g ≡ f → ⊥
+differ fs f g t e k = true≢false (cc)
+
+module _ {fs : List ℕ} {m : ℕ} {w : List ℕ} where
+  pub frame-set : (f p v : ℕ) → p < m → f < 16 → among fs f ≡ true → Frame fs m w (set w (f * m + p) v)
+  frame-set f p v hp hf t = record {
+    len = length-set w (f * m + p) v;
+    past = λ _ j h. getD-set-other w (f * m + p) j v 0 (λ e. omega (arith, inside f m hf));
+    cell = λ g e h q k. getD-set-other w (f * m + p) (g * m + q) v 0 (λ l. differ fs f g t e (apart g f m q p k hp l));
+  }
+
+  pub frame-put : (f : ℕ) (c : List ℕ) → length c ≤ m → f < 16 → among fs f ≡ true → Frame fs m w (put f m w c)
+  frame-put f c hc hf t = record {
+    len = length-put f m w c;
+    past = λ _ j h. past-put f m w c j (inside f m hf) hc h;
+    cell = λ g e h q k. at-put-other f m w c g q hc k (differ fs f g t e);
+  }
+
+  pub frame-fill : (f v : ℕ) → f < 16 → among fs f ≡ true → Frame fs m w (put f m w (replicate m v))
+  frame-fill f v = frame-put f (replicate m v) (omega (arith, length-replicate m v))
+
+  pub frame-set-tail : (j v : ℕ) → among fs 16 ≡ true → Frame fs m w (set w (16 * m + j) v)
+  frame-set-tail j v t = record {
+    len = length-set w (16 * m + j) v;
+    past = λ e i h. absurd (true≢false (cc));
+    cell = λ g e h q k. getD-set-other w (16 * m + j) (g * m + q) v 0 (λ l. omega (arith, inside g m h));
+  }
+
+  pub frame-putTail : (t : List ℕ) → 16 * m ≤ length w → length t ≡ length (tail m w) → among fs 16 ≡ true → Frame fs m w (putTail m w t)
+  frame-putTail t hw ht b = record {
+    len = length-putTail m w t hw ht;
+    past = λ e i h. absurd (true≢false (cc));
+    cell = λ g e h q k. at-putTail m w t hw (g * m + q) (omega (arith, inside g m h));
+  }
+
+-- what stays
+module _ {fs : List ℕ} {m : ℕ} {w w′ : List ℕ} (fr : Frame fs m w w′) where
+  pub frame-col : (g : ℕ) → among fs g ≡ false → g < 16 → col g m w′ ≡ col g m w
+  frame-col g e h = same-col g m w′ w (fr .cell g e h)
+
+  pub frame-tail : among fs 16 ≡ false → tail m w′ ≡ tail m w
+  frame-tail e = ext-getD 0 _ _ (simp length-tail (ap (λ (k : ℕ). k - 16 * m) (fr .len))) (λ i h. rw (getD-tail m w′ i, getD-tail m w i) (fr .past e (16 * m + i) (omega arith)))
+
+  pub frame-room : Room m w → Room m w′
+  frame-room r = record { small = r .small; room = rw (fr .len) (r .room) }

@@ -1,0 +1,4 @@
+pub mod Swap
+pub mod Entries
+pub mod Marks
+pub mod Places
