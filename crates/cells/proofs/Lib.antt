@@ -1,0 +1,3 @@
+pub mod Heights
+pub mod Positions
+pub mod Rows
