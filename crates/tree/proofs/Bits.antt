@@ -1,0 +1,8 @@
+pub mod Cells
+pub mod Graphs
+pub mod Fills
+pub mod Empties
+pub mod Places
+pub mod Purges
+pub mod Tidies
+pub mod Standing

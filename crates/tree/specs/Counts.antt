@@ -1,0 +1,50 @@
+-- The counts of a plan in the work area: what changes them, and what stays. Assumes nothing.
+use mathlib.Core.Path.{_≡_}
+use mathlib.Core.Logic.{_≢_}
+use mathlib.Core.Bool.{Bool}
+use mathlib.Core.List.{List, [], _∷_}
+use Prim.Native.Nat.{ℕ, _+_, _*_, _<_, _≤_, max}
+use lib.Dec.{ltb}
+use lib.ListN.{length, getD}
+use Rattle.columns.specs.Area.{Room, Frame}
+use Rattle.columns.specs.Fields.{CELLS, TAIL, ONES, PINS}
+
+-- only the counts changed: cells by pin, and in the tail the filled cells of level 1 and the pins in the tree
+pub record Kept (m : ℕ) (u u′ : List ℕ) : Type 0 where
+  pub frame : Frame (CELLS ∷ TAIL ∷ []) m u u′
+  pub rest : (j : ℕ) → 16 * m ≤ j → j ≢ 16 * m + ONES → j ≢ 16 * m + PINS → getD u′ j 0 ≡ getD u j 0
+
+-- counts never overflow: a stage has at most 2^13 cells above level 0
+pub record Few (m : ℕ) (u : List ℕ) : Type 0 where
+  pub cells : (x : ℕ) → x < m → getD u (CELLS * m + x) 0 ≤ 8192
+  pub ones : getD u (16 * m + ONES) 0 ≤ 8192
+  pub pins : getD u (16 * m + PINS) 0 ≤ 8192
+
+-- pin n can be counted once more, once less
+pub record CountAt (m n : ℕ) (u : List ℕ) : Type 0 where
+  pub area : Room m u
+  pub pin : n < m
+  pub cells : getD u (CELLS * m + n) 0 < 4294967295
+  pub pins : getD u (16 * m + PINS) 0 < 4294967295
+
+pub record UncountAt (m n : ℕ) (u : List ℕ) : Type 0 where
+  pub area : Room m u
+  pub pin : n < m
+  pub cells : 0 < getD u (CELLS * m + n) 0
+  pub pins : 0 < getD u (16 * m + PINS) 0
+
+-- in u′ one more cell holds pin n than in u
+pub record OneMore (m n : ℕ) (u u′ : List ℕ) : Type 0 where
+  pub len : length u′ ≡ length u
+  pub at : getD u′ (CELLS * m + n) 0 ≡ getD u (CELLS * m + n) 0 + 1
+  pub old : getD u (CELLS * m + n) 0 ≢ 0 → getD u′ (16 * m + PINS) 0 ≡ getD u (16 * m + PINS) 0
+  pub new : getD u (CELLS * m + n) 0 ≡ 0 → getD u′ (16 * m + PINS) 0 ≡ getD u (16 * m + PINS) 0 + 1
+  pub other : (j : ℕ) → j ≢ CELLS * m + n → j ≢ 16 * m + PINS → getD u′ j 0 ≡ getD u j 0
+
+-- rule 7 by the counts: `half` cells at level 1, b needed pins
+pub record RoomAt (m b : ℕ) (u : List ℕ) : Type 0 where
+  pub area : Room m u
+  pub few : b ≤ m
+
+unfoldable pub roomIn : ℕ → ℕ → ℕ → List ℕ → Bool
+roomIn m half b u = ltb (b + max (getD u (16 * m + ONES) 0) (getD u (16 * m + PINS) 0)) half

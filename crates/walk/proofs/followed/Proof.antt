@@ -1,0 +1,67 @@
+use mathlib.Core.Path.{sym, _∙_}
+use Rattle.columns.proofs.Lists.Marks.{marks-test}
+use Rattle.walk.proofs.Gates.{kth-past, kth-done, kth-leaf, kth-gate}
+use borrow.Author.Needs.{needs}
+use Rattle.walk.proofs.followed.Statement.{statement}
+use Rattle.walk.proofs.followed.Tie as tie
+use Rattle.walk.proofs.followed.Reads as reads
+use Rattle.walk.proofs.followed.Lts as lts
+use Rattle.columns.proofs.is_in.Reads as is-in-reads
+use Rattle.columns.proofs.wide.Reads as wide-reads
+
+returns : tie.Need-returns
+returns c = record { all = λ C R. kth-past C R _ (c .before .before .before .pre .1) _ (c .if1 .taken) }
+
+is-in-requires : tie.Need-is-in-requires
+is-in-requires c κs = search needs
+
+returns-2 : tie.Need-returns-2
+returns-2 c = record { all = λ C R. kth-done C R _ (c .before .before .before .before .before .pre .1) _ (sym (marks-test (R .done) _ (c .before .before .before .before .before .pre .1)) ∙ sym (c .before .is-in .ensures) ∙ c .if2 .taken) }
+
+mul-if3 : tie.Need-mul-if3
+mul-if3 c = search needs
+
+mul-if3-2 : tie.Need-mul-if3-2
+mul-if3-2 c = search needs
+
+shared-slice-read-if3 : tie.Need-shared-slice-read-if3
+shared-slice-read-if3 c = search needs
+
+returns-3 : tie.Need-returns-3
+returns-3 c = record { all = λ C R. kth-leaf C R _ (c .before .before .before .before .before .before .before .pre .1) _ (sym (marks-test (R .done) _ (c .before .before .before .before .before .before .before .pre .1)) ∙ sym (c .before .before .before .is-in .ensures) ∙ c .before .before .if2 .left) (c .if3 .taken) }
+
+mul-wide : tie.Need-mul-wide
+mul-wide c = search needs
+
+add-wide : tie.Need-add-wide
+add-wide c = search needs
+
+mul-wide-2 : tie.Need-mul-wide-2
+mul-wide-2 c = search needs
+
+shared-slice-read-wide : tie.Need-shared-slice-read-wide
+shared-slice-read-wide c = search needs
+
+wide-requires : tie.Need-wide-requires
+wide-requires c κs = search needs
+
+returns-4 : tie.Need-returns-4
+returns-4 c = record { all = λ C R. kth-gate C R _ (c .before .before .before .before .before .before .before .before .before .pre .1) _ _ (c .before .before .before .before .before .before .if1 .left) (sym (marks-test (R .done) _ (c .before .before .before .before .before .before .before .before .before .pre .1)) ∙ sym (c .before .before .before .before .before .is-in .ensures) ∙ c .before .before .before .before .if2 .left) (c .before .before .if3 .left) (c .wide .ensures) }
+
+pub followed-spec : {M : Type 1} → statement M
+followed-spec =
+    tie.close
+    (tie.spec
+    returns
+    is-in-requires
+    returns-2
+    mul-if3
+    mul-if3-2
+    shared-slice-read-if3
+    returns-3
+    mul-wide
+    add-wide
+    mul-wide-2
+    shared-slice-read-wide
+    wide-requires
+    returns-4)

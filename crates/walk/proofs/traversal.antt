@@ -1,0 +1,4 @@
+pub mod Fuel
+pub mod Moves
+pub mod Area
+pub mod Loops

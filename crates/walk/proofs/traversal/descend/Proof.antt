@@ -1,0 +1,25 @@
+use borrow.Author.Needs.{needs}
+use Rattle.walk.proofs.traversal.descend.Statement.{statement}
+use Rattle.walk.proofs.traversal.descend.Tie as tie
+use Rattle.walk.proofs.traversal.descend.Reads as reads
+use Rattle.walk.proofs.traversal.descend.Lts as lts
+use Rattle.columns.proofs.push.Reads as push-reads
+use Rattle.walk.proofs.traversal.enter.Reads as enter-reads
+
+push-requires : tie.Need-push-requires
+push-requires c κs = search needs
+
+add-enter : tie.Need-add-enter
+add-enter c = search needs
+
+enter-requires : tie.Need-enter-requires
+enter-requires c κs = search needs
+
+same-length : tie.Need-same-length
+same-length c = search needs
+
+returns : tie.Need-returns
+returns c = cc
+
+pub descend-spec : {M : Type 1} → statement M
+descend-spec = tie.close (tie.spec push-requires add-enter enter-requires same-length returns)

@@ -1,0 +1,19 @@
+use Rattle.walk.proofs.traversal.Area.{test-no, test-yes}
+use borrow.Author.Needs.{needs}
+use Rattle.walk.proofs.traversal.passed.Statement.{statement}
+use Rattle.walk.proofs.traversal.passed.Tie as tie
+use Rattle.walk.proofs.traversal.passed.Reads as reads
+use Rattle.walk.proofs.traversal.passed.Lts as lts
+use Rattle.columns.proofs.is_in.Reads as is-in-reads
+
+returns : tie.Need-returns
+returns c = test-no _ _ (c .if1 .taken)
+
+is-in-requires : tie.Need-is-in-requires
+is-in-requires c κs = search needs
+
+returns-2 : tie.Need-returns-2
+returns-2 c = test-yes _ _ _ (c .before .if1 .left) (c .is-in .ensures)
+
+pub passed-spec : {M : Type 1} → statement M
+passed-spec = tie.close (tie.spec returns is-in-requires returns-2)

@@ -1,0 +1,4 @@
+pub mod Stands
+pub mod Machine
+pub mod Levels
+pub mod Needed
