@@ -217,7 +217,7 @@ pub fn row(plan: &[u32], height: u32, stage: usize, level: u32) -> &[u32]
     &plan[start..end]
 }
 
-// The same, to be written.
+// The same, to be written. The plan is lent on with the part, so no clause can speak of it at exit.
 pub fn row_mut(plan: &mut [u32], height: u32, stage: usize, level: u32) -> &mut [u32]
     ensures { λ r. ⌜ now r ≡ rowOf height stage level (now (plan .entry)) ⌝ }
 {

@@ -7,6 +7,7 @@ use columns::PINS;
 use columns::get;
 use columns::tail_get;
 use columns::wide;
+use graph::operand;
 ghost use mathlib.Core.Path.{_≡_};
 ghost use Rattle.walk.specs.Stands.{Some, Every};
 ghost use Rattle.tree.specs.Counts.{CountAt, UncountAt, OneMore, RoomAt, roomIn};
@@ -147,8 +148,8 @@ fn split_gate(
     requires { ⌜ Some (λ C. SplitAt C m h w p n (now gates) (now stage) (now work)) ⌝ }
     ensures { λ _. ⌜ Every (λ C. SplitAt C m h w p n (now (gates .entry)) (now (stage .entry)) (now (work .entry))) (λ C. Placed C m h w p n (now (stage .entry)) (now (work .entry)) (now (stage .exit)) (now (work .exit))) ⌝ }
 {
-    let a = wide(gates[2 * n] / 2);
-    let b = wide(gates[2 * n + 1] / 2);
+    let a = operand(gates, 2 * n);
+    let b = operand(gates, 2 * n + 1);
     let next = h - 1;
     let low = 2 * w;
     place_bit(gates, stage, work, m, next, low, p + w, a);

@@ -117,7 +117,8 @@ module _ (C : Context) {m : ℕ} {gates w : List ℕ} (R : Reads C m gates w) wh
     pub kth-leaf : (k : ℕ) → Out p (C .X .done) → a ≡ 4294967295 → m ≡ getD (below (C .X .g) (C .X .done) p) k m
     kth-leaf k o e = rw (follow-leaf o e)
 
-    pub kth-gate : (k q : ℕ) → k < 2 → Out p (C .X .done) → (a ≡ 4294967295 → ⊥) → q ≡ getD gates (2 * p + k) 0 / 2 → q ≡ getD (below (C .X .g) (C .X .done) p) k m
+    pub kth-gate : (k q : ℕ) → k < 2 → Out p (C .X .done) → (a ≡ 4294967295 → ⊥) → q ≡ pinOf (getD gates (2 * p + k) 0) → q ≡ getD (below (C .X .g) (C .X .done) p) k m
+    unfolding pinOf
     kth-gate zero q l o n e = rw (follow-gate o n) (e ∙ rw add-zero)
     kth-gate (suc zero) q l o n e = rw (follow-gate o n) e
     kth-gate (suc (suc k)) q l o n e = absurd (omega arith)

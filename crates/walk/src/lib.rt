@@ -1,7 +1,7 @@
 // Rules 1 to 3 and 6 over the work area: traversal, levels, reverse levels, the level lists, needed pins.
 use columns::DONE;
 use columns::is_in;
-use columns::wide;
+use graph::operand;
 ghost use mathlib.Core.Path.{_≡_};
 ghost use Prim.Native.Nat.{_<_};
 ghost use lib.ListN.{getD};
@@ -27,5 +27,5 @@ pub fn followed(gates: &[u32], work: &[u32], m: usize, p: usize, k: usize) -> us
     if gates[2 * p] == 4294967295 {
         return m;
     }
-    wide(gates[2 * p + k] / 2)
+    operand(gates, 2 * p + k)
 }

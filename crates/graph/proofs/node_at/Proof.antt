@@ -38,7 +38,9 @@ mul-node-of-4 : tie.Need-mul-node-of-4
 mul-node-of-4 c = search needs
 
 shared-slice-read-node-of-2 : tie.Need-shared-slice-read-node-of-2
-shared-slice-read-node-of-2 c = node-inside _ _ _ _ (c .before .before .before .before .wide .ensures) (c .before .before .before .pin-count .ensures) (c .before .before .if1 .left)
+shared-slice-read-node-of-2 c =
+    let a = c .before .before .before .before .before .before .args in
+    omega (arith, node-inside (now (a .gates)) _ _ _ (c .before .before .before .before .wide .ensures) (c .before .before .before .pin-count .ensures) (c .before .before .if1 .left))
 
 node-of-requires : tie.Need-node-of-requires
 node-of-requires c κs = search needs

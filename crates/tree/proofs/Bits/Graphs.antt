@@ -48,14 +48,14 @@ pub record Operands (C : Context) (n a b : ℕ) : Type 0 where
   pub two : In b (C .X .seen)
 
 pub operands : {C : Context} {m : ℕ} {gates u : List ℕ} → Base C m gates u → (n : ℕ) → In n (C .X .seen) → 1 ≤ levelAt (C .X) n →
-    (a b : ℕ) → a ≡ getD gates (2 * n) 0 / 2 → b ≡ getD gates (2 * n + 1) 0 / 2 → Operands C n a b
+    (a b : ℕ) → a ≡ pinOf (getD gates (2 * n) 0) → b ≡ pinOf (getD gates (2 * n + 1) 0) → Operands C n a b
 unfolding pinOf
 operands {C} {m} {gates} B n i l a b ea eb = node (getD (C .X .g) n leaf)
     (λ e. absurd (omega (arith, leaf-level (C .X) (C .r) (length (C .X .g)) (C .S) n i e)))
     (λ x y e.
     let k = graph-gate gates n x y (rw (B .graph) at e) in
-    let d1 : a ≡ pinOf x = ea ∙ ap (λ (c : ℕ). c / 2) (k .0) in
-    let d2 : b ≡ pinOf y = eb ∙ ap (λ (c : ℕ). c / 2) (k .1) in
+    let d1 : a ≡ pinOf x = ea ∙ ap pinOf (k .0) in
+    let d2 : b ≡ pinOf y = eb ∙ ap pinOf (k .1) in
     record {
       x = x;
       y = y;

@@ -125,7 +125,7 @@ module _ {C : Context} {m h w p n : ℕ} {gates pl u : List ℕ} (A : SplitAt C 
   row-pos′ = omega (arith, A .row, A .spot .from, A .spot .to)
 
   -- the operands' pins as the code reads them
-  pub split-pins : (a b : ℕ) → a ≡ getD gates (2 * n) 0 / 2 → b ≡ getD gates (2 * n + 1) 0 / 2 → Operands C n a b
+  pub split-pins : (a b : ℕ) → a ≡ pinOf (getD gates (2 * n) 0) → b ≡ pinOf (getD gates (2 * n + 1) 0) → Operands C n a b
   split-pins = operands (A .base) n (A .listed) (omega (arith, A .above, A .level))
 
   module _ {a b : ℕ} (O : Operands C n a b) where
