@@ -7,7 +7,7 @@ use lib.ListN.{length, length-reverse}
 use Rattle.rules.specs.Lists.{distinct, gather}
 use Rattle.rules.specs.Cells.{empty}
 use Rattle.rules.specs.Graph.{Node, below}
-use Rattle.rules.specs.Traversal.{Setting, setting, levelAt, levels, traverse}
+use Rattle.rules.specs.Traversal.{Setting, setting, levelAt, traverse}
 use Rattle.rules.specs.Depth.{depth}
 use Rattle.rules.specs.Lean.{wanted, lacks}
 use Rattle.rules.specs.Placing.{treeOf}

@@ -5,7 +5,6 @@ use mathlib.Core.Bool.{false}
 use mathlib.Core.List.{List, [], _∷_}
 use Prim.Native.Nat.{ℕ, zero, suc, _+_, _*_, _/_, _<_, _≤_}
 use native.Mathlib.Omega.{arith}
-use native.Mathlib.Nat.{add-zero}
 use native.Mathlib.Decide.{ℕ-discrete, decLt}
 use borrow.Author.Tests.{eq-eqb, ne-eqb}
 use lib.Dec.{eqb}
@@ -117,11 +116,13 @@ module _ (C : Context) {m : ℕ} {gates w : List ℕ} (R : Reads C m gates w) wh
     pub kth-leaf : (k : ℕ) → Out p (C .X .done) → a ≡ 4294967295 → m ≡ getD (below (C .X .g) (C .X .done) p) k m
     kth-leaf k o e = rw (follow-leaf o e)
 
-    pub kth-gate : (k q : ℕ) → k < 2 → Out p (C .X .done) → (a ≡ 4294967295 → ⊥) → q ≡ pinOf (getD gates (2 * p + k) 0) → q ≡ getD (below (C .X .g) (C .X .done) p) k m
+    pub kth-first : (k q : ℕ) → Out p (C .X .done) → (a ≡ 4294967295 → ⊥) → k ≡ 0 → q ≡ pinOf a → q ≡ getD (below (C .X .g) (C .X .done) p) k m
     unfolding pinOf
-    kth-gate zero q l o n e = rw (follow-gate o n) (e ∙ rw add-zero)
-    kth-gate (suc zero) q l o n e = rw (follow-gate o n) e
-    kth-gate (suc (suc k)) q l o n e = absurd (omega arith)
+    kth-first k q o n z e = rw (z, follow-gate o n) e
+
+    pub kth-second : (k q : ℕ) → k < 2 → Out p (C .X .done) → (a ≡ 4294967295 → ⊥) → (k ≡ 0 → ⊥) → q ≡ pinOf b → q ≡ getD (below (C .X .g) (C .X .done) p) k m
+    unfolding pinOf
+    kth-second k q l o n z e = let one : k ≡ 1 = omega arith in rw (one, follow-gate o n) e
 
 -- the two pins followed from p, where the code has asked for them
 pub record Both (C : Context) (m p a b : ℕ) : Type 0 where

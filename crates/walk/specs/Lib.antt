@@ -2,3 +2,5 @@ pub mod Stands
 pub mod Machine
 pub mod Levels
 pub mod Needed
+pub mod Ranking
+pub mod Prepared

@@ -12,7 +12,7 @@ use Rattle.rules.specs.Lean.{startLevels, candidates, cellsHolding}
 use Rattle.rules.proofs.Needed.Needs.{Graph, Sound}
 use Rattle.rules.proofs.Tree.Sane.{Marked}
 use Rattle.rules.proofs.Stage.Depth.{Ready}
-use Rattle.columns.specs.Area.{Room, col, tail}
+use Rattle.columns.specs.Area.{Room, col}
 use Rattle.columns.specs.Fields.{ORDER, DONE, LEVEL, WAITING, CELLS, RANKED, STARTS, ENDS, REVERSE, PLACE, ONES, PINS}
 use Rattle.columns.specs.Lists.{Holds, Marks, Placed}
 

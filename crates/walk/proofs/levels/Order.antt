@@ -1,5 +1,5 @@
 -- Along the order: what stands before a pin is a traversal too, and holds all that is followed from it; levels stay below the pins' number. Assumes nothing.
-use mathlib.Core.Path.{_≡_, sym, _∙_, ap}
+use mathlib.Core.Path.{_≡_, refl, sym, _∙_, ap}
 use mathlib.Core.Logic.{inl, inr}
 use mathlib.Core.List.{List, [], _∷_, _++_, reverse, reverse-append, reverse-reverse}
 use Prim.Native.Nat.{ℕ, suc, _<_, _≤_}
@@ -7,7 +7,7 @@ use native.Mathlib.Omega.{arith}
 use lib.ListN.{length, getD, take, drop, take-append-drop, length-reverse}
 use lib.Seq.{take-suc, take-all, length-take-le, getD-set-same, getD-set-other}
 use Rattle.rules.specs.Graph.{Node, below}
-use Rattle.rules.specs.Traversal.{levels}
+use Rattle.rules.specs.Traversal.{levels, setting, levelAt}
 use Rattle.rules.proofs.Lists.Members.{In, in-here, in-there, in-cons, in-nil, in-out, in-append-right}
 use Rattle.rules.proofs.Walk.Traverse.{Ranked, Topo, none, more}
 use Rattle.rules.proofs.Walk.Levels.{over-least, length-levels}
@@ -61,3 +61,11 @@ module _ (C : Context) where
 
   pub before-length : (i : ℕ) → i ≤ length (C .X .order) → length (before i) ≡ i
   before-length i h = length-reverse (take i (C .X .order)) ∙ length-take-le i (C .X .order) h
+
+  pub lv-is : levels (C .X .g) (C .X .done) (C .X .seen) ≡ C .X .lv
+  unfolding setting
+  lv-is = rw (C .is) refl
+
+  pub level-few : (p : ℕ) → In p (C .X .seen) → levelAt (C .X) p < length (C .X .seen)
+  unfolding levelAt
+  level-few p e = rw (← lv-is) (levels-few (C .X .g) (C .X .done) (C .r) (C .S .ranked) (C .S .visited .topo) (C .S .bound) p e)

@@ -8,10 +8,10 @@ use native.Mathlib.Numerals.{add-one}
 use lib.ListN.{length, getD, set, take, replicate, length-replicate}
 use lib.Seq.{take-suc, take-all, getD-set-same}
 use Rattle.rules.specs.Graph.{below}
-use Rattle.rules.specs.Traversal.{over, levels, setting, levelAt, greatest}
+use Rattle.rules.specs.Traversal.{over, levels, levelAt, greatest}
 use Rattle.rules.proofs.Lists.Members.{In, in-here}
 use Rattle.rules.proofs.Walk.Levels.{over-ext, over-least, length-levels, levels-good}
-use Rattle.columns.specs.Area.{among, put, Frame}
+use Rattle.columns.specs.Area.{put, among, Frame}
 use Rattle.columns.specs.Fields.{ORDER, DONE, LEVEL}
 use Rattle.columns.proofs.Area.Columns.{getD-col, col-set}
 use Rattle.columns.proofs.Area.Puts.{col-put}
@@ -20,7 +20,7 @@ use Rattle.columns.proofs.Lists.Entries.{holds-frame, holds-at, holds-pin}
 use Rattle.walk.specs.Stands.{Context}
 use Rattle.walk.specs.Levels.{Along, LevelAt, RiseAt, Risen, Levels}
 use Rattle.walk.proofs.Gates.{follow-pin, reads-frame, none-of, both-of}
-use Rattle.walk.proofs.levels.Order.{topo-next, levels-few, before, before-next, before-all, before-topo, before-seen, before-pin, before-length}
+use Rattle.walk.proofs.levels.Order.{topo-next, levels-few, before, before-next, before-all, before-topo, before-seen, before-pin, before-length, lv-is}
 
 pub along-frame : {C : Context} {m k : ℕ} {gates w : List ℕ} → Along C m k gates w → {fs : List ℕ} {w′ : List ℕ} → Frame fs m w w′ → among fs DONE ≡ false → among fs ORDER ≡ false → Along C m k gates w′
 along-frame {C} A fr d e = record { reads = reads-frame C (A .reads) fr d; ordered = record { order = holds-frame (A .ordered .order) fr e (omega arith) } }
@@ -128,12 +128,8 @@ module _ {C : Context} {m k : ℕ} {gates w : List ℕ} (A : Along C m k gates w
   pub rise-at : RiseAt C m k gates v
   rise-at = record { along = along-frame A cleared refl refl; zeros = rw ev (col-put LEVEL m w (replicate m 0) (length-replicate m 0) (omega (arith, A .reads .base .area .room))) }
 
-  lv-is : levels (C .X .g) (C .X .done) (C .X .seen) ≡ C .X .lv
-  unfolding setting
-  lv-is = rw (C .is) refl
-
   pub levelled : {w′ : List ℕ} {top : ℕ} → Risen C m k v w′ top → Levels C m w w′ top
   levelled U = record {
-    column = record { frame = frame-then cleared (U .column .frame); is = U .column .is ∙ ap (levels (C .X .g) (C .X .done)) (before-all C k (omega (arith, A .ordered .order .count))) ∙ lv-is };
+    column = record { frame = frame-then cleared (U .column .frame); is = U .column .is ∙ ap (levels (C .X .g) (C .X .done)) (before-all C k (omega (arith, A .ordered .order .count))) ∙ lv-is C };
     most = rw (take-all k (C .X .order) (omega (arith, A .ordered .order .count))) at (U .most);
   }

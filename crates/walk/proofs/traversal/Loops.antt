@@ -9,7 +9,7 @@ use native.Mathlib.Numerals.{add-one}
 use lib.ListN.{length, getD, set, drop, replicate, length-set, drop-of-length-le}
 use lib.Seq.{drop-cons, getD-set-same, getD-set-other}
 use Rattle.rules.specs.Traversal.{thread, visit, traverse, Setting, setting}
-use Rattle.columns.specs.Area.{among, put, Frame}
+use Rattle.columns.specs.Area.{put, Frame, among}
 use Rattle.columns.specs.Fields.{ORDER, DONE, WAITING, LISTED, STACK, PHASE, PLACE}
 use Rattle.columns.specs.Lists.{list}
 use Rattle.columns.proofs.Area.Frames.{frame-none, frame-then, frame-set, frame-fill, frame-more}

@@ -1,13 +1,9 @@
+-- `walk::levels::level_of` meets its contract: two pins are followed, or none. Assumes nothing.
 use native.Mathlib.Omega.{arith}
 use Rattle.walk.proofs.levels.Rising.{level-none, level-low, level-both}
 use borrow.Author.Needs.{needs}
 use Rattle.walk.proofs.levels.level_of.Statement.{statement}
 use Rattle.walk.proofs.levels.level_of.Tie as tie
-use Rattle.walk.proofs.levels.level_of.Reads as reads
-use Rattle.walk.proofs.levels.level_of.Lts as lts
-use Rattle.columns.proofs.get.Reads as get-reads
-use Rattle.walk.proofs.followed.Reads as followed-reads
-use Rattle.walk.proofs.levels.higher.Reads as higher-reads
 
 followed-requires : tie.Need-followed-requires
 followed-requires c κs = let s = c .before .before .pre in (record { C = s .C; at = s .at .reads }, s .at .pin)

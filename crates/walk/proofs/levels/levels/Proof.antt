@@ -1,12 +1,9 @@
+-- `walk::levels::levels` meets its contract: all levels are 0 at first. Assumes nothing.
 use native.Mathlib.Omega.{arith}
 use Rattle.walk.proofs.levels.Rising.{rise-at, levelled}
 use borrow.Author.Needs.{needs}
 use Rattle.walk.proofs.levels.levels.Statement.{statement}
 use Rattle.walk.proofs.levels.levels.Tie as tie
-use Rattle.walk.proofs.levels.levels.Reads as reads
-use Rattle.walk.proofs.levels.levels.Lts as lts
-use Rattle.columns.proofs.fill.Reads as fill-reads
-use Rattle.walk.proofs.levels.rise.Reads as rise-reads
 
 fill-requires : tie.Need-fill-requires
 fill-requires c κs = (c .before .before .before .pre .at .reads .base .area, omega arith)

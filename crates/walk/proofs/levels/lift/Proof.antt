@@ -1,13 +1,9 @@
+-- `walk::levels::lift` meets its contract: a pin with a reverse level raises the pins followed from it. Assumes nothing.
 use native.Mathlib.Omega.{arith}
 use Rattle.walk.proofs.levels.Lifting.{lifted-none, lifted-leaf, lift-pins, lifted-both}
 use borrow.Author.Needs.{needs}
 use Rattle.walk.proofs.levels.lift.Statement.{statement}
 use Rattle.walk.proofs.levels.lift.Tie as tie
-use Rattle.walk.proofs.levels.lift.Reads as reads
-use Rattle.walk.proofs.levels.lift.Lts as lts
-use Rattle.columns.proofs.get.Reads as get-reads
-use Rattle.walk.proofs.followed.Reads as followed-reads
-use Rattle.walk.proofs.levels.raise.Reads as raise-reads
 
 get-requires : tie.Need-get-requires
 get-requires c κs = let s = c .before .before .before .pre .at in omega (arith, s .pin, s .reads .base .area .room)

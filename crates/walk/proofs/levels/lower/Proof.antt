@@ -1,3 +1,4 @@
+-- `walk::levels::lower` meets its contract: the first i pins are still to hand theirs down. Assumes nothing.
 use mathlib.Core.Path.{_≡_, refl}
 use Prim.Native.Nat.{_≤_}
 use native.Mathlib.Omega.{arith}
@@ -8,10 +9,6 @@ use Rattle.walk.proofs.levels.Lifting.{lowered-none, lift-at, lowered-m
 use borrow.Author.Needs.{needs}
 use Rattle.walk.proofs.levels.lower.Statement.{statement}
 use Rattle.walk.proofs.levels.lower.Tie as tie
-use Rattle.walk.proofs.levels.lower.Reads as reads
-use Rattle.walk.proofs.levels.lower.Lts as lts
-use Rattle.columns.proofs.get.Reads as get-reads
-use Rattle.walk.proofs.levels.lift.Reads as lift-reads
 
 abbrev Inv-loop : tie.InvT-loop
 Inv-loop gates work₀ m k i₀ work i = Every (λ C. LowerAt C m k gates work₀) (λ C. Lowered C m k i work₀ work) × (i ≤ k) × (length work ≡ length work₀)

@@ -1,13 +1,9 @@
-use native.Mathlib.Omega.{arith}
+-- `walk::levels::raise` meets its contract: a store of the greater number. Assumes nothing.
 use Prim.Native.Nat.{_+_, _*_}
+use native.Mathlib.Omega.{arith}
 use borrow.Author.Needs.{needs}
 use Rattle.walk.proofs.levels.raise.Statement.{statement}
 use Rattle.walk.proofs.levels.raise.Tie as tie
-use Rattle.walk.proofs.levels.raise.Reads as reads
-use Rattle.walk.proofs.levels.raise.Lts as lts
-use Rattle.columns.proofs.get.Reads as get-reads
-use Rattle.columns.proofs.push.Reads as push-reads
-use Rattle.walk.proofs.levels.higher.Reads as higher-reads
 
 get-requires : tie.Need-get-requires
 get-requires c κs = search needs

@@ -1,13 +1,9 @@
+-- `walk::levels::reverse_levels` meets its contract: no pin has a reverse level at first. Assumes nothing.
 use native.Mathlib.Omega.{arith}
 use Rattle.walk.proofs.levels.Lifting.{start-at, lower-at, reversed}
 use borrow.Author.Needs.{needs}
 use Rattle.walk.proofs.levels.reverse_levels.Statement.{statement}
 use Rattle.walk.proofs.levels.reverse_levels.Tie as tie
-use Rattle.walk.proofs.levels.reverse_levels.Reads as reads
-use Rattle.walk.proofs.levels.reverse_levels.Lts as lts
-use Rattle.columns.proofs.fill.Reads as fill-reads
-use Rattle.walk.proofs.levels.lower.Reads as lower-reads
-use Rattle.walk.proofs.levels.start.Reads as start-reads
 
 fill-requires : tie.Need-fill-requires
 fill-requires c κs = (c .before .before .before .pre .at .begun .base .area, omega arith)

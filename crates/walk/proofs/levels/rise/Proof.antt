@@ -1,3 +1,4 @@
+-- `walk::levels::rise` meets its contract: the first i pins have their levels. Assumes nothing.
 use mathlib.Core.Path.{_≡_, refl}
 use Prim.Native.Nat.{_≤_, _-_}
 use native.Mathlib.Omega.{arith}
@@ -8,12 +9,6 @@ use Rattle.walk.proofs.levels.Rising.{risen-none, level-at, level-few, 
 use borrow.Author.Needs.{needs}
 use Rattle.walk.proofs.levels.rise.Statement.{statement}
 use Rattle.walk.proofs.levels.rise.Tie as tie
-use Rattle.walk.proofs.levels.rise.Reads as reads
-use Rattle.walk.proofs.levels.rise.Lts as lts
-use Rattle.columns.proofs.get.Reads as get-reads
-use Rattle.columns.proofs.push.Reads as push-reads
-use Rattle.walk.proofs.levels.higher.Reads as higher-reads
-use Rattle.walk.proofs.levels.level_of.Reads as level-of-reads
 
 abbrev Inv-loop : tie.InvT-loop
 Inv-loop gates work₀ m k top₀ i₀ work top i = Every (λ C. RiseAt C m k gates work₀) (λ C. Risen C m i work₀ work top) × (i ≤ k) × (length work ≡ length work₀)

@@ -1,13 +1,10 @@
+-- `walk::levels::start` meets its contract: the waiting pins from i on are still to be raised. Assumes nothing.
 use Prim.Native.Nat.{_≤_, _-_}
 use native.Mathlib.Omega.{arith}
 use Rattle.walk.proofs.levels.Lifting.{Raised, raised-none, start-pin, raised-more, raised-end}
 use borrow.Author.Needs.{needs}
 use Rattle.walk.proofs.levels.start.Statement.{statement}
 use Rattle.walk.proofs.levels.start.Tie as tie
-use Rattle.walk.proofs.levels.start.Reads as reads
-use Rattle.walk.proofs.levels.start.Lts as lts
-use Rattle.columns.proofs.get.Reads as get-reads
-use Rattle.walk.proofs.levels.raise.Reads as raise-reads
 
 abbrev Inv-loop : tie.InvT-loop
 Inv-loop work₀ m n i₀ work i = Raised m n i work₀ work × (i ≤ n)

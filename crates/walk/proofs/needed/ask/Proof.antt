@@ -1,13 +1,9 @@
+-- `walk::needed::ask` meets its contract: its tests are the definition's. Assumes nothing.
 use native.Mathlib.Omega.{arith}
 use Rattle.walk.proofs.needed.Asking.{needs-at, ask-high, ask-placed, ask-missing}
 use borrow.Author.Needs.{needs}
 use Rattle.walk.proofs.needed.ask.Statement.{statement}
 use Rattle.walk.proofs.needed.ask.Tie as tie
-use Rattle.walk.proofs.needed.ask.Reads as reads
-use Rattle.walk.proofs.needed.ask.Lts as lts
-use Rattle.columns.proofs.enlist.Reads as enlist-reads
-use Rattle.columns.proofs.get.Reads as get-reads
-use Rattle.columns.proofs.is_in.Reads as is-in-reads
 
 get-requires : tie.Need-get-requires
 get-requires c κs = let s = c .before .before .pre .at in omega (arith, s .pin, s .needing .tells .area .room)

@@ -1,3 +1,4 @@
+-- `walk::needed::collect` meets its contract: the listed pins from i on have yet to ask. Assumes nothing.
 use mathlib.Core.Path.{_≡_, refl}
 use Prim.Native.Nat.{_≤_, _-_}
 use native.Mathlib.Omega.{arith}
@@ -7,10 +8,6 @@ use Rattle.walk.proofs.needed.Collecting.{collecting-none, need-at, col
 use borrow.Author.Needs.{needs}
 use Rattle.walk.proofs.needed.collect.Statement.{statement}
 use Rattle.walk.proofs.needed.collect.Tie as tie
-use Rattle.walk.proofs.needed.collect.Reads as reads
-use Rattle.walk.proofs.needed.collect.Lts as lts
-use Rattle.columns.proofs.get.Reads as get-reads
-use Rattle.walk.proofs.needed.need.Reads as need-reads
 
 abbrev Inv-loop : tie.InvT-loop
 Inv-loop gates work₀ m n k r₀ i₀ work r i = EveryPlan (λ C pl. NeededAt C pl m n k gates work₀) (λ C pl. Collecting C pl m i work₀ work r) × (i ≤ k) × (length work ≡ length work₀)

@@ -1,12 +1,9 @@
+-- `walk::needed::itself` meets its contract: the level and the waiting list decide. Assumes nothing.
 use native.Mathlib.Omega.{arith}
 use Rattle.walk.proofs.needed.Asking.{needs-at, itself-one, itself-waits, itself-not}
 use borrow.Author.Needs.{needs}
 use Rattle.walk.proofs.needed.itself.Statement.{statement}
 use Rattle.walk.proofs.needed.itself.Tie as tie
-use Rattle.walk.proofs.needed.itself.Reads as reads
-use Rattle.walk.proofs.needed.itself.Lts as lts
-use Rattle.columns.proofs.enlist.Reads as enlist-reads
-use Rattle.columns.proofs.is_in.Reads as is-in-reads
 
 enlist-requires : tie.Need-enlist-requires
 enlist-requires c κs = let s = c .before .before .before .pre .at in needs-at (s .needing) _ (s .pin)

@@ -1,15 +1,9 @@
+-- `walk::needed::need` meets its contract: each way through it is a case of the definition. Assumes nothing.
 use native.Mathlib.Omega.{arith}
 use Rattle.walk.proofs.needed.Asking.{need-pin, need-placed, itself-at, need-itself, ask-first, ask-second, need-both}
 use borrow.Author.Needs.{needs}
 use Rattle.walk.proofs.needed.need.Statement.{statement}
 use Rattle.walk.proofs.needed.need.Tie as tie
-use Rattle.walk.proofs.needed.need.Reads as reads
-use Rattle.walk.proofs.needed.need.Lts as lts
-use Rattle.columns.proofs.get.Reads as get-reads
-use Rattle.columns.proofs.is_in.Reads as is-in-reads
-use Rattle.walk.proofs.followed.Reads as followed-reads
-use Rattle.walk.proofs.needed.ask.Reads as ask-reads
-use Rattle.walk.proofs.needed.itself.Reads as itself-reads
 
 is-in-requires : tie.Need-is-in-requires
 is-in-requires c κs = let s = c .before .before .before .pre .at in omega (arith, need-pin s, s .reads .base .area .room)

@@ -1,11 +1,8 @@
+-- `walk::needed::needed` meets its contract: the list, and the marks gone. Assumes nothing.
 use Rattle.walk.proofs.needed.Collecting.{unmark-at, needed-all}
 use borrow.Author.Needs.{needs}
 use Rattle.walk.proofs.needed.needed.Statement.{statement}
 use Rattle.walk.proofs.needed.needed.Tie as tie
-use Rattle.walk.proofs.needed.needed.Reads as reads
-use Rattle.walk.proofs.needed.needed.Lts as lts
-use Rattle.walk.proofs.needed.collect.Reads as collect-reads
-use Rattle.walk.proofs.needed.unmark.Reads as unmark-reads
 
 collect-requires : tie.Need-collect-requires
 collect-requires c κs = search needs

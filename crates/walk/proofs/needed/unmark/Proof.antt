@@ -1,3 +1,4 @@
+-- `walk::needed::unmark` meets its contract: the needed pins from i on are still marked. Assumes nothing.
 use Prim.Native.Nat.{_≤_, _-_}
 use native.Mathlib.Omega.{arith}
 use lib.ListN.{drop}
@@ -8,10 +9,6 @@ use Rattle.walk.proofs.needed.Collecting.{unmarked-none, unmark-pin, un
 use borrow.Author.Needs.{needs}
 use Rattle.walk.proofs.needed.unmark.Statement.{statement}
 use Rattle.walk.proofs.needed.unmark.Tie as tie
-use Rattle.walk.proofs.needed.unmark.Reads as reads
-use Rattle.walk.proofs.needed.unmark.Lts as lts
-use Rattle.columns.proofs.get.Reads as get-reads
-use Rattle.columns.proofs.set_field.Reads as set-field-reads
 
 abbrev Inv-loop : tie.InvT-loop
 Inv-loop work₀ m r i₀ work i = Unmarked m (drop i (list NEEDED m r work₀)) work₀ work × (i ≤ r)

@@ -1,10 +1,7 @@
+-- `walk::traversal::descend` meets its contract: three stores. Assumes nothing.
 use borrow.Author.Needs.{needs}
 use Rattle.walk.proofs.traversal.descend.Statement.{statement}
 use Rattle.walk.proofs.traversal.descend.Tie as tie
-use Rattle.walk.proofs.traversal.descend.Reads as reads
-use Rattle.walk.proofs.traversal.descend.Lts as lts
-use Rattle.columns.proofs.push.Reads as push-reads
-use Rattle.walk.proofs.traversal.enter.Reads as enter-reads
 
 push-requires : tie.Need-push-requires
 push-requires c κs = search needs

@@ -1,10 +1,8 @@
+-- `walk::traversal::passed` meets its contract: the mark tells whether the pin is listed. Assumes nothing.
 use Rattle.walk.proofs.traversal.Area.{test-no, test-yes}
 use borrow.Author.Needs.{needs}
 use Rattle.walk.proofs.traversal.passed.Statement.{statement}
 use Rattle.walk.proofs.traversal.passed.Tie as tie
-use Rattle.walk.proofs.traversal.passed.Reads as reads
-use Rattle.walk.proofs.traversal.passed.Lts as lts
-use Rattle.columns.proofs.is_in.Reads as is-in-reads
 
 returns : tie.Need-returns
 returns c = test-no _ _ (c .if1 .taken)

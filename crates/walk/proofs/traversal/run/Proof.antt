@@ -1,3 +1,4 @@
+-- `walk::traversal::run` meets its contract: each step leaves the same to list, and fewer steps. Assumes nothing.
 use mathlib.Core.Path.{_≡_, refl}
 use lib.ListN.{length}
 use Rattle.walk.specs.Stands.{Every}
@@ -6,9 +7,6 @@ use Rattle.walk.proofs.traversal.Loops.{went-none, went-top, went-then,
 use borrow.Author.Needs.{needs}
 use Rattle.walk.proofs.traversal.run.Statement.{statement}
 use Rattle.walk.proofs.traversal.run.Tie as tie
-use Rattle.walk.proofs.traversal.run.Reads as reads
-use Rattle.walk.proofs.traversal.run.Lts as lts
-use Rattle.walk.proofs.traversal.step.Reads as step-reads
 
 abbrev Inv-loop : tie.InvT-loop
 Inv-loop gates work₀ m items n depth₀ listed₀ work depth listed = Every (λ C. Going C m gates work₀ items n) (λ C. Went C m gates work₀ items n work depth listed) × (length work ≡ length work₀)

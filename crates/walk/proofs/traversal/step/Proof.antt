@@ -1,16 +1,10 @@
+-- `walk::traversal::step` meets its contract: each way through it is one step of the stack. Assumes nothing.
 use mathlib.Core.Path.{sym, _∙_}
 use native.Mathlib.Omega.{arith}
 use Rattle.walk.proofs.traversal.Area.{TopAt, top-at, pin-in, step-seen, room, step-list, next-in, next-room, next-phase, step-on}
 use borrow.Author.Needs.{needs}
 use Rattle.walk.proofs.traversal.step.Statement.{statement}
 use Rattle.walk.proofs.traversal.step.Tie as tie
-use Rattle.walk.proofs.traversal.step.Reads as reads
-use Rattle.walk.proofs.traversal.step.Lts as lts
-use Rattle.columns.proofs.get.Reads as get-reads
-use Rattle.walk.proofs.followed.Reads as followed-reads
-use Rattle.walk.proofs.traversal.descend.Reads as descend-reads
-use Rattle.walk.proofs.traversal.list.Reads as list-reads
-use Rattle.walk.proofs.traversal.passed.Reads as passed-reads
 
 get-requires : tie.Need-get-requires
 get-requires c κs = let s = c .before .before .before .pre in omega (arith, top-at (s .C) (c .before .before .before .args .top) (s .at), s .at .reads .base .area .room)

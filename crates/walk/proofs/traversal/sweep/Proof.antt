@@ -1,3 +1,4 @@
+-- `walk::traversal::sweep` meets its contract: the waiting pins from i on are still to be visited. Assumes nothing.
 use mathlib.Core.Path.{_≡_, refl}
 use Prim.Native.Nat.{_≤_, _-_}
 use native.Mathlib.Omega.{arith}
@@ -8,10 +9,6 @@ use Rattle.walk.proofs.traversal.Loops.{swept-none, visit-at, swept-mor
 use borrow.Author.Needs.{needs}
 use Rattle.walk.proofs.traversal.sweep.Statement.{statement}
 use Rattle.walk.proofs.traversal.sweep.Tie as tie
-use Rattle.walk.proofs.traversal.sweep.Reads as reads
-use Rattle.walk.proofs.traversal.sweep.Lts as lts
-use Rattle.columns.proofs.get.Reads as get-reads
-use Rattle.walk.proofs.traversal.visit.Reads as visit-reads
 
 abbrev Inv-loop : tie.InvT-loop
 Inv-loop gates work₀ m n k listed₀ i₀ work listed i = Every (λ C. SweepAt C m n gates work₀ k) (λ C. Swept C m n gates work₀ k i work listed) × (i ≤ n) × (length work ≡ length work₀)

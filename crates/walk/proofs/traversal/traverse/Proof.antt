@@ -1,12 +1,9 @@
+-- `walk::traversal::traverse` meets its contract: nothing is listed at first. Assumes nothing.
 use native.Mathlib.Omega.{arith}
 use Rattle.walk.proofs.traversal.Loops.{sweep-at, traversed}
 use borrow.Author.Needs.{needs}
 use Rattle.walk.proofs.traversal.traverse.Statement.{statement}
 use Rattle.walk.proofs.traversal.traverse.Tie as tie
-use Rattle.walk.proofs.traversal.traverse.Reads as reads
-use Rattle.walk.proofs.traversal.traverse.Lts as lts
-use Rattle.columns.proofs.fill.Reads as fill-reads
-use Rattle.walk.proofs.traversal.sweep.Reads as sweep-reads
 
 fill-requires : tie.Need-fill-requires
 fill-requires c κs = let s = c .before .before .before .pre .at in (s .base .area, omega arith)

@@ -1,12 +1,9 @@
+-- `walk::traversal::visit` meets its contract: a stack of one pin is its visit. Assumes nothing.
 use native.Mathlib.Omega.{arith}
 use Rattle.walk.proofs.traversal.Loops.{visit-going, visited}
 use borrow.Author.Needs.{needs}
 use Rattle.walk.proofs.traversal.visit.Statement.{statement}
 use Rattle.walk.proofs.traversal.visit.Tie as tie
-use Rattle.walk.proofs.traversal.visit.Reads as reads
-use Rattle.walk.proofs.traversal.visit.Lts as lts
-use Rattle.walk.proofs.traversal.enter.Reads as enter-reads
-use Rattle.walk.proofs.traversal.run.Reads as run-reads
 
 enter-requires : tie.Need-enter-requires
 enter-requires c κs = let s = c .before .before .before .pre .at in (omega (arith, s .pin, s .going .reads .base .area .room), omega (arith, s .pin, s .going .reads .base .area .small))

@@ -1,0 +1,68 @@
+-- From one walk to the next: what each leaves is what the next asks, and together they make a stage's setting. Assumes nothing.
+use mathlib.Core.Path.{_≡_, refl, _∙_}
+use mathlib.Core.List.{List, []}
+use Prim.Native.Nat.{ℕ, _+_, _*_, _<_}
+use native.Mathlib.Omega.{arith}
+use lib.ListN.{getD}
+use Rattle.rules.specs.Lean.{startLevels, cellsHolding}
+use Rattle.columns.specs.Fields.{LEVEL, CELLS, REVERSE, MARK}
+use Rattle.columns.specs.Lists.{Marks}
+use Rattle.columns.proofs.Area.Frames.{frame-then, frame-more, frame-col}
+use Rattle.columns.proofs.Lists.Entries.{holds-frame}
+use Rattle.columns.proofs.Lists.Marks.{marks-frame}
+use Rattle.walk.specs.Stands.{Context, Begun, Set}
+use Rattle.walk.specs.Machine.{Traversed}
+use Rattle.walk.specs.Levels.{Along, Becomes, Levels, ReverseAt}
+use Rattle.walk.specs.Needed.{NeededAt}
+use Rattle.walk.specs.Ranking.{ListsAt, Lists}
+use Rattle.walk.specs.Prepared.{Prepared}
+use Rattle.walk.proofs.traversal.Loops.{begun-reads, begun-frame}
+use Rattle.walk.proofs.levels.Rising.{along-frame}
+
+module _ {C : Context} {m n k : ℕ} {gates w w₁ : List ℕ} (B : Begun C m n gates w) (T : Traversed C m w w₁ k) where
+  begun₁ : Begun C m n gates w₁
+  begun₁ = begun-frame B (T .frame) refl refl refl
+
+  pub step-levels : Along C m k gates w₁
+  step-levels = record { reads = begun-reads begun₁; ordered = record { order = T .order } }
+
+  module _ {top : ℕ} {w₂ : List ℕ} (L : Levels C m w₁ w₂ top) where
+    along₂ : Along C m k gates w₂
+    along₂ = along-frame step-levels (L .column .frame) refl refl
+
+    pub step-reverse : ReverseAt C m n k gates w₂
+    step-reverse = record { begun = begun-frame begun₁ (L .column .frame) refl refl refl; ordered = along₂ .ordered }
+
+    module _ {w₃ : List ℕ} (R : Becomes REVERSE m w₂ w₃ (startLevels (C .X))) where
+      begun₃ : Begun C m n gates w₃
+      begun₃ = begun-frame (step-reverse .begun) (R .frame) refl refl refl
+
+      pub step-lists : ListsAt C m k w₃
+      step-lists = record {
+        area = begun₃ .base .area;
+        size = begun₃ .base .size;
+        ordered = along-frame along₂ (R .frame) refl refl .ordered;
+        levelled = record { levels = frame-col (R .frame) LEVEL refl (omega arith) ∙ L .column .is };
+        reversed = record { reverse = R .is };
+      }
+
+      module _ {w₄ : List ℕ} (S : Lists C m w₃ w₄) where
+        pub step-all : Prepared C m n gates w w₄ k top
+        step-all = record {
+          frame = frame-then (frame-more refl (T .frame))
+              (frame-then (frame-more refl (L .column .frame))
+              (frame-then (frame-more refl (R .frame)) (frame-more refl (S .frame))));
+          set = record {
+            begun = begun-frame begun₃ (S .frame) refl refl refl;
+            ordered = record { order = holds-frame (step-lists .ordered .order) (S .frame) refl (omega arith) };
+            levelled = record { levels = frame-col (S .frame) LEVEL refl (omega arith) ∙ step-lists .levelled .levels };
+            listed = S .listed;
+          };
+          reversed = record { reverse = frame-col (S .frame) REVERSE refl (omega arith) ∙ R .is };
+          marks = marks-frame (marks-frame (marks-frame (T .marks) (L .column .frame) refl (omega arith)) (R .frame) refl (omega arith)) (S .frame) refl (omega arith);
+          most = L .most;
+        }
+
+-- needed pins, once the counts of a plan stand and no pin is marked
+pub step-needed : {C : Context} {m n k : ℕ} {gates w : List ℕ} → Set C m n k gates w → (pl : List ℕ) → ((x : ℕ) → x < m → getD w (CELLS * m + x) 0 ≡ cellsHolding (C .X .K) pl x) → Marks MARK m [] w → NeededAt C pl m n k gates w
+step-needed S pl c u = record { begun = S .begun; ordered = S .ordered; levelled = S .levelled; cells = c; unmarked = u }
