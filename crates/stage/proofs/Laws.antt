@@ -1,0 +1,10 @@
+pub mod Classes
+pub mod Close
+pub mod Words
+pub mod Writing
+pub mod Ends
+pub mod Runs
+pub mod Puts
+pub mod Written
+pub mod Rest
+pub mod Loop

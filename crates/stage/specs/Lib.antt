@@ -1,0 +1,7 @@
+pub mod Classes
+pub mod Close
+pub mod Words
+pub mod Runs
+pub mod Puts
+pub mod Rest
+pub mod Loop

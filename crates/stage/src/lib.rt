@@ -1,0 +1,8 @@
+// One stage: rules 1 to 11.
+mod classes;
+mod close;
+mod lean;
+mod puts;
+mod rest;
+mod runs;
+mod words;
