@@ -23,7 +23,7 @@ use Rattle.rules.proofs.Stage.Depth.{Ready}
 use Rattle.columns.proofs.Lists.Swap.{once-few}
 use Rattle.walk.specs.Stands.{Context}
 
-unfold-empty : (n : ℕ) → n ≤ 65536 → n ≤ empty
+pub unfold-empty : (n : ℕ) → n ≤ 65536 → n ≤ empty
 unfolding empty
 unfold-empty n h = omega arith
 
@@ -32,7 +32,7 @@ pub low-mark : (C : Context) → length (C .X .g) ≤ empty
 low-mark C = unfold-empty (length (C .X .g)) (C .small)
 
 -- what a stage is handed makes a context
-pub context : (K : ℕ) (g : List Node) (r : ℕ → ℕ) → Graph g r → 6 ≤ K → K ≤ 13 → length g ≤ 65536 → (done waiting : List ℕ) → Ready g r waiting → Context
+unfoldable pub context : (K : ℕ) (g : List Node) (r : ℕ → ℕ) → Graph g r → 6 ≤ K → K ≤ 13 → length g ≤ 65536 → (done waiting : List ℕ) → Ready g r waiting → Context
 unfolding setting
 context K g r G low high small done waiting R = record {
   X = setting K g done waiting;

@@ -1,0 +1,68 @@
+-- What the checks say of a graph and of lists of pins. Assumes nothing.
+use mathlib.Core.Path.{_≡_, refl, ap}
+use mathlib.Core.Bool.{Bool, true, _&&_}
+use mathlib.Core.List.{List, [], _∷_}
+use Prim.Native.Nat.{ℕ, zero, suc, _+_, _*_, _/_, _%_, _<_, _≤_}
+use native.Mathlib.Omega.{arith}
+use native.Mathlib.Nat.{div-add-mod'}
+use borrow.Author.Tests.{eqb-true, leb-true, ltb-true}
+use lib.Dec.{eqb, leb, ltb}
+use lib.ListN.{length, getD}
+use Rattle.rules.specs.Lists.{every}
+use Rattle.rules.specs.Graph.{Node, leaf, gate, pinOf, graphOf, pinCount}
+use Rattle.rules.specs.Checks.{nodesRight, graphRight, givenRight}
+use Rattle.rules.proofs.Lists.Members.{split, true-false, and-true}
+use Rattle.rules.proofs.Demand.{Valid}
+
+every-at : (f : ℕ → Bool) (xs : List ℕ) → every f xs ≡ true → (i : ℕ) → i < length xs → f (getD xs i 0) ≡ true
+unfolding every
+every-at f [] e i h = absurd (omega arith)
+every-at f (x ∷ xs) e zero h = split (f x) (λ d. d) (λ d. true-false (rw (d, every) at e) refl)
+every-at f (x ∷ xs) e (suc i) h = split (f x) (λ d. every-at f xs (rw (d, every) at e) i (omega arith)) (λ d. true-false (rw (d, every) at e) refl)
+
+pub pins-right : (n : ℕ) (xs : List ℕ) → givenRight n xs ≡ true → (i : ℕ) → i < length xs → getD xs i 0 < n
+unfolding givenRight
+pins-right n xs e i h = ltb-true (getD xs i 0) n (every-at (λ p. ltb p n) xs e i h)
+
+lower : (g : List Node) (q : ℕ) → nodesRight q g ≡ true → (i a b : ℕ) → getD g i leaf ≡ gate a b → (pinOf a < q + i) × (pinOf b < q + i)
+unfolding nodesRight
+lower [] q e i a b d = absurd (let z : _≡_ {A = ℕ} 0 1 = cc in omega arith)
+lower (leaf ∷ g) q e zero a b d = absurd (let z : _≡_ {A = ℕ} 0 1 = cc in omega arith)
+lower (leaf ∷ g) q e (suc i) a b d = let h = lower g (suc q) e i a b d in (omega (arith, h .0), omega (arith, h .1))
+lower (gate x y ∷ g) q e zero a b d =
+    let t = and-true (ltb 0 (pinOf x) && ltb (pinOf x) q && ltb 0 (pinOf y) && ltb (pinOf y) q) (nodesRight (suc q) g) e .0 in
+    let s = and-true (ltb 0 (pinOf x) && ltb (pinOf x) q && ltb 0 (pinOf y)) (ltb (pinOf y) q) t in
+    let r = and-true (ltb 0 (pinOf x) && ltb (pinOf x) q) (ltb 0 (pinOf y)) (s .0) .0 in
+    let o = and-true (ltb 0 (pinOf x)) (ltb (pinOf x) q) r .1 in
+    let ex : x ≡ a = cc in
+    let ey : y ≡ b = cc in
+    (rw (← ex) (omega (arith, ltb-true (pinOf x) q o)), rw (← ey) (omega (arith, ltb-true (pinOf y) q (s .1))))
+lower (gate x y ∷ g) q e (suc i) a b d =
+    let t = and-true (ltb 0 (pinOf x) && ltb (pinOf x) q && ltb 0 (pinOf y) && ltb (pinOf y) q) (nodesRight (suc q) g) e .1 in
+    let h = lower g (suc q) t i a b d in (omega (arith, h .0), omega (arith, h .1))
+
+pub length-graph : (m : ℕ) (gates : List ℕ) → length gates ≡ 2 * m → length (graphOf gates) ≡ m
+unfolding graphOf
+length-graph zero [] e = refl
+length-graph zero (a ∷ []) e = absurd (omega arith)
+length-graph zero (a ∷ b ∷ xs) e = absurd (omega arith)
+length-graph (suc m) [] e = absurd (omega arith)
+length-graph (suc m) (a ∷ []) e = absurd (omega arith)
+length-graph (suc m) (a ∷ b ∷ xs) e = ap suc (length-graph m xs (omega arith))
+
+pub record Right (m : ℕ) (gates : List ℕ) : Type 0 where
+  pub pair : length gates ≡ 2 * m
+  pub small : m ≤ 65536
+  pub valid : Valid (graphOf gates)
+
+pub graph-right : (gates : List ℕ) → graphRight gates ≡ true → Right (pinCount gates) gates
+unfolding graphRight pinCount
+graph-right gates e =
+    let t = and-true (eqb (length gates % 2) 0 && leb 1 (length gates / 2) && leb (length gates / 2) 65536) (nodesRight 0 (graphOf gates)) e in
+    let s = and-true (eqb (length gates % 2) 0 && leb 1 (length gates / 2)) (leb (length gates / 2) 65536) (t .0) in
+    let r = and-true (eqb (length gates % 2) 0) (leb 1 (length gates / 2)) (s .0) in
+    record {
+      pair = omega (arith, div-add-mod' (length gates) 2, eqb-true (length gates % 2) 0 (r .0));
+      small = leb-true (length gates / 2) 65536 (s .1);
+      valid = record { lower = λ p a b d. let h = lower (graphOf gates) 0 (t .1) p a b d in (omega (arith, h .0), omega (arith, h .1)) };
+    }
