@@ -61,9 +61,6 @@ module _ (C : Context) where
   pub two-most : (p : ℕ) → length (below (C .X .g) (C .X .done) p) ≤ 2
   two-most p = elim (two p) [ inl e ↦ rw e (omega arith) | inr k ↦ rw (k .2) (omega arith) ]
 
-  pub two-all : (p : ℕ) → 0 < length (below (C .X .g) (C .X .done) p) → length (below (C .X .g) (C .X .done) p) ≡ 2
-  two-all p h = elim (two p) [ inl e ↦ absurd (omega (arith, ap length e)) | inr k ↦ rw (k .2) ]
-
 module _ (C : Context) {m : ℕ} {gates w : List ℕ} (R : Reads C m gates w) where
   pub reads-frame : {fs : List ℕ} {w′ : List ℕ} → Frame fs m w w′ → among fs DONE ≡ false → Reads C m gates w′
   reads-frame fr e = record {

@@ -4,3 +4,4 @@ pub mod Levels
 pub mod Needed
 pub mod Ranking
 pub mod Prepared
+pub mod Choice

@@ -13,6 +13,7 @@ ghost use Rattle.rules.specs.Graph.{below};
 ghost use Rattle.walk.specs.Stands.{Some, Every, Begun, Reads};
 ghost use Rattle.walk.specs.Prepared.{Prepared};
 
+pub mod choice;
 pub mod levels;
 pub mod needed;
 pub mod ranking;
