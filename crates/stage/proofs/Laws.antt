@@ -8,3 +8,7 @@ pub mod Puts
 pub mod Written
 pub mod Rest
 pub mod Loop
+pub mod Ran
+pub mod Filled
+pub mod Closed
+pub mod Lasted

@@ -5,3 +5,4 @@ pub mod Runs
 pub mod Puts
 pub mod Rest
 pub mod Loop
+pub mod Ending

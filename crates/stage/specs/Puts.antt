@@ -3,7 +3,7 @@
 use mathlib.Core.Path.{_≡_}
 use mathlib.Core.Logic.{_≢_}
 use mathlib.Core.Bool.{Bool}
-use mathlib.Core.List.{List, [], _∷_, _++_, map}
+use mathlib.Core.List.{List, [], _∷_, map}
 use Prim.Native.Nat.{ℕ, _+_, _*_, _/_, _<_, _≤_}
 use lib.ListN.{length, getD, set, take, drop}
 use Rattle.rules.specs.Cells.{rowAt}
@@ -20,6 +20,7 @@ use Rattle.stage.specs.declared.puts.Puts.{Puts}
 use Rattle.stage.specs.declared.puts.Written.{Written}
 use Rattle.stage.specs.declared.runs.Runs.{Runs}
 use Rattle.stage.specs.Runs.{listed}
+use Rattle.stage.specs.Words.{laidAt}
 
 -- only what placing counts, and the realised pins, changed
 pub record Moved (m : ℕ) (w w′ : List ℕ) : Type 0 where
@@ -60,10 +61,6 @@ pub record RunAt (C : Context) (m half k a : ℕ) (s : Puts) (gates pl w : List 
   pub to : a + 32 ≤ half + half
 
 -- ---- words
-
--- a list over the numbers from `at` on
-unfoldable pub laidAt : ℕ → List ℕ → List ℕ → List ℕ
-laidAt at ws words = take at words ++ (ws ++ drop (at + length ws) words)
 
 -- as many of the words as may be written
 unfoldable pub noted : ℕ → ℕ → List ℕ → List ℕ → List ℕ

@@ -115,6 +115,10 @@ pub record Upped (m K : ℕ) (pl w w′ : List ℕ) (r : ℕ) : Type 0 where
 
 -- ---- writing
 
+-- a list over the numbers from `at` on
+unfoldable pub laidAt : ℕ → List ℕ → List ℕ → List ℕ
+laidAt at ws words = take at words ++ (ws ++ drop (at + length ws) words)
+
 pub record OneAt (m at j : ℕ) (words w : List ℕ) : Type 0 where
   pub area : Room m w
   pub word : j < 256
@@ -147,4 +151,4 @@ pub record Writing (m at j : ℕ) (ws words w words′ w′ : List ℕ) : Type 0
 pub record Written (m at : ℕ) (ws words w words′ w′ : List ℕ) : Type 0 where
   pub kept : Kept m w w′
   pub clear : (i : ℕ) → i < 256 → getD w′ (16 * m + i) 0 ≡ 0
-  pub stands : words′ ≡ take at words ++ (ws ++ drop (at + length ws) words)
+  pub stands : words′ ≡ laidAt at ws words

@@ -1,6 +1,7 @@
 // One stage: rules 1 to 11.
 mod classes;
 mod close;
+mod ending;
 mod lean;
 mod puts;
 mod rest;

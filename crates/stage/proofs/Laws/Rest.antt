@@ -37,7 +37,7 @@ use Rattle.stage.specs.Rest.{PinAt, Pinned, RestAt, Resting, answer, Res
 use Rattle.stage.proofs.Laws.Words.{row-high}
 use Rattle.stage.proofs.Laws.Classes.{or-some}
 
-not-zero : (x : ℕ) → not (eqb x 0) ≡ ltb 0 x
+pub not-zero : (x : ℕ) → not (eqb x 0) ≡ ltb 0 x
 not-zero zero = refl
 not-zero (suc x) = rw (ne-eqb (suc x) 0 (λ e. omega arith), lt-ltb 0 (suc x) (omega arith)) refl
 

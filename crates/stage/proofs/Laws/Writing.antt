@@ -12,7 +12,7 @@ use Rattle.rules.specs.Lists.{mem}
 use Rattle.rules.proofs.Lists.Members.{split, in-getD, getD-in}
 use Rattle.rules.proofs.Tree.Loads.{ltb-true, ltb-false}
 use Rattle.columns.proofs.Area.Frames.{frame-room}
-use Rattle.stage.specs.Words.{OneAt, One, WriteAt, Writing, Written}
+use Rattle.stage.specs.Words.{OneAt, One, WriteAt, Writing, laidAt, Written}
 use Rattle.stage.proofs.Laws.Words.{kept-none, kept-then, kept-set}
 
 -- ---- one word
@@ -122,6 +122,7 @@ module _ {m at n : ℕ} {ws words w : List ℕ} (W : WriteAt m at n ws words w) 
         (λ b. let y : i ≡ at + length ws + (i - at - length ws) = omega (arith, ltb-false (i - at) (length ws) b) in rw y (past (i - at - length ws))))
 
     pub writing-done : Written m at ws words w words₁ w₁
+    unfolding laidAt
     writing-done = record {
       kept = Y .kept;
       clear = λ i b. Y .gone i (omega arith);

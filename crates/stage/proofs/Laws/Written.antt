@@ -23,7 +23,8 @@ use Rattle.stage.specs.declared.puts.Puts.{Puts}
 use Rattle.stage.specs.declared.runs.Sparse.{Sparse}
 use Rattle.stage.specs.declared.runs.Runs.{Runs}
 use Rattle.stage.specs.Runs.{known, listed}
-use Rattle.stage.specs.Puts.{putOf, RunAt, laidAt, noted, Noted, RecordAt, PutRecord, wordsOf, WriteAt, Writing, Wrote}
+use Rattle.stage.specs.Words.{laidAt}
+use Rattle.stage.specs.Puts.{putOf, RunAt, noted, Noted, RecordAt, PutRecord, wordsOf, WriteAt, Writing, Wrote}
 use Rattle.stage.proofs.Laws.Runs.{map-append, listed-length, listed-next, listed-take}
 use Rattle.stage.proofs.Laws.Words.{row-high}
 use Rattle.stage.proofs.Laws.Puts.{moved-none, moved-then}
