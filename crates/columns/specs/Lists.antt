@@ -33,6 +33,10 @@ bit false = 0
 pub record Marks (g m : ℕ) (xs w : List ℕ) : Type 0 where
   pub mark : (p : ℕ) → p < m → getD w (g * m + p) 0 ≡ bit (mem p xs)
 
+-- column g is 0 throughout
+pub record Clear (g m : ℕ) (w : List ℕ) : Type 0 where
+  pub zero : (p : ℕ) → p < m → getD w (g * m + p) 0 ≡ 0
+
 -- a list of pins in column f, each once, and marked in column g
 pub record Marked (f g m n : ℕ) (xs w : List ℕ) : Type 0 where
   pub held : Holds f m n xs w
