@@ -19,7 +19,6 @@ pub use sizes::lent_sized;
 pub use sizes::plan_sized;
 pub use sizes::take_eights;
 pub use sizes::work_left;
-ghost use Prim.Native.Nat.{_<_};
 ghost use mathlib.Core.Path.{_≡_};
 ghost use lib.ListN.{getD};
 ghost use Rattle.rules.specs.Graph.{leaf, pinOf, inversionOf, nodeOf, graphOf, pinCount};
@@ -87,11 +86,13 @@ fn node_of(a: u32, b: u32) -> Node
     Node::Gate(Literal(a), Literal(b))
 }
 
-// The pin of the literal at an index of a lent graph, as an index.
+// The pin of the literal at an index of a lent graph, as an index; 0 past its end.
 pub fn operand(gates: &[u32], at: usize) -> usize
-    requires { do ⌜ at < (← ⟦gates.len()⟧) ⌝ }
     ensures { λ r. ⌜ r ≡ pinOf (getD (now (gates .entry)) at 0) ⌝ }
 {
+    if gates.len() <= at {
+        return 0;
+    }
     wide(pin_of(Literal(gates[at])).0)
 }
 

@@ -119,7 +119,7 @@ split-gate-mul-operand : (t : ℕ) → split-gate-lts.Need-mul-operand (split-ga
 split-gate-mul-operand t c = let A = c .before .before .before .pre .1 .at in omega (arith, split-pin A, A .base .area .small)
 
 split-gate-operand-requires : (t : ℕ) → split-gate-lts.Need-operand-requires (split-gate-claims t) (split-gate-at t) split-gate.Post
-split-gate-operand-requires t c κs = let A = c .before .before .before .pre .1 .at in omega (arith, split-pin A, A .base .pair)
+split-gate-operand-requires t c κs = search needs
 
 split-gate-mul-operand-2 : (t : ℕ) → split-gate-lts.Need-mul-operand-2 (split-gate-claims t) (split-gate-at t) split-gate.Post
 split-gate-mul-operand-2 t c = let A = c .before .before .before .before .pre .1 .at in omega (arith, split-pin A, A .base .area .small)
@@ -128,7 +128,7 @@ split-gate-add-operand : (t : ℕ) → split-gate-lts.Need-add-operand (split-ga
 split-gate-add-operand t c = let A = c .before .before .before .before .pre .1 .at in omega (arith, split-pin A, A .base .area .small)
 
 split-gate-operand-requires-2 : (t : ℕ) → split-gate-lts.Need-operand-requires-2 (split-gate-claims t) (split-gate-at t) split-gate.Post
-split-gate-operand-requires-2 t c κs = let A = c .before .before .before .before .pre .1 .at in omega (arith, split-pin A, A .base .pair)
+split-gate-operand-requires-2 t c κs = search needs
 
 split-gate-sub-next : (t : ℕ) → split-gate-lts.Need-sub-next (split-gate-claims t) (split-gate-at t) split-gate.Post
 split-gate-sub-next t c = omega (arith, c .before .before .before .before .before .pre .1 .at .above)
