@@ -1,12 +1,12 @@
 // Edge cases of cells and graph: limits, one short of each size, empty slices, huge numbers. Each line is one case.
 use cells::Height;
 use cells::MaybeHeight;
-use graph::Left;
 use graph::Literal;
 use graph::MaybeLiteral;
 use graph::Node;
 use graph::Pin;
 use libc::STDOUT_FILENO;
+use sizes::Left;
 
 const EMPTY: u32 = 4294967295;
 
@@ -275,7 +275,7 @@ fn node_cases(gates: &[u32]) {
 }
 
 fn kind(number: u32) {
-    say(graph::size_of(graph::kind_of(number)));
+    say(records::size_of(records::kind_of(number)));
 }
 
 fn kinds() {
@@ -292,8 +292,8 @@ fn kinds() {
 
 fn record(records: &[u32], at: usize, i: usize) {
     io::write_all(STDOUT_FILENO, b"record");
-    say(graph::size_at(records, at));
-    say_u32(graph::endpoint(records, at, i).0);
+    say(records::size_at(records, at));
+    say_u32(records::endpoint(records, at, i).0);
     end();
 }
 
@@ -337,12 +337,12 @@ fn memory_cases(xs: &[u32]) {
 // What is left of a work area, and whether 8 numbers are.
 fn area(gates: usize, records: usize, work: usize) {
     io::write_all(STDOUT_FILENO, b"work");
-    let left = graph::work_left(gates, records, work);
+    let left = sizes::work_left(gates, records, work);
     match left {
         Left::Room(n) => say(n),
         Left::Short => {}
     }
-    say_bool(graph::has_room(graph::take_eights(left, 1)));
+    say_bool(sizes::has_room(sizes::take_eights(left, 1)));
     end();
 }
 
@@ -364,7 +364,7 @@ fn huge_areas() {
 }
 
 fn size(height: u32, plan: usize, words: usize, counts: usize, work: usize) {
-    say_bool(graph::areas_sized(height, 4, 2, plan, words, counts, work));
+    say_bool(sizes::areas_sized(height, 4, 2, plan, words, counts, work));
 }
 
 // The sizes of a build for one pin and one output, with one of them another.
@@ -393,7 +393,7 @@ fn first(height: u32, words: usize) {
     let gates = [EMPTY, EMPTY, EMPTY, EMPTY];
     let given = [1];
     let xs = [1, 2];
-    say_u32(graph::check(height, &gates, &given, &xs, 128, words, 1, 560));
+    say_u32(checks::check(height, &gates, &given, &xs, 128, words, 1, 560));
 }
 
 // The first refusal counts.
@@ -409,7 +409,7 @@ fn first_refusals() {
 
 fn refused(gates: &[u32], given: &[u32], xs: &[u32]) {
     io::write_all(STDOUT_FILENO, b"refusal");
-    say_u32(graph::refusal(6, true, gates, given, xs));
+    say_u32(checks::refusal(6, true, gates, given, xs));
     end();
 }
 

@@ -1,24 +1,4 @@
-// Pins, literals, the gates of a lent graph, endpoint records, and the checks 1 to 5. Every exported function takes any numbers
-// and slices.
-mod checks;
-mod records;
-mod sizes;
-
-pub use checks::check;
-pub use checks::refusal;
-pub use records::Kind;
-pub use records::endpoint;
-pub use records::kind_of;
-pub use records::named;
-pub use records::size_at;
-pub use records::size_of;
-pub use sizes::Left;
-pub use sizes::areas_sized;
-pub use sizes::has_room;
-pub use sizes::lent_sized;
-pub use sizes::plan_sized;
-pub use sizes::take_eights;
-pub use sizes::work_left;
+// Pins, literals and the gates of a lent graph. Every exported function takes any numbers and slices.
 ghost use mathlib.Core.Path.{_≡_};
 ghost use lib.ListN.{getD};
 ghost use Rattle.rules.specs.Graph.{leaf, pinOf, inversionOf, nodeOf, graphOf, pinCount};
@@ -75,7 +55,8 @@ pub fn pin_count(gates: &[u32]) -> usize
     gates.len() / 2
 }
 
-fn node_of(a: u32, b: u32) -> Node
+// What two numbers of a lent graph say of their pin.
+pub fn node_of(a: u32, b: u32) -> Node
     ensures { λ r. ⌜ nodeFor r ≡ nodeOf a b ⌝ }
 {
     if a == EMPTY {
@@ -107,7 +88,8 @@ pub fn node_at(gates: &[u32], pin: Pin) -> Node
     node_of(gates[2 * p], gates[2 * p + 1])
 }
 
-fn wide(x: u32) -> usize
+// A number as an index.
+pub fn wide(x: u32) -> usize
     ensures { λ r. ⌜ r ≡ x ⌝ }
 {
     x as usize

@@ -1,4 +1,5 @@
 pub mod Bench
+pub mod Bools
 pub mod Cells
 pub mod Lists
 pub mod Walk

@@ -1,5 +1,5 @@
 use mathlib.Core.Logic.{inl, inr}
-use Rattle.graph.proofs.Laws.Gates.{literal-made, literal-refused}
+use Rattle.graph.proofs.Gates.{literal-made, literal-refused}
 use borrow.Author.Needs.{needs}
 use Rattle.graph.proofs.literal_of.Statement.{statement}
 use Rattle.graph.proofs.literal_of.Tie as tie

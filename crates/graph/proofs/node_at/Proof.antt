@@ -2,7 +2,7 @@ use native.Mathlib.Omega.{arith}
 use mathlib.Core.Path.{_∙_}
 use denote.Ref.{now}
 use Rattle.graph.specs.Values.{nodeFor}
-use Rattle.graph.proofs.Laws.Gates.{node-past, node-inside, node-there}
+use Rattle.graph.proofs.Gates.{node-past, node-inside, node-there}
 use borrow.Author.Needs.{needs}
 use Rattle.graph.proofs.node_at.Statement.{statement}
 use Rattle.graph.proofs.node_at.Tie as tie

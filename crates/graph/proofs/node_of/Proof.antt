@@ -1,6 +1,6 @@
 use mathlib.Core.Logic.{inl, inr}
 use Rattle.graph.specs.Values.{nodeFor}
-use Rattle.graph.proofs.Laws.Gates.{node-leaf, node-gate}
+use Rattle.graph.proofs.Gates.{node-leaf, node-gate}
 use Rattle.graph.proofs.node_of.Statement.{statement}
 use Rattle.graph.proofs.node_of.Tie as tie
 

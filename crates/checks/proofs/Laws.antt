@@ -1,0 +1,4 @@
+pub mod Gates
+pub mod Turns
+pub mod Refusing
+pub mod Passed

@@ -1,0 +1,168 @@
+-- What passing the checks 1 to 5 gives. Assumes nothing.
+use Prim.Native.Nat.{ℕ, zero, suc, _+_, _*_, _%_, _≤_, _<_}
+use mathlib.Core.Bool.{Bool, true, _&&_}
+use mathlib.Core.List.{List, [], _∷_}
+use mathlib.Core.Path.{_≡_, refl, sym, ap, _∙_}
+use mathlib.Core.Logic.{inl, inr}
+use native.Mathlib.Omega.{arith}
+use lib.Dec.{leb, ltb, eqb}
+use lib.ListN.{length, getD, drop}
+use borrow.Author.Tests.{leb-true, ltb-true, eqb-true}
+use Rattle.rules.specs.Lists.{every}
+use Rattle.rules.specs.Cells.{isHeight}
+use Rattle.rules.specs.Graph.{Node, leaf, gate, pinOf, graphOf, pinCount}
+use Rattle.rules.specs.Records.{Group, Groups?, unreadable, groups, sizeOf, groupAt, wholeAt, andThen, read, endpointsOf, allNamed, groupsOf}
+use Rattle.rules.specs.Checks.{nodesRight, graphRight, groupsRight, recordsRight, givenRight, refusalOf}
+use Rattle.rules.proofs.Lists.Members.{In, split, and-true, true-false, in-cons, in-nil, in-getD}
+use Rattle.rules.proofs.Demand.{Valid, Ends, first, later}
+use Rattle.records.specs.Values.{sizeAt, endpointAt}
+use Rattle.graph.proofs.Gates.{graph-length}
+use Rattle.records.proofs.Reading.{read-step, read-end, read-cut, size-endpoints, endpoint-is}
+use Rattle.checks.proofs.Laws.Refusing.{refusal-1, refusal-2, refusal-3, refusal-4, refusal-5}
+
+-- a gate's pins are above 0 and below the gate's own
+pub record Below (p a b : ℕ) : Type 0 where
+  pub first-above : 0 < pinOf a
+  pub first-below : pinOf a < p
+  pub second-above : 0 < pinOf b
+  pub second-below : pinOf b < p
+
+gate-below : (p a b : ℕ) (g : List Node) → nodesRight p (gate a b ∷ g) ≡ true → Below p a b × (nodesRight (suc p) g ≡ true)
+unfolding nodesRight
+gate-below p a b g e =
+    let w = and-true (ltb 0 (pinOf a) && ltb (pinOf a) p && ltb 0 (pinOf b) && ltb (pinOf b) p) (nodesRight (suc p) g) e in
+    let z = and-true (ltb 0 (pinOf a) && ltb (pinOf a) p && ltb 0 (pinOf b)) (ltb (pinOf b) p) (w .0) in
+    let y = and-true (ltb 0 (pinOf a) && ltb (pinOf a) p) (ltb 0 (pinOf b)) (z .0) in
+    let x = and-true (ltb 0 (pinOf a)) (ltb (pinOf a) p) (y .0) in
+    (record { first-above = ltb-true _ _ (x .0); first-below = ltb-true _ _ (x .1); second-above = ltb-true _ _ (y .1); second-below = ltb-true _ _ (z .1) }, w .1)
+
+same-gate : {a b c d : ℕ} → gate a b ≡ gate c d → (a ≡ c) × (b ≡ d)
+same-gate e = (cc, cc)
+
+gates-below : (n : ℕ) (g : List Node) → nodesRight n g ≡ true → (p a b : ℕ) → getD g p leaf ≡ gate a b → Below (n + p) a b
+unfolding nodesRight
+gates-below n [] r p a b e = absurd (let z : _≡_ {A = ℕ} 0 1 = cc in omega arith)
+gates-below n (leaf ∷ g) r zero a b e = absurd (let z : _≡_ {A = ℕ} 0 1 = cc in omega arith)
+gates-below n (leaf ∷ g) r (suc p) a b e = let d : n + suc p ≡ suc n + p = omega arith in rw d (gates-below (suc n) g r p a b e)
+gates-below n (gate c d ∷ g) r zero a b e =
+    let s = same-gate e in
+    let z : n + 0 ≡ n = omega arith in
+    rw (z, ← s .0, ← s .1) (gate-below n c d g r .0)
+gates-below n (gate c d ∷ g) r (suc p) a b e = let z : n + suc p ≡ suc n + p = omega arith in rw z (gates-below (suc n) g (gate-below n c d g r .1) p a b e)
+
+every-in : (f : ℕ → Bool) (q : ℕ) (xs : List ℕ) → every f xs ≡ true → In q xs → f q ≡ true
+unfolding every
+every-in f q [] e i = in-nil q i
+every-in f q (x ∷ xs) e i = split (f x)
+    (λ t. elim (in-cons q x xs i) [ inl d ↦ rw d t | inr d ↦ every-in f q xs (rw (t, every) at e) d ])
+    (λ t. true-false e (rw (t, every)))
+
+named-below : (n q : ℕ) (gs : List Group) → allNamed n gs ≡ true → Ends q gs → q < n
+unfolding allNamed
+named-below n q (x ∷ gs) e (first i) = ltb-true q n (every-in (λ p. ltb p n) q (endpointsOf x) (and-true (every (λ p. ltb p n) (endpointsOf x)) (allNamed n gs) e .0) i)
+named-below n q (x ∷ gs) e (later i) = named-below n q gs (and-true (every (λ p. ltb p n) (endpointsOf x)) (allNamed n gs) e .1) i
+
+-- readable records with right pins
+all-read : (n : ℕ) (r : Groups?) → groupsRight n r ≡ true → (gs : List Group) × (r ≡ groups gs) × (allNamed n gs ≡ true)
+unfolding groupsRight
+all-read n unreadable e = true-false e refl
+all-read n (groups gs) e = (gs, refl, e)
+
+pub groups-of : (xs : List ℕ) (gs : List Group) → read xs ≡ groups gs → groupsOf xs ≡ gs
+unfolding groupsOf
+groups-of xs gs e = rw (e, groupsOf)
+
+pub record Passed (K : ℕ) (sized : Bool) (gates given records : List ℕ) : Type 0 where
+  pub height : isHeight K ≡ true
+  pub areas : sized ≡ true
+  pub even : length gates ≡ 2 * pinCount gates
+  pub some : 1 ≤ pinCount gates
+  pub few : pinCount gates ≤ 65536
+  pub pins : length (graphOf gates) ≡ pinCount gates
+  pub below : (p a b : ℕ) → getD (graphOf gates) p leaf ≡ gate a b → Below p a b
+  pub valid : Valid (graphOf gates)
+  pub short : length records ≤ 65536
+  pub readable : read records ≡ groups (groupsOf records)
+  pub named : (q : ℕ) → Ends q (groupsOf records) → q < pinCount gates
+  pub given-named : (q : ℕ) → In q given → q < pinCount gates
+
+graph-passed : (gates : List ℕ) → graphRight gates ≡ true → (length gates ≡ 2 * pinCount gates) × (1 ≤ pinCount gates) × (pinCount gates ≤ 65536) × (nodesRight 0 (graphOf gates) ≡ true)
+unfolding graphRight pinCount
+graph-passed gates e =
+    let z = and-true (eqb (length gates % 2) 0 && leb 1 (pinCount gates) && leb (pinCount gates) 65536) (nodesRight 0 (graphOf gates)) e in
+    let y = and-true (eqb (length gates % 2) 0 && leb 1 (pinCount gates)) (leb (pinCount gates) 65536) (z .0) in
+    let x = and-true (eqb (length gates % 2) 0) (leb 1 (pinCount gates)) (y .0) in
+    let d : length gates % 2 ≡ 0 = eqb-true _ _ (x .0) in
+    (omega arith, leb-true _ _ (x .1), leb-true _ _ (y .1), z .1)
+
+module _ (K : ℕ) (sized : Bool) (gates given records : List ℕ) (e : refusalOf K sized gates given records ≡ 0) where
+  checked : (isHeight K ≡ true) × (sized ≡ true) × (graphRight gates ≡ true) × (recordsRight (pinCount gates) records ≡ true) × (givenRight (pinCount gates) given ≡ true)
+  checked =
+      split (isHeight K)
+      (λ h. split sized
+      (λ s. split (graphRight gates)
+      (λ g. split (recordsRight (pinCount gates) records)
+      (λ r. split (givenRight (pinCount gates) given)
+      (λ v. (h, s, g, r, v))
+      (λ t. absurd (omega (arith, refusal-5 K sized gates given records h s g (pinCount gates) refl r t))))
+      (λ t. absurd (omega (arith, refusal-4 K sized gates given records h s g (pinCount gates) refl t))))
+      (λ t. absurd (omega (arith, refusal-3 K sized gates given records h s t))))
+      (λ t. absurd (omega (arith, refusal-2 K sized gates given records h t))))
+      (λ t. absurd (omega (arith, refusal-1 K sized gates given records t)))
+
+  pub passed : Passed K sized gates given records
+  unfolding recordsRight givenRight
+  passed =
+      let c = checked in
+      let g = graph-passed gates (c .2) in
+      let r = and-true (leb (length records) 65536) (groupsRight (pinCount gates) (read records)) (c .3) in
+      let a = all-read (pinCount gates) (read records) (r .1) in
+      let o : groupsOf records ≡ a .0 = groups-of records (a .0) (a .1) in
+      let b : (p x y : ℕ) → getD (graphOf gates) p leaf ≡ gate x y → Below p x y = λ p x y q. let z : 0 + p ≡ p = omega arith in rw z at (gates-below 0 (graphOf gates) (g .3) p x y q) in
+      record {
+        height = c .0;
+        areas = c .1;
+        even = g .0;
+        some = g .1;
+        few = g .2;
+        pins = graph-length gates;
+        below = b;
+        valid = record { lower = λ p x y q. (b p x y q .first-below, b p x y q .second-below) };
+        short = leb-true _ _ (r .0);
+        readable = a .1 ∙ ap groups (sym o);
+        named = λ q i. named-below (pinCount gates) q (a .0) (a .2) (rw o at i);
+        given-named = λ q i. ltb-true q (pinCount gates) (every-in (λ p. ltb p (pinCount gates)) q given (c .4) i);
+      }
+
+-- the groups that are still to be read at an index
+pub record Next (xs : List ℕ) (at : ℕ) (gs : List Group) : Type 0 where
+  pub whole : wholeAt (drop at xs) ≡ true
+  pub rest : List Group
+  pub these : gs ≡ groupAt (drop at xs) ∷ rest
+  pub others : read (drop (at + (1 + sizeOf (getD xs at 0))) xs) ≡ groups rest
+
+and-rest : (x : Group) (r : Groups?) (gs : List Group) → andThen x r ≡ groups gs → (rest : List Group) × (gs ≡ x ∷ rest) × (r ≡ groups rest)
+unfolding andThen
+and-rest x unreadable gs e = absurd (let z : _≡_ {A = ℕ} 0 1 = cc in omega arith)
+and-rest x (groups rest) gs e = (rest, cc, refl)
+
+module _ (xs : List ℕ) (at : ℕ) (gs : List Group) (e : read (drop at xs) ≡ groups gs) where
+  -- below the end a whole record stands, and is the first of them
+  pub read-next : at < length xs → Next xs at gs
+  read-next h = split (wholeAt (drop at xs))
+      (λ t. let r = and-rest (groupAt (drop at xs)) (read (drop (at + (1 + sizeOf (getD xs at 0))) xs)) gs (sym (read-step xs at t) ∙ e) in record { whole = t; rest = r .0; these = r .1; others = r .2 })
+      (λ t. absurd (let d : unreadable ≡ groups gs = sym (read-cut xs at h t) ∙ e in let z : _≡_ {A = ℕ} 0 1 = cc in omega arith))
+
+  pub read-last : length xs ≤ at → gs ≡ []
+  read-last h = let d : groups [] ≡ groups gs = sym (read-end xs at h) ∙ e in cc
+
+-- its pins, and those of the records behind it, are below what bounds them all
+module _ (xs : List ℕ) (at : ℕ) (gs : List Group) (n : Next xs at gs) (m : ℕ) (b : (q : ℕ) → Ends q gs → q < m) where
+  pub endpoint-below : (i : ℕ) → i < sizeAt xs at → endpointAt xs at i < m
+  endpoint-below i h =
+      let g = endpointsOf (groupAt (drop at xs)) in
+      let d : In (getD g i 0) g = in-getD g i 0 (omega (arith, size-endpoints xs at (n .whole))) in
+      rw (endpoint-is xs at (n .whole) i) (b (getD g i 0) (rw (n .these) (first d)))
+
+  pub rest-below : (q : ℕ) → Ends q (n .rest) → q < m
+  rest-below q e = b q (rw (n .these) (later e))
