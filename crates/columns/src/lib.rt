@@ -132,6 +132,16 @@ pub fn fill(work: &mut [u32], m: usize, f: usize, v: u32)
     fill_part(&mut work[a..e], v);
 }
 
+// The first n numbers of column f become 0.
+pub fn clear_front(work: &mut [u32], m: usize, n: usize, f: usize)
+    requires { do ⌜ f * m + n ≤ (← ⟦work.len()⟧) ⌝ }
+    ensures { λ _. ⌜ now (work .exit) ≡ put f m (now (work .entry)) (replicate n 0) ⌝ }
+{
+    let from = f * m;
+    let to = from + n;
+    fill_part(&mut work[from..to], 0);
+}
+
 // The tail's first n numbers become v.
 pub fn fill_tail(work: &mut [u32], m: usize, n: usize, v: u32)
     requires { do ⌜ 16 * m + n ≤ (← ⟦work.len()⟧) ⌝ }

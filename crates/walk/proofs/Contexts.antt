@@ -1,7 +1,7 @@
 -- A context from what a stage is handed, and the bounds that hold in every context: levels are below N + 1, lists of listed pins are no longer than that. Assumes nothing.
 use mathlib.Core.Path.{_≡_, refl, _∙_, ap}
 use mathlib.Core.List.{List, reverse}
-use Prim.Native.Nat.{ℕ, zero, suc, _+_, _<_, _≤_}
+use Prim.Native.Nat.{ℕ, zero, suc, _<_, _≤_}
 use native.Mathlib.Omega.{arith}
 use lib.ListN.{length, length-reverse}
 use Rattle.rules.specs.Lists.{distinct, gather}

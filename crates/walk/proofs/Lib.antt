@@ -1,3 +1,4 @@
 pub mod Contexts
 pub mod Gates
 pub mod Steps
+pub mod Forgets

@@ -1,41 +1,52 @@
 -- From one walk to the next: what each leaves is what the next asks, and together they make a stage's setting. Assumes nothing.
 use mathlib.Core.Path.{_≡_, refl, _∙_}
-use mathlib.Core.List.{List, []}
+use mathlib.Core.List.{List, [], _∷_}
 use Prim.Native.Nat.{ℕ, _+_, _*_, _<_}
 use native.Mathlib.Omega.{arith}
 use lib.ListN.{getD}
 use Rattle.rules.specs.Lean.{startLevels, cellsHolding}
+use Rattle.columns.specs.Area.{Frame}
 use Rattle.columns.specs.Fields.{LEVEL, CELLS, REVERSE, MARK}
 use Rattle.columns.specs.Lists.{Marks}
 use Rattle.columns.proofs.Area.Frames.{frame-then, frame-more, frame-col}
 use Rattle.columns.proofs.Lists.Entries.{holds-frame}
 use Rattle.columns.proofs.Lists.Marks.{marks-frame}
+use Rattle.columns.proofs.Lists.Clears.{clear-frame}
 use Rattle.walk.specs.Stands.{Context, Begun, Set}
-use Rattle.walk.specs.Machine.{Traversed}
-use Rattle.walk.specs.Levels.{Along, Becomes, Levels, ReverseAt}
+use Rattle.walk.specs.Machine.{walked, TraverseAt, Traversed}
+use Rattle.walk.specs.Levels.{Along, Becomes, LevelsAt, Levels, ReverseAt}
 use Rattle.walk.specs.Needed.{NeededAt}
 use Rattle.walk.specs.Ranking.{ListsAt, Lists}
-use Rattle.walk.specs.Prepared.{Prepared}
+use Rattle.walk.specs.Prepared.{PrepareAt, Prepared}
 use Rattle.walk.proofs.traversal.Loops.{begun-reads, begun-frame}
 use Rattle.walk.proofs.levels.Rising.{along-frame}
 
-module _ {C : Context} {m n k : ℕ} {gates w w₁ : List ℕ} (B : Begun C m n gates w) (T : Traversed C m w w₁ k) where
-  begun₁ : Begun C m n gates w₁
-  begun₁ = begun-frame B (T .frame) refl refl refl
+pub step-traverse : {C : Context} {m n : ℕ} {gates w : List ℕ} → PrepareAt C m n gates w → TraverseAt C m n gates w
+step-traverse A = record { begun = A .begun; clear = A .fresh .listed }
 
-  pub step-levels : Along C m k gates w₁
-  step-levels = record { reads = begun-reads begun₁; ordered = record { order = T .order } }
+module _ {C : Context} {m n k : ℕ} {gates w w₁ : List ℕ} (A : PrepareAt C m n gates w) (T : Traversed C m w w₁ k) where
+  begun₁ : Begun C m n gates w₁
+  begun₁ = begun-frame (A .begun) (T .frame) refl refl refl
+
+  pub step-levels : LevelsAt C m k gates w₁
+  step-levels = record { along = record { reads = begun-reads begun₁; ordered = record { order = T .order } }; clear = clear-frame (A .fresh .levels) (T .frame) refl (omega arith) }
 
   module _ {top : ℕ} {w₂ : List ℕ} (L : Levels C m w₁ w₂ top) where
+    frame₂ : Frame (LEVEL ∷ walked) m w w₂
+    frame₂ = frame-then (frame-more refl (T .frame)) (frame-more refl (L .column .frame))
+
     along₂ : Along C m k gates w₂
-    along₂ = along-frame step-levels (L .column .frame) refl refl
+    along₂ = along-frame (step-levels .along) (L .column .frame) refl refl
 
     pub step-reverse : ReverseAt C m n k gates w₂
-    step-reverse = record { begun = begun-frame begun₁ (L .column .frame) refl refl refl; ordered = along₂ .ordered }
+    step-reverse = record { begun = begun-frame (A .begun) frame₂ refl refl refl; ordered = along₂ .ordered; clear = clear-frame (A .fresh .reverse) frame₂ refl (omega arith) }
 
     module _ {w₃ : List ℕ} (R : Becomes REVERSE m w₂ w₃ (startLevels (C .X))) where
+      frame₃ : Frame (REVERSE ∷ LEVEL ∷ walked) m w w₃
+      frame₃ = frame-then (frame-more refl frame₂) (frame-more refl (R .frame))
+
       begun₃ : Begun C m n gates w₃
-      begun₃ = begun-frame (step-reverse .begun) (R .frame) refl refl refl
+      begun₃ = begun-frame (A .begun) frame₃ refl refl refl
 
       pub step-lists : ListsAt C m k w₃
       step-lists = record {
@@ -44,14 +55,15 @@ module _ {C : Context} {m n k : ℕ} {gates w w₁ : List ℕ} (B : Begun C m n 
         ordered = along-frame along₂ (R .frame) refl refl .ordered;
         levelled = record { levels = frame-col (R .frame) LEVEL refl (omega arith) ∙ L .column .is };
         reversed = record { reverse = R .is };
+        starts = clear-frame (A .fresh .starts) frame₃ refl (omega arith);
+        ends = clear-frame (A .fresh .ends) frame₃ refl (omega arith);
+        spare = clear-frame (A .fresh .spare) frame₃ refl (omega arith);
       }
 
-      module _ {w₄ : List ℕ} (S : Lists C m w₃ w₄) where
+      module _ {w₄ : List ℕ} (S : Lists C m k w₃ w₄) where
         pub step-all : Prepared C m n gates w w₄ k top
         step-all = record {
-          frame = frame-then (frame-more refl (T .frame))
-              (frame-then (frame-more refl (L .column .frame))
-              (frame-then (frame-more refl (R .frame)) (frame-more refl (S .frame))));
+          frame = frame-then (frame-more refl frame₃) (frame-more refl (S .frame));
           set = record {
             begun = begun-frame begun₃ (S .frame) refl refl refl;
             ordered = record { order = holds-frame (step-lists .ordered .order) (S .frame) refl (omega arith) };
@@ -61,6 +73,7 @@ module _ {C : Context} {m n k : ℕ} {gates w w₁ : List ℕ} (B : Begun C m n 
           reversed = record { reverse = frame-col (S .frame) REVERSE refl (omega arith) ∙ R .is };
           marks = marks-frame (marks-frame (marks-frame (T .marks) (L .column .frame) refl (omega arith)) (R .frame) refl (omega arith)) (S .frame) refl (omega arith);
           most = L .most;
+          beyond = S .beyond;
         }
 
 -- needed pins, once the counts of a plan stand and no pin is marked

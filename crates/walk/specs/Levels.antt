@@ -2,13 +2,13 @@
 use mathlib.Core.Path.{_≡_}
 use mathlib.Core.List.{List, [], _∷_, map, reverse}
 use Prim.Native.Nat.{ℕ, _+_, _-_, _*_, _<_, _≤_}
-use lib.ListN.{getD, take, replicate}
+use lib.ListN.{getD, take}
 use Rattle.rules.specs.Graph.{below}
 use Rattle.rules.specs.Traversal.{thread, levels, levelAt, greatest, lift}
 use Rattle.rules.proofs.Lists.Members.{In}
 use Rattle.columns.specs.Area.{Room, Frame, col}
 use Rattle.columns.specs.Fields.{LEVEL, WAITING, REVERSE}
-use Rattle.columns.specs.Lists.{list, Holds}
+use Rattle.columns.specs.Lists.{list, Holds, Clear}
 use Rattle.walk.specs.Stands.{Context, Begun, Ordered, Reads}
 
 -- the graph and the order
@@ -29,9 +29,10 @@ pub record LevelAt (C : Context) (m p : ℕ) (gates w : List ℕ) : Type 0 where
   pub pin : p < m
   pub low : (x : ℕ) → In x (below (C .X .g) (C .X .done) p) → getD w (LEVEL * m + x) 0 < m
 
-pub record RiseAt (C : Context) (m k : ℕ) (gates w : List ℕ) : Type 0 where
+-- no pin has a level yet
+pub record LevelsAt (C : Context) (m k : ℕ) (gates w : List ℕ) : Type 0 where
   pub along : Along C m k gates w
-  pub zeros : col LEVEL m w ≡ replicate m 0
+  pub clear : Clear LEVEL m w
 
 -- the first i pins have their levels
 pub record Risen (C : Context) (m i : ℕ) (w w′ : List ℕ) (top : ℕ) : Type 0 where
@@ -64,6 +65,8 @@ pub record Lowered (C : Context) (m k i : ℕ) (w w′ : List ℕ) : Type 0 wher
   pub low : (q : ℕ) → getD (col REVERSE m w′) q 0 ≤ k - i + 1
   pub same : thread (lift (C .X .g) (C .X .done)) (reverse (take i (C .X .order))) (col REVERSE m w′) ≡ thread (lift (C .X .g) (C .X .done)) (C .X .seen) (col REVERSE m w)
 
+-- no pin has a reverse level yet
 pub record ReverseAt (C : Context) (m n k : ℕ) (gates w : List ℕ) : Type 0 where
   pub begun : Begun C m n gates w
   pub ordered : Ordered C m k w
+  pub clear : Clear REVERSE m w

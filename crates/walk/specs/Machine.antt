@@ -9,7 +9,7 @@ use Rattle.rules.specs.Traversal.{thread, visit}
 use Rattle.rules.proofs.Lists.Members.{Out}
 use Rattle.columns.specs.Area.{Frame}
 use Rattle.columns.specs.Fields.{ORDER, LISTED, STACK, PHASE}
-use Rattle.columns.specs.Lists.{list, Holds, Marks, Marked}
+use Rattle.columns.specs.Lists.{list, Holds, Marks, Clear, Marked}
 use Rattle.walk.specs.Stands.{Context, Begun, Reads}
 
 pub data Item : Type 0 where
@@ -98,15 +98,17 @@ pub record Visited (C : Context) (m : ℕ) (gates w : List ℕ) (n p : ℕ) (w�
   pub going : Going C m gates w′ 0 n′
   pub lists : seenIn m n′ w′ ≡ visit (length (C .X .g)) (C .X .g) (C .X .done) p (seenIn m n w)
 
--- the waiting pins from i on are still to be visited
-pub record SweepAt (C : Context) (m n : ℕ) (gates w : List ℕ) (k : ℕ) : Type 0 where
+-- no pin is marked yet
+pub record TraverseAt (C : Context) (m n : ℕ) (gates w : List ℕ) : Type 0 where
   pub begun : Begun C m n gates w
-  pub going : Going C m gates w 0 k
+  pub clear : Clear LISTED m w
 
-pub record Swept (C : Context) (m n : ℕ) (gates w : List ℕ) (k i : ℕ) (w′ : List ℕ) (k′ : ℕ) : Type 0 where
+-- the waiting pins from i on are still to be visited
+pub record Swept (C : Context) (m n : ℕ) (gates w : List ℕ) (i : ℕ) (w′ : List ℕ) (k : ℕ) : Type 0 where
   pub frame : Frame walked m w w′
-  pub at : SweepAt C m n gates w′ k′
-  pub same : thread (visit (length (C .X .g)) (C .X .g) (C .X .done)) (drop i (C .X .waiting)) (seenIn m k′ w′) ≡ thread (visit (length (C .X .g)) (C .X .g) (C .X .done)) (C .X .waiting) (seenIn m k w)
+  pub begun : Begun C m n gates w′
+  pub going : Going C m gates w′ 0 k
+  pub same : thread (visit (length (C .X .g)) (C .X .g) (C .X .done)) (drop i (C .X .waiting)) (seenIn m k w′) ≡ C .X .seen
 
 -- the contract: the order, its length, and marks at exactly its pins
 pub record Traversed (C : Context) (m : ℕ) (w w′ : List ℕ) (k : ℕ) : Type 0 where

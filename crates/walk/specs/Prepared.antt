@@ -1,12 +1,16 @@
--- What a stage has before its first placing. Assumes nothing.
+-- What a stage has before its first placing, and how it leaves no trace. Assumes nothing.
 use mathlib.Core.Path.{_≡_}
+use mathlib.Core.Bool.{true}
 use mathlib.Core.List.{List, [], _∷_, map}
-use Prim.Native.Nat.{ℕ}
+use Prim.Native.Nat.{ℕ, _+_, _*_, _<_}
+use lib.ListN.{getD, drop}
 use Rattle.rules.specs.Traversal.{levelAt, greatest}
-use Rattle.columns.specs.Area.{Frame}
+use Rattle.rules.proofs.Lists.Members.{Out}
+use Rattle.columns.specs.Area.{Room, Frame, among}
 use Rattle.columns.specs.Fields.{ORDER, LEVEL, RANKED, STARTS, ENDS, REVERSE, LISTED, STACK, PHASE, SPARE}
-use Rattle.columns.specs.Lists.{Marks, Clear}
-use Rattle.walk.specs.Stands.{Context, Reversed, Set}
+use Rattle.columns.specs.Lists.{list, Holds, Marks, Clear}
+use Rattle.walk.specs.Stands.{Context, Begun, Reversed, Set}
+use Rattle.walk.specs.Ranking.{Beyond}
 
 -- what the walks find empty, and leave so at the stage's end
 pub record Fresh (m : ℕ) (w : List ℕ) : Type 0 where
@@ -17,8 +21,12 @@ pub record Fresh (m : ℕ) (w : List ℕ) : Type 0 where
   pub ends : Clear ENDS m w
   pub spare : Clear SPARE m w
 
+pub record PrepareAt (C : Context) (m n : ℕ) (gates w : List ℕ) : Type 0 where
+  pub begun : Begun C m n gates w
+  pub fresh : Fresh m w
+
 abbrev pub prepared : List ℕ
-prepared = ORDER ∷ LEVEL ∷ RANKED ∷ STARTS ∷ ENDS ∷ REVERSE ∷ LISTED ∷ STACK ∷ PHASE ∷ SPARE ∷ []
+prepared = ORDER ∷ LEVEL ∷ RANKED ∷ STARTS ∷ ENDS ∷ REVERSE ∷ LISTED ∷ STACK ∷ PHASE ∷ []
 
 pub record Prepared (C : Context) (m n : ℕ) (gates w w′ : List ℕ) (k top : ℕ) : Type 0 where
   pub frame : Frame prepared m w w′
@@ -26,3 +34,30 @@ pub record Prepared (C : Context) (m n : ℕ) (gates w w′ : List ℕ) (k top :
   pub reversed : Reversed C m w′
   pub marks : Marks LISTED m (C .X .order) w′
   pub most : top ≡ greatest (map (levelAt (C .X)) (C .X .order)) 0
+  pub beyond : Beyond m k w′
+
+-- ---- the stage's end
+
+-- what the walks write at listed pins alone
+abbrev pub atPins : List ℕ
+atPins = LISTED ∷ LEVEL ∷ REVERSE ∷ []
+
+-- the order of k pins still stands; all that `forget` does not reach is 0
+pub record ForgetAt (m k : ℕ) (w : List ℕ) : Type 0 where
+  pub area : Room m w
+  pub order : Holds ORDER m k (list ORDER m k w) w
+  pub outside : (f : ℕ) → among atPins f ≡ true → (p : ℕ) → p < m → Out p (list ORDER m k w) → getD w (f * m + p) 0 ≡ 0
+  pub beyond : Beyond m k w
+
+-- the pins of the order from i on are still listed
+pub record Unlisted (m k i : ℕ) (w w′ : List ℕ) : Type 0 where
+  pub frame : Frame atPins m w w′
+  pub zeros : (f : ℕ) → among atPins f ≡ true → (p : ℕ) → p < m → Out p (drop i (list ORDER m k w)) → getD w′ (f * m + p) 0 ≡ 0
+
+pub record Forgot (m : ℕ) (w w′ : List ℕ) : Type 0 where
+  pub frame : Frame (LEVEL ∷ STARTS ∷ ENDS ∷ REVERSE ∷ LISTED ∷ []) m w w′
+  pub listed : Clear LISTED m w′
+  pub levels : Clear LEVEL m w′
+  pub reverse : Clear REVERSE m w′
+  pub starts : Clear STARTS m w′
+  pub ends : Clear ENDS m w′

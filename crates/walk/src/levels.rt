@@ -4,7 +4,6 @@ use columns::LEVEL;
 use columns::ORDER;
 use columns::REVERSE;
 use columns::WAITING;
-use columns::fill;
 use columns::get;
 use columns::push;
 ghost use mathlib.Core.Path.{_≡_};
@@ -17,7 +16,7 @@ ghost use Rattle.columns.specs.Area.{col};
 ghost use Rattle.columns.specs.Fields.{LEVEL, WAITING, REVERSE};
 ghost use Rattle.columns.specs.Lists.{list};
 ghost use Rattle.walk.specs.Stands.{Some, Every};
-ghost use Rattle.walk.specs.Levels.{Along, Becomes, LevelAt, RiseAt, Risen, Levels, WaitsAt, LiftAt, LowerAt, ReverseAt};
+ghost use Rattle.walk.specs.Levels.{Becomes, LevelAt, LevelsAt, Levels, WaitsAt, LiftAt, LowerAt, ReverseAt};
 
 fn higher(a: usize, b: usize) -> usize
     ensures { λ r. ⌜ r ≡ max a b ⌝ }
@@ -43,10 +42,10 @@ fn level_of(gates: &[u32], work: &[u32], m: usize, p: usize) -> usize
     higher(x, y) + 1
 }
 
-// Levels along the order of k pins. Returns the greatest.
-fn rise(gates: &[u32], work: &mut [u32], m: usize, k: usize) -> usize
-    requires { ⌜ Some (λ C. RiseAt C m k (now gates) (now work)) ⌝ }
-    ensures { λ r. ⌜ Every (λ C. RiseAt C m k (now (gates .entry)) (now (work .entry))) (λ C. Risen C m k (now (work .entry)) (now (work .exit)) r) ⌝ }
+// The levels of the k pins in the order, with no level before. Returns the greatest.
+pub fn levels(gates: &[u32], work: &mut [u32], m: usize, k: usize) -> usize
+    requires { ⌜ Some (λ C. LevelsAt C m k (now gates) (now work)) ⌝ }
+    ensures { λ r. ⌜ Every (λ C. LevelsAt C m k (now (gates .entry)) (now (work .entry))) (λ C. Levels C m (now (work .entry)) (now (work .exit)) r) ⌝ }
 {
     let mut top = 0;
     let mut i = 0;
@@ -58,15 +57,6 @@ fn rise(gates: &[u32], work: &mut [u32], m: usize, k: usize) -> usize
         i += 1;
     }
     top
-}
-
-// The levels of the k pins in the order. Returns the greatest.
-pub fn levels(gates: &[u32], work: &mut [u32], m: usize, k: usize) -> usize
-    requires { ⌜ Some (λ C. Along C m k (now gates) (now work)) ⌝ }
-    ensures { λ r. ⌜ Every (λ C. Along C m k (now (gates .entry)) (now (work .entry))) (λ C. Levels C m (now (work .entry)) (now (work .exit)) r) ⌝ }
-{
-    fill(work, m, LEVEL, 0);
-    rise(gates, work, m, k)
 }
 
 // Pin q's reverse level becomes r, if it is lower.
@@ -123,12 +113,11 @@ fn lower(gates: &[u32], work: &mut [u32], m: usize, k: usize)
     }
 }
 
-// The reverse levels before anything is placed, from n waiting pins, along an order of k.
+// The reverse levels before anything is placed, from n waiting pins, along an order of k, with none before.
 pub fn reverse_levels(gates: &[u32], work: &mut [u32], m: usize, n: usize, k: usize)
     requires { ⌜ Some (λ C. ReverseAt C m n k (now gates) (now work)) ⌝ }
     ensures { λ _. ⌜ Every (λ C. ReverseAt C m n k (now (gates .entry)) (now (work .entry))) (λ C. Becomes REVERSE m (now (work .entry)) (now (work .exit)) (startLevels (C .X))) ⌝ }
 {
-    fill(work, m, REVERSE, 0);
     start(work, m, n);
     lower(gates, work, m, k);
 }

@@ -5,7 +5,6 @@ use columns::ORDER;
 use columns::PHASE;
 use columns::STACK;
 use columns::WAITING;
-use columns::fill;
 use columns::get;
 use columns::is_in;
 use columns::push;
@@ -16,8 +15,8 @@ ghost use Prim.Native.Nat.{_+_, _*_, _<_};
 ghost use lib.Dec.{eqb};
 ghost use lib.ListN.{length, getD, set};
 ghost use Rattle.columns.specs.Fields.{ORDER, LISTED, STACK, PHASE};
-ghost use Rattle.walk.specs.Stands.{Some, Every, Begun};
-ghost use Rattle.walk.specs.Machine.{Going, Went, Stepped, VisitAt, Visited, SweepAt, Swept, Traversed};
+ghost use Rattle.walk.specs.Stands.{Some, Every};
+ghost use Rattle.walk.specs.Machine.{Going, Went, Stepped, VisitAt, Visited, TraverseAt, Traversed};
 
 // How many items the stack has, and how many pins are listed.
 pub struct At {
@@ -120,12 +119,12 @@ fn visit(gates: &[u32], work: &mut [u32], m: usize, n: usize, p: usize) -> usize
     run(gates, work, m, 1, n)
 }
 
-// The same for each of the n waiting pins, with k pins listed before.
-fn sweep(gates: &[u32], work: &mut [u32], m: usize, n: usize, k: usize) -> usize
-    requires { ⌜ Some (λ C. SweepAt C m n (now gates) (now work) k) ⌝ }
-    ensures { λ r. ⌜ Every (λ C. SweepAt C m n (now (gates .entry)) (now (work .entry)) k) (λ C. Swept C m n (now (gates .entry)) (now (work .entry)) k n (now (work .exit)) r) ⌝ }
+// The traversal from the n waiting pins, with no pin listed before. Returns how many pins the order has.
+pub fn traverse(gates: &[u32], work: &mut [u32], m: usize, n: usize) -> usize
+    requires { ⌜ Some (λ C. TraverseAt C m n (now gates) (now work)) ⌝ }
+    ensures { λ k. ⌜ Every (λ C. TraverseAt C m n (now (gates .entry)) (now (work .entry))) (λ C. Traversed C m (now (work .entry)) (now (work .exit)) k) ⌝ }
 {
-    let mut listed = k;
+    let mut listed = 0;
     let mut i = 0;
     while i < n {
         let p = get(work, m, i, WAITING);
@@ -133,13 +132,4 @@ fn sweep(gates: &[u32], work: &mut [u32], m: usize, n: usize, k: usize) -> usize
         i += 1;
     }
     listed
-}
-
-// The traversal from the n waiting pins. Returns how many pins the order has.
-pub fn traverse(gates: &[u32], work: &mut [u32], m: usize, n: usize) -> usize
-    requires { ⌜ Some (λ C. Begun C m n (now gates) (now work)) ⌝ }
-    ensures { λ k. ⌜ Every (λ C. Begun C m n (now (gates .entry)) (now (work .entry))) (λ C. Traversed C m (now (work .entry)) (now (work .exit)) k) ⌝ }
-{
-    fill(work, m, LISTED, 0);
-    sweep(gates, work, m, n, 0)
 }

@@ -1,6 +1,7 @@
 -- A stage's beginning: cleared columns, given pins marked, waiting pins listed. Assumes nothing.
 use mathlib.Core.Path.{_≡_, refl, sym, _∙_}
-use mathlib.Core.List.{List, []}
+use mathlib.Core.Bool.{false}
+use mathlib.Core.List.{List, [], _∷_}
 use Prim.Native.Nat.{ℕ, _+_, _*_, _<_, _≤_}
 use native.Mathlib.Omega.{arith}
 use lib.ListN.{length, getD, set, replicate}
@@ -10,19 +11,22 @@ use Rattle.rules.specs.Graph.{graphOf}
 use Rattle.rules.specs.Traversal.{setting}
 use Rattle.rules.specs.Lean.{cellsHolding}
 use Rattle.rules.proofs.Demand.{graph}
-use Rattle.columns.specs.Area.{Room}
-use Rattle.columns.specs.Fields.{DONE, WAITING, CELLS, PLACE, MARK}
-use Rattle.columns.specs.Lists.{WaitAt as WaitOne, list, Waits}
+use Rattle.columns.specs.Area.{Room, Frame, among}
+use Rattle.columns.specs.Fields.{DONE, LEVEL, WAITING, CELLS, STARTS, ENDS, REVERSE, LISTED, PLACE, MARK, SPARE}
+use Rattle.columns.specs.Lists.{WaitAt as WaitOne, list, Waits, Clear}
+use Rattle.columns.proofs.Area.Columns.{inside}
 use Rattle.columns.proofs.Area.Lent.{length-laid, at-laid}
-use Rattle.columns.proofs.Area.Frames.{frame-none, frame-then, frame-set, frame-room}
+use Rattle.columns.proofs.Area.Frames.{frame-none, frame-then, frame-more, frame-set, frame-room}
 use Rattle.columns.proofs.Lists.Entries.{holds-below}
 use Rattle.columns.proofs.Lists.Marks.{marks-none, marks-insert, marks-frame}
+use Rattle.columns.proofs.Lists.Clears.{clear-frame}
 use Rattle.columns.proofs.Lists.Places.{placed-none, wait-at}
 use Rattle.walk.specs.Stands.{Some, Context}
-use Rattle.walk.specs.Needed.{NeededAt}
-use Rattle.walk.specs.Prepared.{Prepared}
+use Rattle.walk.specs.Needed.{NeededAt, Needed}
+use Rattle.walk.specs.Prepared.{Prepared, ForgetAt}
 use Rattle.walk.proofs.Contexts.{context}
 use Rattle.walk.proofs.Steps.{step-needed}
+use Rattle.walk.proofs.Forgets.{forget-at, forget-frame}
 use Rattle.walks.specs.Shown.{StartAt, GiveAt, Given, WaitAt, Waiting, Started}
 use Rattle.walks.proofs.Rights.{pins-right, length-graph, Right, graph-right}
 
@@ -86,16 +90,32 @@ module _ {m : ℕ} {gates given waiting w : List ℕ} (A : StartAt m gates given
     started w′ n W = record {
       C = C;
       at = record {
-        begun = record {
-          base = record { area = frame-room (W .frame) (frame-room (G .frame) area); size = size; graph = refl; pair = right .pair };
-          done = marks-frame (G .marks) (W .frame) refl (omega arith);
-          waiting = W .placed;
+        prepare = record {
+          begun = record {
+            base = record { area = frame-room frame area; size = size; graph = refl; pair = right .pair };
+            done = marks-frame (G .marks) (W .frame) refl (omega arith);
+            waiting = W .placed;
+          };
+          fresh = record {
+            listed = clear LISTED refl (omega arith);
+            levels = clear LEVEL refl (omega arith);
+            reverse = clear REVERSE refl (omega arith);
+            starts = clear STARTS refl (omega arith);
+            ends = clear ENDS refl (omega arith);
+            spare = clear SPARE refl (omega arith);
+          };
         };
-        cells = λ p h. W .frame .cell CELLS refl (omega arith) p h ∙ G .frame .cell CELLS refl (omega arith) p h ∙ zero-at (CELLS * m + p) (omega arith);
-        marks = λ p h. W .frame .cell MARK refl (omega arith) p h ∙ G .frame .cell MARK refl (omega arith) p h ∙ zero-at (MARK * m + p) (omega arith);
+        cells = clear CELLS refl (omega arith) .zero;
+        marks = clear MARK refl (omega arith) .zero;
       };
     }
       where
+        frame : Frame (DONE ∷ WAITING ∷ PLACE ∷ []) m v w′
+        frame = frame-then (frame-more refl (G .frame)) (frame-more refl (W .frame))
+
+        clear : (f : ℕ) → among (DONE ∷ WAITING ∷ PLACE ∷ []) f ≡ false → f < 16 → Clear f m w′
+        clear f e h = clear-frame (record { zero = λ p l. zero-at (f * m + p) (omega (arith, inside f m h)) }) frame e h
+
         size : length (graphOf gates) ≡ m
         size = length-graph m gates (right .pair)
 
@@ -113,3 +133,7 @@ pub needed-at : {C : Context} {m n k top : ℕ} {gates w w′ : List ℕ} → St
 needed-at {C} S P = step-needed (P .set) []
     (λ x h. P .frame .cell CELLS refl (omega arith) x h ∙ S .cells x h ∙ sym (no-cells (C .X .K) x))
     (marks-none (λ p h. P .frame .cell MARK refl (omega arith) p h ∙ S .marks p h))
+
+-- the needed pins name no column that `forget` asks about
+pub end-at : {C : Context} {m n k top c : ℕ} {pl gates w w′ w″ : List ℕ} → Prepared C m n gates w w′ k top → Needed C pl m w′ w″ c → ForgetAt m k w″
+end-at P N = forget-frame (forget-at (P .set) (P .reversed) (P .marks) (P .beyond)) (N .frame) refl refl refl refl refl refl

@@ -6,10 +6,11 @@ use Prim.Native.Nat.{ℕ, _+_, _*_, _<_, _≤_}
 use lib.ListN.{length, getD}
 use Rattle.rules.specs.Checks.{graphRight, givenRight}
 use Rattle.rules.specs.Graph.{pinCount}
-use Rattle.columns.specs.Area.{Room, Frame, among}
+use Rattle.columns.specs.Area.{Room, Frame}
 use Rattle.columns.specs.Fields.{DONE, WAITING, CELLS, PLACE, MARK}
 use Rattle.columns.specs.Lists.{Marks, Placed}
-use Rattle.walk.specs.Stands.{Context, Begun}
+use Rattle.walk.specs.Stands.{Context}
+use Rattle.walk.specs.Prepared.{PrepareAt}
 
 pub record ShowAt (gates given waiting w : List ℕ) : Type 0 where
   pub graph : graphRight gates ≡ true
@@ -43,9 +44,9 @@ pub record Waiting (m : ℕ) (w w′ : List ℕ) (n : ℕ) : Type 0 where
   pub pins : List ℕ
   pub placed : Placed WAITING PLACE m n pins w′
 
--- a stage's beginning, with nothing placed or marked
+-- a stage's beginning in a clear area, with nothing placed or marked
 pub record Started (C : Context) (m n : ℕ) (gates w : List ℕ) : Type 0 where
-  pub begun : Begun C m n gates w
+  pub prepare : PrepareAt C m n gates w
   pub cells : (p : ℕ) → p < m → getD w (CELLS * m + p) 0 ≡ 0
   pub marks : (p : ℕ) → p < m → getD w (MARK * m + p) 0 ≡ 0
 

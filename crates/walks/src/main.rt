@@ -12,6 +12,7 @@ use columns::wait;
 use columns::wide;
 use io::print_decimal;
 use io::write_all;
+use walk::forget;
 use walk::needed::needed;
 use walk::prepare;
 ghost use Prim.Native.Nat.{_+_, _*_, _≤_};
@@ -90,6 +91,7 @@ fn show(name: &[u8], gates: &[u32], given: &[u32], waiting: &[u32], work: &mut [
     let c = needed(gates, work, m, n, k);
     write_all(1, name);
     print(work, m, k, c);
+    forget(work, m, k);
 }
 
 const NONE: u32 = 4294967295;

@@ -5,8 +5,10 @@ use mathlib.Core.Bool.{Bool, true, false, _||_, true≢false}
 use mathlib.Core.List.{List, [], _∷_}
 use Prim.Native.Nat.{ℕ, _+_, _-_, _*_, _<_, _≤_}
 use native.Mathlib.Omega.{arith}
+use native.Mathlib.Decide.{ℕ-discrete}
+use borrow.Author.Tests.{ne-eqb}
 use lib.Dec.{eqb}
-use lib.ListN.{length, set, length-set, replicate, length-replicate}
+use lib.ListN.{length, getD, set, length-set, replicate, length-replicate}
 use lib.Seq.{ext-getD, getD-set-other}
 use Rattle.rules.proofs.Lists.Members.{split, true-false, eqb-same, eqb-true, and-true}
 use Rattle.columns.specs.Area.{col, put, tail, putTail, Room, Frame, among, within}
@@ -21,7 +23,7 @@ pub frame-then : {fs : List ℕ} {m : ℕ} {u v w : List ℕ} → Frame fs m u v
 frame-then a b = record { len = b .len ∙ a .len; past = λ t j h. b .past t j h ∙ a .past t j h; cell = λ g e h p k. b .cell g e h p k ∙ a .cell g e h p k }
 
 -- more names: at numerals `refl` answers `within`
-or-true : (a b : Bool) → a || b ≡ true → (a ≡ true) ⊎ (b ≡ true)
+pub or-true : (a b : Bool) → a || b ≡ true → (a ≡ true) ⊎ (b ≡ true)
 or-true true b e = inl refl
 or-true false b e = inr e
 
@@ -37,6 +39,21 @@ frame-more {fs} {gs} e a = record { len = a .len; past = λ t j h. a .past (fewe
   where
     fewer : (g : ℕ) → among gs g ≡ false → among fs g ≡ false
     fewer g t = split (among fs g) (λ d. true-false (among-within fs gs e g d) t) (λ d. d)
+
+-- fewer names: a column that is as it was
+pub frame-less : {fs : List ℕ} {m : ℕ} {w w′ : List ℕ} (f : ℕ) → f < 16 → Frame (f ∷ fs) m w w′ → ((p : ℕ) → p < m → getD w′ (f * m + p) 0 ≡ getD w (f * m + p) 0) → Frame fs m w w′
+frame-less {fs} {m} {w} {w′} f h a same = record {
+  len = a .len;
+  past = λ t j l. a .past (other 16 t (λ e. omega arith)) j l;
+  cell = λ g t l p k. cell g t l p k (ℕ-discrete g f);
+}
+  where
+    other : (g : ℕ) → among fs g ≡ false → (g ≡ f → ⊥) → among (f ∷ fs) g ≡ false
+    other g t ne = rw (ne-eqb g f ne) t
+
+    cell : (g : ℕ) → among fs g ≡ false → g < 16 → (p : ℕ) → p < m → Dec (g ≡ f) → getD w′ (g * m + p) 0 ≡ getD w (g * m + p) 0
+    cell g t l p k (yes e) = rw e (same p k)
+    cell g t l p k (no ne) = a .cell g (other g t ne) l p k
 
 -- two names, where they are variables
 pub among-first : (f g : ℕ) → among (f ∷ g ∷ []) f ≡ true
@@ -69,6 +86,9 @@ module _ {fs : List ℕ} {m : ℕ} {w : List ℕ} where
 
   pub frame-fill : (f v : ℕ) → f < 16 → among fs f ≡ true → Frame fs m w (put f m w (replicate m v))
   frame-fill f v = frame-put f (replicate m v) (omega (arith, length-replicate m v))
+
+  pub frame-front : (f n v : ℕ) → n ≤ m → f < 16 → among fs f ≡ true → Frame fs m w (put f m w (replicate n v))
+  frame-front f n v h = frame-put f (replicate n v) (omega (arith, length-replicate n v))
 
   pub frame-set-tail : (j v : ℕ) → among fs 16 ≡ true → Frame fs m w (set w (16 * m + j) v)
   frame-set-tail j v t = record {

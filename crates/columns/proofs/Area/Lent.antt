@@ -1,13 +1,12 @@
--- A column or a part of the tail that was lent, and comes back: `ys` in the place of the part. Assumes nothing.
+-- A column's front or a part of the tail that was lent, and comes back: `ys` in the place of the part. Assumes nothing.
 use mathlib.Core.Path.{_≡_, refl, sym, ap, _∙_}
 use mathlib.Core.List.{List, [], _∷_, _++_}
 use Prim.Native.Nat.{ℕ, zero, suc, _+_, _-_, _*_, _<_, _≤_}
 use native.Mathlib.Omega.{arith}
-use lib.ListN.{length, getD, take, drop, replicate, length-append, length-take, length-drop, length-replicate, getD-replicate, List·getD-append}
-use lib.Seq.{length-take-le, getD-take, getD-drop, getD-append-add}
+use lib.ListN.{length, getD, take, drop, replicate, length-append, length-drop, length-replicate, getD-replicate, List·getD-append}
+use lib.Seq.{length-take-le, getD-drop, getD-append-add}
 use Rattle.rules.specs.Lists.{laidOver}
-use Rattle.columns.specs.Area.{col, putFrom, put, tail, putTail}
-use Rattle.columns.proofs.Area.Columns.{length-col, col-is}
+use Rattle.columns.specs.Area.{putFrom, put, tail, putTail}
 
 from-cons : (a y : ℕ) (w c : List ℕ) → putFrom (suc a) (y ∷ w) c ≡ y ∷ putFrom a w c
 from-cons a y w [] = refl
@@ -20,25 +19,15 @@ back-from zero (y ∷ w) (x ∷ c) h = rw (from-cons 0 y w c) (ap (λ (l : List 
 back-from (suc a) [] c h = absurd (omega arith)
 back-from (suc a) (y ∷ w) c h = rw (from-cons a y w c) (ap (λ (l : List ℕ). y ∷ l) (back-from a w c (omega arith)))
 
-back-put : (f m : ℕ) (w c : List ℕ) → length c ≡ m → f * m + m ≤ length w → take (f * m) w ++ (c ++ drop m (drop (f * m) w)) ≡ put f m w c
+-- the first n numbers of column f, lent as work[a..e], with a = f * m and e = a + n
+pub lent-front : (f m n v : ℕ) (w ys : List ℕ) → f * m + n ≤ length w → ys ≡ replicate (length (take (f * m + n - f * m) (drop (f * m) w))) v
+    → take (f * m) w ++ (ys ++ drop (f * m + n - f * m) (drop (f * m) w)) ≡ put f m w (replicate n v)
 unfolding put
-back-put f m w c e hw = rw e at (back-from (f * m) w c (omega arith))
-
--- the part that is lent as work[a..e], with a = f * m and e = a + m
-abbrev pub part : ℕ → ℕ → List ℕ → List ℕ
-part f m w = take (f * m + m - f * m) (drop (f * m) w)
-
-pub lent-is : (f m : ℕ) (w : List ℕ) → f * m + m ≤ length w → part f m w ≡ col f m w
-lent-is f m w hw =
-    let k : f * m + m - f * m ≡ m = omega arith in
-    rw k (sym (col-is f m w _ (rw (length-take, length-drop) (omega arith)) (λ i h. rw (getD-take m (drop (f * m) w) i 0 h, getD-drop))))
-
--- F is what the function made of the column
-pub lent : (F : List ℕ → List ℕ) (f m : ℕ) (w ys : List ℕ) → f * m + m ≤ length w → length ys ≡ length (part f m w) → ys ≡ F (part f m w)
-    → take (f * m) w ++ (ys ++ drop (f * m + m - f * m) (drop (f * m) w)) ≡ put f m w (F (col f m w))
-lent F f m w ys hw el ey =
-    let k : f * m + m - f * m ≡ m = omega arith in
-    rw k (back-put f m w ys (el ∙ ap length (lent-is f m w hw) ∙ length-col f m w) hw) ∙ ap (put f m w) (ey ∙ ap F (lent-is f m w hw))
+lent-front f m n v w ys h e =
+    let k : f * m + n - f * m ≡ n = omega arith in
+    let long : length (take n (drop (f * m) w)) ≡ n = length-take-le n (drop (f * m) w) (rw length-drop (omega arith)) in
+    let y : ys ≡ replicate n v = (rw (k, long) at e) in
+    rw (y, k) (rw (length-replicate n v) at (back-from (f * m) w (replicate n v) (omega (arith, length-replicate n v))))
 
 -- a list whose first n numbers were lent, and came back as v
 pub lent-fill : (k n v : ℕ) (l ys : List ℕ) → k ≡ n → n ≤ length l → ys ≡ replicate (length (take k l)) v → ys ++ drop k l ≡ laidOver (replicate n v) l

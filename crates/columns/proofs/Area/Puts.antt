@@ -66,10 +66,14 @@ module _ (f m : ℕ) (w c : List ℕ) where
   unfolding put
   set-put-other g p v hc hp ne = set-from-other (f * m) w c (g * m + p) v (away g p hc hp ne)
 
-  -- a load from the list, and from another column
+  -- a load from the list, from past it, and from another column
   pub at-put : (p : ℕ) → p < length c → f * m + p < length w → getD (put f m w c) (f * m + p) 0 ≡ getD c p 0
   unfolding put
   at-put p h hw = getD-from-same (f * m) w c p h hw
+
+  pub at-put-past : (p : ℕ) → length c ≤ p → getD (put f m w c) (f * m + p) 0 ≡ getD w (f * m + p) 0
+  unfolding put
+  at-put-past p h = getD-from-other (f * m) w c (f * m + p) (λ a b. omega arith)
 
   pub at-put-other : (g p : ℕ) → length c ≤ m → p < m → (g ≡ f → ⊥) → getD (put f m w c) (g * m + p) 0 ≡ getD w (g * m + p) 0
   unfolding put

@@ -1,10 +1,7 @@
 -- `columns::fill` meets its contract: the column is lent, and comes back as v. Assumes nothing.
-use mathlib.Core.List.{List}
-use Prim.Native.Nat.{ℕ}
 use native.Mathlib.Omega.{arith}
-use lib.ListN.{length, replicate}
-use Rattle.columns.proofs.Area.Columns.{inside, length-col}
-use Rattle.columns.proofs.Area.Lent.{lent}
+use Rattle.columns.proofs.Area.Columns.{inside}
+use Rattle.columns.proofs.Area.Lent.{lent-front}
 use borrow.Author.Needs.{needs}
 use Rattle.columns.proofs.fill.Statement.{statement}
 use Rattle.columns.proofs.fill.Tie as tie
@@ -36,8 +33,7 @@ same-length c = search needs
 returns : tie.Need-returns
 returns c =
     let s = c .before .before .before .before .before in
-    let a = s .args in
-    rw (lent (λ (l : List ℕ). replicate (length l) (a .v)) (a .f) (a .m) (a .work .now) _ (omega (arith, inside (a .f) (a .m) (s .pre .1))) (c .before .before .fill-part .kept .0) (c .before .before .fill-part .ensures), length-col)
+    lent-front _ _ _ _ _ _ (omega (arith, inside (s .args .f) (s .args .m) (s .pre .1))) (c .before .before .fill-part .ensures)
 
 pub fill-spec : {M : Type 1} → statement M
 fill-spec =

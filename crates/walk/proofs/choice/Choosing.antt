@@ -1,15 +1,14 @@
 -- Down a ranked list to its first unplaced pin, which is rule 4's. Assumes nothing.
-use mathlib.Core.Path.{_≡_, refl, sym, _∙_, ap}
-use mathlib.Core.Bool.{true, false}
+use mathlib.Core.Path.{_≡_, refl, _∙_}
 use mathlib.Core.List.{List, [], _∷_}
 use Prim.Native.Nat.{ℕ, zero, suc, _+_, _-_, _*_, _<_, _≤_}
 use native.Mathlib.Omega.{arith}
 use lib.Dec.{ltb}
-use lib.ListN.{length, getD, take, drop}
+use lib.ListN.{length, getD}
 use lib.Seq.{drop-cons}
 use borrow.Author.Tests.{lt-ltb, le-ltb}
 use Rattle.rules.specs.Lists.{mem, nothing, found}
-use Rattle.rules.specs.Placing.{tree, treeOf, pinAt}
+use Rattle.rules.specs.Placing.{treeOf, pinAt}
 use Rattle.rules.specs.Lean.{firstFree, candidates}
 use Rattle.rules.proofs.Lists.Members.{In, Out, in-here, in-there}
 use Rattle.rules.proofs.Tree.Fair.{Fair, listed-filled}

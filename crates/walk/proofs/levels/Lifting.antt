@@ -5,20 +5,22 @@ use mathlib.Core.List.{List, [], _∷_}
 use Prim.Native.Nat.{ℕ, zero, suc, _+_, _-_, _*_, _<_, _≤_, max}
 use native.Mathlib.Omega.{arith}
 use native.Mathlib.Numerals.{add-one}
-use lib.ListN.{getD, set, drop, replicate, length-replicate, drop-of-length-le}
-use lib.Seq.{drop-cons}
+use lib.ListN.{length, getD, set, drop, replicate, getD-replicate, drop-of-length-le}
+use lib.Seq.{drop-cons, getD-set-other}
 use Rattle.rules.specs.Graph.{Node, below}
 use Rattle.rules.specs.Traversal.{thread, raise, lift, reverseLevels}
 use Rattle.rules.specs.Lean.{startLevels}
-use Rattle.rules.proofs.Walk.Reverse.{nat}
+use Rattle.rules.proofs.Lists.Members.{Out, out-head, out-tail}
+use Rattle.rules.proofs.Walk.Traverse.{Topo, none, more}
+use Rattle.rules.proofs.Walk.Reverse.{nat, out-sub, lift-out}
 use Rattle.rules.proofs.Tree.Loads.{set-either}
-use Rattle.columns.specs.Area.{Room, col, put, Frame}
+use Rattle.columns.specs.Area.{Room, col, Frame}
 use Rattle.columns.specs.Fields.{ORDER, WAITING, REVERSE}
 use Rattle.columns.specs.Lists.{list, Holds}
 use Rattle.columns.proofs.Area.Columns.{getD-col, col-set}
-use Rattle.columns.proofs.Area.Puts.{col-put}
-use Rattle.columns.proofs.Area.Frames.{frame-none, frame-then, frame-set, frame-fill, frame-room}
+use Rattle.columns.proofs.Area.Frames.{frame-none, frame-then, frame-set, frame-room}
 use Rattle.columns.proofs.Lists.Entries.{holds-frame, holds-self, holds-at, holds-pin}
+use Rattle.columns.proofs.Lists.Clears.{clear-col}
 use Rattle.walk.specs.Stands.{Context}
 use Rattle.walk.specs.Levels.{Along, Becomes, WaitsAt, LiftAt, LowerAt, Lowered, ReverseAt}
 use Rattle.walk.proofs.Gates.{none-of, both-of}
@@ -51,6 +53,24 @@ waiting-low n ps = raise-low 1 1 ps (replicate n 0) (omega arith) (λ q. omega (
     none-low zero q = omega arith
     none-low (suc n) zero = omega arith
     none-low (suc n) (suc q) = none-low n q
+
+-- ---- and 0 at pins that are not listed
+
+raise-out : (n : ℕ) (ps rl : List ℕ) (q : ℕ) → Out q ps → getD (raise n ps rl) q 0 ≡ getD rl q 0
+unfolding raise
+raise-out n [] rl q o = refl
+raise-out n (p ∷ ps) rl q o = raise-out n ps _ q (out-tail q p ps o) ∙ getD-set-other rl p q _ 0 (out-head q p ps o)
+
+lifts-out : (g : List Node) (stop : List ℕ) {s : List ℕ} → Topo g stop s → (rl : List ℕ) (q : ℕ) → Out q s → getD (thread (lift g stop) s rl) q 0 ≡ getD rl q 0
+unfolding thread
+lifts-out g stop none rl q o = refl
+lifts-out g stop (more {p = p} {s = s} f c t) rl q o = lifts-out g stop t (lift g stop p rl) q (out-tail q p s o) ∙ lift-out g stop p rl q (out-sub (below g stop p) s c q (out-tail q p s o))
+
+pub reverse-out : (C : Context) (p : ℕ) → p < length (C .X .g) → Out p (C .X .seen) → getD (startLevels (C .X)) p 0 ≡ 0
+unfolding startLevels reverseLevels
+reverse-out C p h o = lifts-out (C .X .g) (C .X .done) (C .S .visited .topo) _ p o ∙ raise-out 1 (C .X .waiting) _ p (out-sub (C .X .waiting) (C .X .seen) (C .S .visited .has) p o) ∙ getD-replicate (length (C .X .g)) p 0 0 h
+
+-- ---- one lift
 
 lift-none : (g : List Node) (stop : List ℕ) (p : ℕ) (rl : List ℕ) → getD rl p 0 ≡ 0 → lift g stop p rl ≡ rl
 unfolding lift
@@ -176,29 +196,20 @@ module _ {C : Context} {m k : ℕ} {gates w₀ : List ℕ} (A : LowerAt C m k ga
 
 -- ---- the whole
 
-module _ {C : Context} {m n k : ℕ} {gates w : List ℕ} (A : ReverseAt C m n k gates w) (v : List ℕ) (ev : v ≡ put REVERSE m w (replicate m 0)) where
-  cleared : Becomes REVERSE m w v (replicate m 0)
-  cleared = rw ev (record { frame = frame-fill REVERSE 0 (omega arith) refl; is = col-put REVERSE m w (replicate m 0) (length-replicate m 0) (omega (arith, A .begun .base .area .room)) })
+module _ {C : Context} {m n k : ℕ} {gates w : List ℕ} (A : ReverseAt C m n k gates w) where
+  pub start-at : WaitsAt m n w
+  start-at = record { area = A .begun .base .area; waiting = holds-self (A .begun .waiting .held) }
 
-  waits : Holds WAITING m n (C .X .waiting) v
-  waits = holds-frame (A .begun .waiting .held) (cleared .frame) refl (omega arith)
-
-  pub start-at : WaitsAt m n v
-  start-at = record { area = frame-room (cleared .frame) (A .begun .base .area); waiting = holds-self waits }
-
-  module _ (u : List ℕ) (S : Becomes REVERSE m v u (raise 1 (list WAITING m n v) (col REVERSE m v))) where
+  module _ (u : List ℕ) (S : Becomes REVERSE m w u (raise 1 (list WAITING m n w) (col REVERSE m w))) where
     started : col REVERSE m u ≡ raise 1 (C .X .waiting) (replicate m 0)
-    started = S .is ∙ rw (waits .is, cleared .is)
-
-    frame : Frame (REVERSE ∷ []) m w u
-    frame = frame-then (cleared .frame) (S .frame)
+    started = S .is ∙ rw (A .begun .waiting .held .is, clear-col (A .clear))
 
     pub lower-at : LowerAt C m k gates u
     lower-at = record {
-      along = along-frame (record { reads = begun-reads (A .begun); ordered = A .ordered }) frame refl refl;
+      along = along-frame (record { reads = begun-reads (A .begun); ordered = A .ordered }) (S .frame) refl refl;
       low = rw started (waiting-low m (C .X .waiting));
     }
 
     pub reversed : {w′ : List ℕ} → Becomes REVERSE m u w′ (thread (lift (C .X .g) (C .X .done)) (C .X .seen) (col REVERSE m u)) → Becomes REVERSE m w w′ (startLevels (C .X))
     unfolding startLevels reverseLevels
-    reversed B = record { frame = frame-then frame (B .frame); is = B .is ∙ rw (started, A .begun .base .size) }
+    reversed B = record { frame = frame-then (S .frame) (B .frame); is = B .is ∙ rw (started, A .begun .base .size) }

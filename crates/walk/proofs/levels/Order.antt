@@ -4,11 +4,11 @@ use mathlib.Core.Logic.{inl, inr}
 use mathlib.Core.List.{List, [], _∷_, _++_, reverse, reverse-append, reverse-reverse}
 use Prim.Native.Nat.{ℕ, suc, _<_, _≤_}
 use native.Mathlib.Omega.{arith}
-use lib.ListN.{length, getD, take, drop, take-append-drop, length-reverse}
+use lib.ListN.{length, getD, take, drop, take-append-drop, length-reverse, getD-replicate}
 use lib.Seq.{take-suc, take-all, length-take-le, getD-set-same, getD-set-other}
 use Rattle.rules.specs.Graph.{Node, below}
 use Rattle.rules.specs.Traversal.{levels, setting, levelAt}
-use Rattle.rules.proofs.Lists.Members.{In, in-here, in-there, in-cons, in-nil, in-out, in-append-right}
+use Rattle.rules.proofs.Lists.Members.{In, Out, in-here, in-there, in-cons, in-nil, in-out, out-head, out-tail, in-append-right}
 use Rattle.rules.proofs.Walk.Traverse.{Ranked, Topo, none, more}
 use Rattle.rules.proofs.Walk.Levels.{over-least, length-levels}
 use Rattle.walk.specs.Stands.{Context}
@@ -32,6 +32,12 @@ levels-few g done r k (more {p = p} {s = s} o c t) b q e =
           (omega (arith, over-least (λ (x : ℕ). getD (levels g done s) x 0) (below g done p) (length s) (λ x a. ih x (c x a))))
       | inr d ↦ rw (getD-set-other (levels g done s) p q _ 0 (in-out q p s d o)) (omega (arith, ih q d))
     ]
+
+-- and 0 at pins that are not listed
+levels-out : (g : List Node) (done s : List ℕ) (q : ℕ) → q < length g → Out q s → getD (levels g done s) q 0 ≡ 0
+unfolding levels
+levels-out g done [] q h o = getD-replicate (length g) q 0 0 h
+levels-out g done (p ∷ s) q h o = getD-set-other (levels g done s) p q _ 0 (out-head q p s o) ∙ levels-out g done s q h (out-tail q p s o)
 
 module _ (C : Context) where
   -- the first i pins, the last first
@@ -69,3 +75,6 @@ module _ (C : Context) where
   pub level-few : (p : ℕ) → In p (C .X .seen) → levelAt (C .X) p < length (C .X .seen)
   unfolding levelAt
   level-few p e = rw (← lv-is) (levels-few (C .X .g) (C .X .done) (C .r) (C .S .ranked) (C .S .visited .topo) (C .S .bound) p e)
+
+  pub level-out : (p : ℕ) → p < length (C .X .g) → Out p (C .X .seen) → getD (C .X .lv) p 0 ≡ 0
+  level-out p h o = rw (← lv-is) (levels-out (C .X .g) (C .X .done) (C .X .seen) p h o)

@@ -2,23 +2,23 @@
 use mathlib.Core.Path.{_≡_, refl, sym, _∙_, ap}
 use mathlib.Core.Bool.{false}
 use mathlib.Core.List.{List, [], _∷_, _++_, map}
-use Prim.Native.Nat.{ℕ, suc, _+_, _*_, _<_, max}
+use Prim.Native.Nat.{ℕ, suc, _+_, _*_, _<_, _≤_, max}
 use native.Mathlib.Omega.{arith}
 use native.Mathlib.Numerals.{add-one}
-use lib.ListN.{length, getD, set, take, replicate, length-replicate}
+use lib.ListN.{length, getD, set, take, replicate}
 use lib.Seq.{take-suc, take-all, getD-set-same}
 use Rattle.rules.specs.Graph.{below}
 use Rattle.rules.specs.Traversal.{over, levels, levelAt, greatest}
 use Rattle.rules.proofs.Lists.Members.{In, in-here}
 use Rattle.rules.proofs.Walk.Levels.{over-ext, over-least, length-levels, levels-good}
-use Rattle.columns.specs.Area.{put, among, Frame}
+use Rattle.columns.specs.Area.{among, Frame}
 use Rattle.columns.specs.Fields.{ORDER, DONE, LEVEL}
 use Rattle.columns.proofs.Area.Columns.{getD-col, col-set}
-use Rattle.columns.proofs.Area.Puts.{col-put}
-use Rattle.columns.proofs.Area.Frames.{frame-none, frame-then, frame-set, frame-fill}
+use Rattle.columns.proofs.Area.Frames.{frame-none, frame-then, frame-set}
 use Rattle.columns.proofs.Lists.Entries.{holds-frame, holds-at, holds-pin}
+use Rattle.columns.proofs.Lists.Clears.{clear-col}
 use Rattle.walk.specs.Stands.{Context}
-use Rattle.walk.specs.Levels.{Along, LevelAt, RiseAt, Risen, Levels}
+use Rattle.walk.specs.Levels.{Along, LevelAt, LevelsAt, Risen, Levels}
 use Rattle.walk.proofs.Gates.{follow-pin, reads-frame, none-of, both-of}
 use Rattle.walk.proofs.levels.Order.{topo-next, levels-few, before, before-next, before-all, before-topo, before-seen, before-pin, before-length, lv-is}
 
@@ -54,13 +54,16 @@ module _ {C : Context} {m p : ℕ} {gates w : List ℕ} (A : LevelAt C m p gates
 
 -- ---- all
 
-module _ {C : Context} {m k : ℕ} {gates w₀ : List ℕ} (A : RiseAt C m k gates w₀) where
+module _ {C : Context} {m k : ℕ} {gates w₀ : List ℕ} (A : LevelsAt C m k gates w₀) where
   pub risen-none : Risen C m 0 w₀ w₀ 0
   unfolding levels greatest
-  risen-none = record { column = record { frame = frame-none; is = A .zeros ∙ ap (λ (n : ℕ). replicate n 0) (sym (A .along .reads .base .size)) }; most = refl }
+  risen-none = record { column = record { frame = frame-none; is = clear-col (A .clear) ∙ ap (λ (n : ℕ). replicate n 0) (sym (A .along .reads .base .size)) }; most = refl }
 
-  pub risen-end : {i : ℕ} {w : List ℕ} {top : ℕ} → Risen C m i w₀ w top → i ≡ k → Risen C m k w₀ w top
-  risen-end U e = rw e at U
+  pub levelled : {i : ℕ} {w : List ℕ} {top : ℕ} → Risen C m i w₀ w top → k ≤ i → Levels C m w₀ w top
+  levelled {i} U h = record {
+    column = record { frame = U .column .frame; is = U .column .is ∙ ap (levels (C .X .g) (C .X .done)) (before-all C i (omega (arith, A .along .ordered .order .count))) ∙ lv-is C };
+    most = rw (take-all i (C .X .order) (omega (arith, A .along .ordered .order .count))) at (U .most);
+  }
 
   module _ {i : ℕ} {w : List ℕ} {top : ℕ} (U : Risen C m i w₀ w top) (h : i < k) (p : ℕ) (ep : p ≡ getD w (ORDER * m + i) 0) where
     along : Along C m k gates w
@@ -120,16 +123,3 @@ module _ {C : Context} {m k : ℕ} {gates w₀ : List ℕ} (A : RiseAt C m k gat
         where
           last : top′ ≡ max (levelAt (C .X) (getD (C .X .order) i 0)) (greatest (map (levelAt (C .X)) (take i (C .X .order))) 0)
           last = rw (← U .most, ← holds-at (along .ordered .order) i h, ← ep, ← final) et
-
-module _ {C : Context} {m k : ℕ} {gates w : List ℕ} (A : Along C m k gates w) (v : List ℕ) (ev : v ≡ put LEVEL m w (replicate m 0)) where
-  cleared : Frame (LEVEL ∷ []) m w v
-  cleared = rw ev (frame-fill LEVEL 0 (omega arith) refl)
-
-  pub rise-at : RiseAt C m k gates v
-  rise-at = record { along = along-frame A cleared refl refl; zeros = rw ev (col-put LEVEL m w (replicate m 0) (length-replicate m 0) (omega (arith, A .reads .base .area .room))) }
-
-  pub levelled : {w′ : List ℕ} {top : ℕ} → Risen C m k v w′ top → Levels C m w w′ top
-  levelled U = record {
-    column = record { frame = frame-then cleared (U .column .frame); is = U .column .is ∙ ap (levels (C .X .g) (C .X .done)) (before-all C k (omega (arith, A .ordered .order .count))) ∙ lv-is C };
-    most = rw (take-all k (C .X .order) (omega (arith, A .ordered .order .count))) at (U .most);
-  }

@@ -1,28 +1,24 @@
 -- Rule 6 along the order, and the marks that go again. Assumes nothing.
 use mathlib.Core.Path.{_≡_, refl, sym, _∙_, ap}
 use mathlib.Core.Logic.{inl, inr, _≢_}
-use mathlib.Core.Bool.{true, false}
 use mathlib.Core.List.{List, [], _∷_}
 use Prim.Native.Nat.{ℕ, zero, suc, _+_, _*_, _<_, _≤_}
 use native.Mathlib.Omega.{arith}
 use native.Mathlib.Numerals.{add-one}
 use native.Mathlib.Decide.{ℕ-discrete}
-use borrow.Author.Tests.{ne-eqb}
-use lib.Dec.{eqb}
 use lib.ListN.{getD, set, drop, drop-of-length-le}
 use lib.Seq.{drop-cons, drop-nil}
 use Rattle.rules.specs.Lists.{mem, insertAll, gather}
 use Rattle.rules.specs.Placing.{treeOf}
 use Rattle.rules.specs.Lean.{lacks, wanted}
-use Rattle.rules.proofs.Lists.Members.{Out, split, true-false, in-there, in-cons}
+use Rattle.rules.proofs.Lists.Members.{Out, in-there, in-cons}
 use Rattle.rules.proofs.Walk.Bounds.{wanted-first, wanted-next}
 use Rattle.rules.proofs.Needed.Lacks.{same-truth}
 use Rattle.rules.proofs.Stage.Last.{Once, nobody, one}
-use Rattle.columns.specs.Area.{Frame, among}
 use Rattle.columns.specs.Fields.{ORDER, NEEDED, MARK}
 use Rattle.columns.specs.Lists.{list, bit, Holds}
 use Rattle.columns.proofs.Area.Columns.{at-set, at-set-past}
-use Rattle.columns.proofs.Area.Frames.{frame-none, frame-then, frame-set, frame-more, frame-room}
+use Rattle.columns.proofs.Area.Frames.{frame-none, frame-then, frame-set, frame-more, frame-less, frame-room}
 use Rattle.columns.proofs.Lists.Entries.{holds-none, holds-frame, holds-at, holds-pin, holds-in}
 use Rattle.columns.proofs.Lists.Marks.{marked-self}
 use Rattle.columns.proofs.Lists.Places.{placed-test}
@@ -82,7 +78,7 @@ module _ {C : Context} {pl : List ℕ} {m n k : ℕ} {gates w₀ : List ℕ} (A 
 
 -- ---- the marks go
 
-mem-other : (q p : ℕ) (xs : List ℕ) → q ≢ p → mem q (p ∷ xs) ≡ mem q xs
+pub mem-other : (q p : ℕ) (xs : List ℕ) → q ≢ p → mem q (p ∷ xs) ≡ mem q xs
 mem-other q p xs ne = same-truth (mem q (p ∷ xs)) (mem q xs) (λ e. elim (in-cons q p xs e) [ inl d ↦ absurd (ne d) | inr d ↦ d ]) (in-there q p xs)
 
 once-drop : {xs : List ℕ} → Once xs → (i p : ℕ) (ys : List ℕ) → drop i xs ≡ p ∷ ys → Out p ys
@@ -123,26 +119,12 @@ module _ {m r : ℕ} {w₀ : List ℕ} (A : UnmarkAt m r w₀) where
 
 -- ---- the whole
 
-among-less : (f g h : ℕ) → among (f ∷ []) h ≡ false → h ≢ g → among (f ∷ g ∷ []) h ≡ false
-among-less f g h e n = split (eqb h f) (λ d. true-false {b = true} refl (rw d at e)) (λ d. rw (d, ne-eqb h g n))
-
-frame-back : (f g m : ℕ) {w w′ : List ℕ} → f < 16 → g < 16 → Frame (f ∷ g ∷ []) m w w′ → ((p : ℕ) → p < m → getD w′ (g * m + p) 0 ≡ getD w (g * m + p) 0) → Frame (f ∷ []) m w w′
-frame-back f g m {w} {w′} hf hg fr same = record {
-  len = fr .len;
-  past = λ e j h. fr .past (among-less f g 16 e (λ d. omega arith)) j h;
-  cell = λ h e l p k. cell h e l p k (ℕ-discrete h g);
-}
-  where
-    cell : (h : ℕ) → among (f ∷ []) h ≡ false → h < 16 → (p : ℕ) → p < m → Dec (h ≡ g) → getD w′ (h * m + p) 0 ≡ getD w (h * m + p) 0
-    cell h e l p k (yes d) = rw d (same p k)
-    cell h e l p k (no d) = fr .cell h (among-less f g h e d) l p k
-
 module _ {C : Context} {pl : List ℕ} {m n k : ℕ} {gates w : List ℕ} (A : NeededAt C pl m n k gates w) {v : List ℕ} {r : ℕ} (L : Collected C pl m w v r) where
   pub unmark-at : UnmarkAt m r v
   unmark-at = record { area = frame-room (L .frame) (A .begun .base .area); now = marked-self (L .now) }
 
   pub needed-all : {w′ : List ℕ} → Unmarked m [] v w′ → Needed C pl m w w′ r
   needed-all U = record {
-    frame = frame-back NEEDED MARK m (omega arith) (omega arith) (frame-then (L .frame) (frame-more refl (U .frame))) (λ p h. U .marks .mark p h ∙ sym (A .unmarked .mark p h));
+    frame = frame-less MARK (omega arith) (frame-then (frame-more refl (L .frame)) (frame-more refl (U .frame))) (λ p h. U .marks .mark p h ∙ sym (A .unmarked .mark p h));
     list = holds-frame (L .now .held) (U .frame) refl (omega arith);
   }

@@ -1,4 +1,4 @@
--- The loops over the steps: one pin, all waiting pins, and the whole traversal. Assumes nothing.
+-- The loops over the steps: one pin, and all waiting pins. Assumes nothing.
 use mathlib.Core.Path.{_≡_, refl, sym, _∙_, ap}
 use mathlib.Core.Bool.{false}
 use mathlib.Core.Logic.{inl}
@@ -6,18 +6,18 @@ use mathlib.Core.List.{List, [], _∷_, reverse, reverse-reverse}
 use Prim.Native.Nat.{ℕ, suc, _+_, _-_, _*_, _<_, _≤_}
 use native.Mathlib.Omega.{arith}
 use native.Mathlib.Numerals.{add-one}
-use lib.ListN.{length, getD, set, drop, replicate, length-set, drop-of-length-le}
+use lib.ListN.{length, getD, set, drop, length-set, drop-of-length-le}
 use lib.Seq.{drop-cons, getD-set-same, getD-set-other}
 use Rattle.rules.specs.Traversal.{thread, visit, traverse, Setting, setting}
-use Rattle.columns.specs.Area.{put, Frame, among}
-use Rattle.columns.specs.Fields.{ORDER, DONE, WAITING, LISTED, STACK, PHASE, PLACE}
-use Rattle.columns.specs.Lists.{list}
-use Rattle.columns.proofs.Area.Frames.{frame-none, frame-then, frame-set, frame-fill, frame-more}
+use Rattle.columns.specs.Area.{Frame, among}
+use Rattle.columns.specs.Fields.{ORDER, DONE, WAITING, STACK, PHASE, PLACE}
+use Rattle.columns.specs.Lists.{list, Holds}
+use Rattle.columns.proofs.Area.Frames.{frame-none, frame-then, frame-set, frame-more}
 use Rattle.columns.proofs.Lists.Entries.{frame-list, holds-at, holds-pin, holds-in}
-use Rattle.columns.proofs.Lists.Marks.{zeros, marked-none, marked-self, marked-frame}
+use Rattle.columns.proofs.Lists.Marks.{marked-none, marked-self, marked-frame}
 use Rattle.columns.proofs.Lists.Places.{placed-frame}
 use Rattle.walk.specs.Stands.{Context, Begun, Reads}
-use Rattle.walk.specs.Machine.{Item, item, rest, finish, bottom, some, none, items, seenIn, Going, toGo, walked, Went, Stepped, VisitAt, Visited, SweepAt, Swept, Traversed}
+use Rattle.walk.specs.Machine.{Item, item, rest, finish, bottom, some, none, items, seenIn, Going, toGo, Went, Stepped, VisitAt, Visited, TraverseAt, Swept, Traversed}
 use Rattle.walk.proofs.Contexts.{order-is}
 use Rattle.walk.proofs.Gates.{reads-frame}
 
@@ -88,67 +88,46 @@ module _ {C : Context} {m : ℕ} {gates w : List ℕ} {n p : ℕ} (A : VisitAt C
 
 -- ---- along the waiting pins
 
-module _ {C : Context} {m n : ℕ} {gates : List ℕ} where
-  pub swept-none : {w : List ℕ} {k : ℕ} → SweepAt C m n gates w k → Swept C m n gates w k 0 w k
-  swept-none A = record { frame = frame-none; at = A; same = refl }
+module _ {C : Context} {m n : ℕ} {gates w₀ : List ℕ} (A : TraverseAt C m n gates w₀) where
+  pub swept-none : Swept C m n gates w₀ 0 w₀ 0
+  unfolding items list traverse setting
+  swept-none = record {
+    frame = frame-none;
+    begun = A .begun;
+    going = record { reads = begun-reads (A .begun); listed = marked-none (A .clear .zero); stack = none };
+    same = sym (ap (λ (Y : Setting). Y .seen) (C .is));
+  }
 
-  module _ {w₀ : List ℕ} {k₀ i : ℕ} {w : List ℕ} {k : ℕ} (U : Swept C m n gates w₀ k₀ i w k) where
-    pub swept-end : i ≡ n → Swept C m n gates w₀ k₀ n w k
-    swept-end e = rw e at U
+  module _ {i : ℕ} {w : List ℕ} {k : ℕ} (U : Swept C m n gates w₀ i w k) where
+    abbrev waits : Holds WAITING m n (C .X .waiting) w
+    waits = U .begun .waiting .held
+
+    pub traversed : n ≤ i → Traversed C m w₀ w k
+    unfolding thread
+    traversed h = record { frame = U .frame; order = rw is at (U .going .listed .held); marks = rw is at (U .going .listed .marks) }
+      where
+        none-left : drop i (C .X .waiting) ≡ []
+        none-left = drop-of-length-le (C .X .waiting) {i = i} (omega (arith, waits .count))
+
+        is : list ORDER m k w ≡ C .X .order
+        is = sym (reverse-reverse (list ORDER m k w)) ∙ ap reverse (rw none-left at (U .same)) ∙ sym (order-is C)
 
     module _ (h : i < n) (p : ℕ) (ep : p ≡ getD w (WAITING * m + i) 0) where
       pub visit-at : VisitAt C m gates w k p
       visit-at = record {
-        going = U .at .going;
-        pin = rw ep (holds-pin (U .at .begun .waiting .held) i h);
-        rank = omega (arith, C .R .bounded p (rw ep (holds-in (U .at .begun .waiting .held) i h)) .1, U .at .begun .base .size);
+        going = U .going;
+        pin = rw ep (holds-pin waits i h);
+        rank = omega (arith, C .R .bounded p (rw ep (holds-in waits i h)) .1, U .begun .base .size);
       }
 
       next : drop i (C .X .waiting) ≡ p ∷ drop (suc i) (C .X .waiting)
-      next = drop-cons (C .X .waiting) i 0 (omega (arith, U .at .begun .waiting .held .count)) ∙ ap (λ (x : ℕ). x ∷ drop (suc i) (C .X .waiting)) (sym (ep ∙ holds-at (U .at .begun .waiting .held) i h))
+      next = drop-cons (C .X .waiting) i 0 (omega (arith, waits .count)) ∙ ap (λ (x : ℕ). x ∷ drop (suc i) (C .X .waiting)) (sym (ep ∙ holds-at waits i h))
 
-      pub swept-more : {w′ : List ℕ} {k′ : ℕ} → Visited C m gates w k p w′ k′ → Swept C m n gates w₀ k₀ (i + 1) w′ k′
+      pub swept-more : {w′ : List ℕ} {k′ : ℕ} → Visited C m gates w k p w′ k′ → Swept C m n gates w₀ (i + 1) w′ k′
       unfolding thread
       swept-more v = record {
         frame = frame-then (U .frame) (v .frame);
-        at = record { begun = begun-frame (U .at .begun) (v .frame) refl refl refl; going = v .going };
+        begun = begun-frame (U .begun) (v .frame) refl refl refl;
+        going = v .going;
         same = rw (add-one i, v .lists) (rw next at (U .same));
       }
-
--- ---- the whole
-
-module _ {C : Context} {m n : ℕ} {gates w : List ℕ} (B : Begun C m n gates w) (v : List ℕ) (ev : v ≡ put LISTED m w (replicate m 0)) where
-  cleared : Frame walked m w v
-  cleared = rw ev (frame-fill LISTED 0 (omega arith) refl)
-
-  pub sweep-at : SweepAt C m n gates v 0
-  unfolding items list
-  sweep-at = let b = begun-frame B cleared refl refl refl in record {
-    begun = b;
-    going = record {
-      reads = begun-reads b;
-      listed = marked-none (λ p h. rw ev (zeros LISTED m w (omega (arith, B .base .area .room)) p h));
-      stack = none;
-    };
-  }
-
-  seen-is : traverse (length (C .X .g)) (C .X .g) (C .X .done) (C .X .waiting) ≡ C .X .seen
-  unfolding setting
-  seen-is = sym (ap (λ (Y : Setting). Y .seen) (C .is))
-
-  pub traversed : {w′ : List ℕ} {k : ℕ} → Swept C m n gates v 0 n w′ k → Traversed C m w w′ k
-  unfolding thread traverse list
-  traversed {w′} {k} S = record {
-    frame = frame-then cleared (S .frame);
-    order = rw is at (S .at .going .listed .held);
-    marks = rw is at (S .at .going .listed .marks);
-  }
-    where
-      none-left : drop n (C .X .waiting) ≡ []
-      none-left = drop-of-length-le (C .X .waiting) {i = n} (omega (arith, B .waiting .held .count))
-
-      seen : seenIn m k w′ ≡ C .X .seen
-      seen = (rw none-left at (S .same)) ∙ seen-is
-
-      is : list ORDER m k w′ ≡ C .X .order
-      is = sym (reverse-reverse (list ORDER m k w′)) ∙ ap reverse seen ∙ sym (order-is C)

@@ -1,21 +1,64 @@
--- `walk::levels::levels` meets its contract: all levels are 0 at first. Assumes nothing.
+-- `walk::levels::levels` meets its contract: the first i pins have their levels. Assumes nothing.
+use mathlib.Core.Path.{_≡_, refl}
+use Prim.Native.Nat.{_≤_, _-_}
 use native.Mathlib.Omega.{arith}
-use Rattle.walk.proofs.levels.Rising.{rise-at, levelled}
+use lib.ListN.{length}
+use Rattle.walk.specs.Stands.{Every}
+use Rattle.walk.specs.Levels.{LevelsAt, Risen}
+use Rattle.walk.proofs.levels.Rising.{risen-none, level-at, level-few, risen-more, levelled}
 use borrow.Author.Needs.{needs}
 use Rattle.walk.proofs.levels.levels.Statement.{statement}
 use Rattle.walk.proofs.levels.levels.Tie as tie
 
-fill-requires : tie.Need-fill-requires
-fill-requires c κs = (c .before .before .before .pre .at .reads .base .area, omega arith)
+abbrev Inv-loop : tie.InvT-loop
+Inv-loop gates work₀ m k top₀ i₀ work top i = Every (λ C. LevelsAt C m k gates work₀) (λ C. Risen C m i work₀ work top) × (i ≤ k) × (length work ≡ length work₀)
 
-rise-requires : tie.Need-rise-requires
-rise-requires c κs = let s = c .before .before .before .before .before .before .before .pre in record { C = s .C; at = rise-at (s .at) _ (c .before .before .before .fill .ensures) }
+abbrev μ-loop : tie.MeasureT-loop
+μ-loop gates work₀ m k top₀ i₀ work top i = k - i
 
-same-length : tie.Need-same-length
+loop-holds : tie.Need-loop-holds Inv-loop μ-loop
+loop-holds c = (record { all = λ C A. risen-none A }, omega arith, refl)
+
+get-requires : tie.Need-get-requires Inv-loop μ-loop
+get-requires c κs = let s = c .before .before .before .before .before .pre .at in omega (arith, s .along .ordered .order .few, s .along .reads .base .area .room, c .before .before .loop .inv .2)
+
+level-of-requires : tie.Need-level-of-requires Inv-loop μ-loop
+level-of-requires c κs = let s = c .before .before .before .before .before .before .before .pre in record { C = s .C; at = level-at (s .at) (c .before .before .before .before .loop .inv .0 .all (s .C) (s .at)) (c .before .before .before .loop-test .taken) _ (c .before .get .ensures) }
+
+push-requires : tie.Need-push-requires Inv-loop μ-loop
+push-requires c κs = let s = c .before .before .before .before .before .before .before .before .before .pre in let U = c .before .before .before .before .before .before .loop .inv .0 .all (s .C) (s .at) in let L = level-at (s .at) U (c .before .before .before .before .before .loop-test .taken) _ (c .before .before .before .get .ensures) in let v = level-few (s .at) U (c .before .before .before .before .before .loop-test .taken) _ (c .before .before .before .get .ensures) _ (c .before .level-of .ensures .all (s .C) L) in (omega (arith, L .pin, s .at .along .reads .base .area .room, c .before .before .before .before .before .before .loop .inv .2), omega (arith, s .at .along .reads .base .area .small))
+
+higher-requires : tie.Need-higher-requires Inv-loop μ-loop
+higher-requires c κs = search needs
+
+add-i : tie.Need-add-i Inv-loop μ-loop
+add-i c = search needs
+
+loop-less : tie.Need-loop-less Inv-loop μ-loop
+loop-less c = search needs
+
+loop-again : tie.Need-loop-again Inv-loop μ-loop
+loop-again c = (record { all = λ C A. let U = c .before .before .before .before .before .before .before .before .before .before .loop .inv .0 .all C A in risen-more A U (c .before .before .before .before .before .before .before .before .before .loop-test .taken) _ (c .before .before .before .before .before .before .before .get .ensures) _ (c .before .before .before .before .before .level-of .ensures .all C (level-at A U (c .before .before .before .before .before .before .before .before .before .loop-test .taken) _ (c .before .before .before .before .before .before .before .get .ensures))) _ _ (c .before .before .before .push .ensures) (c .higher .ensures) }, omega arith, search needs)
+
+same-length : tie.Need-same-length Inv-loop μ-loop
 same-length c = search needs
 
-returns : tie.Need-returns
-returns c = record { all = λ C A. levelled A _ (c .before .before .before .before .before .before .fill .ensures) (c .before .before .rise .ensures .all C (rise-at A _ (c .before .before .before .before .before .before .fill .ensures))) }
+returns : tie.Need-returns Inv-loop μ-loop
+returns c = record { all = λ C A. levelled A (c .before .loop .inv .0 .all C A) (omega arith) }
 
 pub levels-spec : {M : Type 1} → statement M
-levels-spec = tie.close (tie.spec fill-requires rise-requires same-length returns)
+levels-spec =
+    tie.close
+    (tie.spec
+    Inv-loop
+    μ-loop
+    loop-holds
+    get-requires
+    level-of-requires
+    push-requires
+    higher-requires
+    add-i
+    loop-less
+    loop-again
+    same-length
+    returns)
