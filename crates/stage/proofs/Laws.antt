@@ -12,3 +12,4 @@ pub mod Ran
 pub mod Filled
 pub mod Closed
 pub mod Lasted
+pub mod Filling

@@ -6,3 +6,4 @@ pub mod Puts
 pub mod Rest
 pub mod Loop
 pub mod Ending
+pub mod Filling

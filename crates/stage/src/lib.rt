@@ -2,6 +2,7 @@
 mod classes;
 mod close;
 mod ending;
+mod filling;
 mod lean;
 mod puts;
 mod rest;
