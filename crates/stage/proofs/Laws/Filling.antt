@@ -137,7 +137,7 @@ module _ {C : Context} {m n k top K half : ℕ} {gates pl w : List ℕ} (A : Fil
       size = fair .len ∙ sym (stands 1 .fair .len);
       kept = kept;
       stands = record { base = last .begun .base; levelled = last .levelled; tally = N₁ .tally; fair = fair };
-      needed = rw needs (N .list);
+      needed = rw (← needs) at (N .list);
     }
       where
         N₁ : Counted C m pl1 w1 w2 q
