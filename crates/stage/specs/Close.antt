@@ -6,7 +6,7 @@ use Prim.Native.Nat.{ℕ, _+_, _*_, _<_, _≤_}
 use lib.Dec.{eqb}
 use lib.ListN.{getD, take}
 use Rattle.rules.specs.Lists.{mem, keep, insertAll, swapOutAll}
-use Rattle.rules.proofs.Lists.Members.{In}
+use Rattle.rules.proofs.Lists.Members.{In, Out}
 use Rattle.columns.specs.Fields.{ORDER, DONE, WAITING, CELLS, STACK, PLACE, MARK, SPARE}
 use Rattle.columns.specs.Area.{Room, Frame}
 use Rattle.columns.specs.Lists.{list, Holds, Marked, Placed}
@@ -15,17 +15,33 @@ abbrev pub either : Bool → ℕ → ℕ → ℕ
 either true a b = a
 either false a b = b
 
--- ---- the pins above level 0 are realised
+-- ---- the pins above level 0 are realised, and what the stage noted of a pin goes
 
 pub record PinAt (m p : ℕ) (w : List ℕ) : Type 0 where
   pub area : Room m w
   pub pin : p < m
 
--- of the pins xs
+-- column f is 0 but at the pins xs
+pub record Within (f m : ℕ) (xs w : List ℕ) : Type 0 where
+  pub zero : (p : ℕ) → p < m → Out p xs → getD w (f * m + p) 0 ≡ 0
+
+-- column f becomes 0 at the pins xs
+pub record Zeroed (f m : ℕ) (xs w w′ : List ℕ) : Type 0 where
+  pub field : (p : ℕ) → p < m → getD w′ (f * m + p) 0 ≡ either (mem p xs) 0 (getD w (f * m + p) 0)
+
+-- the count and the marks of the pins xs
+pub record Wiped (m : ℕ) (xs w w′ : List ℕ) : Type 0 where
+  pub frame : Frame (CELLS ∷ MARK ∷ SPARE ∷ []) m w w′
+  pub cells : Zeroed CELLS m xs w w′
+  pub marks : Zeroed MARK m xs w w′
+  pub spare : Zeroed SPARE m xs w w′
+
 pub record Retired (m : ℕ) (xs w w′ : List ℕ) : Type 0 where
-  pub frame : Frame (DONE ∷ CELLS ∷ []) m w w′
+  pub frame : Frame (DONE ∷ CELLS ∷ MARK ∷ SPARE ∷ []) m w w′
   pub done : (p : ℕ) → p < m → getD w′ (DONE * m + p) 0 ≡ either (mem p xs && not (eqb (getD w (CELLS * m + p) 0) 0)) 1 (getD w (DONE * m + p) 0)
-  pub cells : (p : ℕ) → p < m → getD w′ (CELLS * m + p) 0 ≡ either (mem p xs) 0 (getD w (CELLS * m + p) 0)
+  pub cells : Zeroed CELLS m xs w w′
+  pub marks : Zeroed MARK m xs w w′
+  pub spare : Zeroed SPARE m xs w w′
 
 pub record RetireAt (m k : ℕ) (w : List ℕ) : Type 0 where
   pub area : Room m w

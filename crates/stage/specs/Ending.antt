@@ -12,13 +12,13 @@ use Rattle.rules.specs.Ending.{plan, full, putRest, inNeed, lastStage, written}
 use Rattle.rules.proofs.Lists.Members.{In}
 use Rattle.columns.specs.Fields.{ORDER, DONE, WAITING, CELLS, NEEDED, STACK, PHASE, PLACE, MARK, SPARE, TAIL, ONES, PINS}
 use Rattle.columns.specs.Area.{Room, Frame}
-use Rattle.columns.specs.Lists.{list, Holds, Marks, Marked, Placed}
+use Rattle.columns.specs.Lists.{list, Holds, Marks, Clear, Marked, Placed}
 use Rattle.walk.specs.Stands.{Context, Begun}
 use Rattle.tree.specs.Counts as counts
 use Rattle.tree.specs.Bits.{Standing}
 use Rattle.stage.specs.declared.ending.Spent.{Spent}
 use Rattle.stage.specs.declared.ending.Kept.{Kept}
-use Rattle.stage.specs.Close.{either, isTree}
+use Rattle.stage.specs.Close.{either, Within, isTree}
 use Rattle.stage.specs.Puts.{noted}
 use Rattle.stage.specs.Words.{isEnd, UpAt, wordsFrom, laidAt}
 
@@ -90,13 +90,16 @@ pub record CloseAt (m o n r : ℕ) (w : List ℕ) : Type 0 where
   pub waiting : Placed WAITING PLACE m n (list WAITING m n w) w
   pub real : Marked STACK MARK m r (list STACK m r w) w
   pub waits : (x : ℕ) → In x (list STACK m r w) → In x (list WAITING m n w)
+  pub cells : Within CELLS m (list ORDER m o w) w
+  pub marks : Within MARK m (list ORDER m o w) w
+  pub spare : Within SPARE m (list ORDER m o w) w
 
 pub record Closed (m o n r : ℕ) (w w′ : List ℕ) (e : ℕ) : Type 0 where
   pub frame : Frame (DONE ∷ WAITING ∷ CELLS ∷ PLACE ∷ MARK ∷ SPARE ∷ TAIL ∷ []) m w w′
   pub past : (j : ℕ) → 258 ≤ j → getD w′ (16 * m + j) 0 ≡ getD w (16 * m + j) 0
   pub done : (p : ℕ) → p < m → getD w′ (DONE * m + p) 0 ≡ either (mem p (list ORDER m o w) && not (eqb (getD w (CELLS * m + p) 0) 0)) 1 (getD w (DONE * m + p) 0)
-  pub cells : (p : ℕ) → p < m → getD w′ (CELLS * m + p) 0 ≡ either (mem p (list ORDER m o w)) 0 (getD w (CELLS * m + p) 0)
   pub waiting : Placed WAITING PLACE m e (swapOutAll (list STACK m r w) (list WAITING m n w)) w′
-  pub marks : (p : ℕ) → p < m → getD w′ (MARK * m + p) 0 ≡ 0
-  pub spare : (p : ℕ) → p < m → getD w′ (SPARE * m + p) 0 ≡ 0
+  pub cells : Clear CELLS m w′
+  pub marks : Clear MARK m w′
+  pub spare : Clear SPARE m w′
   pub tail : (j : ℕ) → j < 258 → getD w′ (16 * m + j) 0 ≡ 0

@@ -14,19 +14,30 @@ ghost use mathlib.Core.Path.{_≡_};
 ghost use Prim.Native.Nat.{ℕ, _+_, _*_, _<_, _≤_};
 ghost use Rattle.columns.specs.Lists.{list};
 ghost use Rattle.columns.specs.Fields as fields;
-ghost use Rattle.stage.specs.Close.{RetireAt, Retired, PinAt, LeaveAt, Left, OneAt, One, RealiseAt, Realised};
+ghost use Rattle.stage.specs.Close.{RetireAt, Retired, PinAt, Wiped, LeaveAt, Left, OneAt, One, RealiseAt, Realised};
 ghost use mathlib.Core.List.{[], _∷_};
 
-// Pin p is realised if a cell above level 0 holds it, and no cell counts any more.
+// The stage knows nothing more of pin p.
+fn wipe(work: &mut [u32], m: usize, p: usize)
+    requires { ⌜ PinAt m p (now work) ⌝ }
+    ensures { λ _. ⌜ Wiped m (p ∷ []) (now (work .entry)) (now (work .exit)) ⌝ }
+{
+    set_field(work, m, p, CELLS, 0);
+    set_field(work, m, p, MARK, 0);
+    set_field(work, m, p, SPARE, 0);
+}
+
+// Pin p is realised if a cell above level 0 holds it; its count and marks go.
 fn retire(work: &mut [u32], m: usize, p: usize)
     requires { ⌜ PinAt m p (now work) ⌝ }
     ensures { λ _. ⌜ Retired m (p ∷ []) (now (work .entry)) (now (work .exit)) ⌝ }
 {
     if get(work, m, p, CELLS) == 0 {
+        wipe(work, m, p);
         return;
     }
     set_field(work, m, p, DONE, 1);
-    set_field(work, m, p, CELLS, 0);
+    wipe(work, m, p);
 }
 
 // The k pins of the order.

@@ -9,9 +9,6 @@ use crate::rest::put_rest;
 use crate::runs::sparse_runs;
 use crate::words::collect;
 use crate::words::write;
-use columns::MARK;
-use columns::SPARE;
-use columns::fill;
 use columns::fill_tail;
 use tree::first_empty;
 ghost use Rattle.walk.specs.Stands.{Some, Every};
@@ -112,10 +109,8 @@ fn close_stage(work: &mut [u32], m: usize, o: usize, n: usize, r: usize) -> usiz
     requires { ⌜ CloseAt m o n r (now work) ⌝ }
     ensures { λ e. ⌜ Closed m o n r (now (work .entry)) (now (work .exit)) e ⌝ }
 {
-    retire_all(work, m, o);
     let left = leave_all(work, m, n, r);
-    fill(work, m, MARK, 0);
-    fill(work, m, SPARE, 0);
+    retire_all(work, m, o);
     fill_tail(work, m, 258, 0);
     left
 }

@@ -7,7 +7,7 @@ use native.Mathlib.Omega.{arith}
 use native.Mathlib.Decide.{ℕ-discrete}
 use native.Mathlib.Numerals.{add-one}
 use lib.Dec.{eqb}
-use lib.ListN.{length, getD, set, take, drop, length-set, length-take, take-append-drop}
+use lib.ListN.{length, getD, set, take, drop, length-take, take-append-drop}
 use lib.Seq.{take-suc, take-all, getD-take}
 use borrow.Author.Tests.{eq-eqb, ne-eqb}
 use Rattle.rules.specs.Lists.{mem, keep, insertAll, swapOut, swapOutAll}
@@ -15,14 +15,15 @@ use Rattle.rules.proofs.Lists.Members.{In, Out, split, in-getD, getD-in, true-f
 use Rattle.rules.proofs.Stage.Last.{Once, nobody, one}
 use Rattle.rules.proofs.Written.Words.{left-out}
 use Rattle.columns.specs.Fields.{ORDER, DONE, WAITING, CELLS, STACK, MARK, SPARE}
-use Rattle.columns.specs.Lists.{list, EnlistAt, Enlisted, SwapAt, Swapped}
-use Rattle.columns.proofs.Area.Columns.{at-set, at-set-past, at-set-other}
-use Rattle.columns.proofs.Area.Frames.{frame-none, frame-then, frame-set, frame-room}
+use Rattle.columns.specs.Area.{among, Frame}
+use Rattle.columns.specs.Lists.{list, Clear, EnlistAt, Enlisted, SwapAt, Swapped}
+use Rattle.columns.proofs.Area.Columns.{at-set, at-set-past}
+use Rattle.columns.proofs.Area.Frames.{frame-none, frame-then, frame-more, frame-set, frame-room}
 use Rattle.columns.proofs.Lists.Entries.{holds-at}
 use Rattle.columns.proofs.Lists.Marks.{enlist-at}
 use Rattle.columns.proofs.Lists.Places.{swap-out-at, swapped}
 use Rattle.columns.proofs.Lists.Swap.{once-place}
-use Rattle.stage.specs.Close.{either, PinAt, Retired, RetireAt, LeaveAt, Leaving, Left, isTree, OneAt, One, RealiseAt, Realising, Realised}
+use Rattle.stage.specs.Close.{either, PinAt, Within, Zeroed, Wiped, Retired, RetireAt, LeaveAt, Leaving, Left, isTree, OneAt, One, RealiseAt, Realising, Realised}
 use Rattle.stage.proofs.Laws.Classes.{keep-append, insertAll-append}
 
 -- ---- lists
@@ -59,62 +60,94 @@ once-take zero k = nobody
 once-take (suc i) nobody = nobody
 once-take (suc i) (one {x = x} {xs = xs} o k) = one (out-take i xs x o) (once-take i k)
 
--- ---- the pins above level 0 are realised
+-- ---- a column at some pins
 
-pub retired-none : {m : ℕ} {w : List ℕ} → Retired m [] w w
+zeroed-none : {f m : ℕ} {w : List ℕ} → Zeroed f m [] w w
 unfolding mem
-retired-none = record { frame = frame-none; done = λ p h. refl; cells = λ p h. refl }
-
-mixed : (d c : ℕ) (x y : Bool) → either (y && not (eqb (either x 0 c) 0)) 1 (either (x && not (eqb c 0)) 1 d) ≡ either ((x || y) && not (eqb c 0)) 1 d
-mixed d c true true = refl
-mixed d c true false = refl
-mixed d c false y = refl
+zeroed-none = record { field = λ p h. refl }
 
 both : (c : ℕ) (x y : Bool) → either y 0 (either x 0 c) ≡ either (x || y) 0 c
 both c true true = refl
 both c true false = refl
 both c false y = refl
 
+zeroed-then : {f m : ℕ} {xs ys u v w : List ℕ} → Zeroed f m xs u v → Zeroed f m ys v w → Zeroed f m (xs ++ ys) u w
+zeroed-then {f} {m} {xs} {ys} {u} a b = record { field = λ p h. b .field p h ∙ rw (a .field p h, mem-append) (both (getD u (f * m + p) 0) (mem p xs) (mem p ys)) }
+
+zeroed-set : {m : ℕ} {w : List ℕ} (f p : ℕ) → p < m → f * m + m ≤ length w → Zeroed f m (p ∷ []) w (set w (f * m + p) 0)
+zeroed-set {m} {w} f p h l = record {
+  field = λ q b. elim (ℕ-discrete q p) [
+    | yes d ↦ rw (d, mem-one, eq-eqb p p refl) (at-set f m w p 0 h l)
+    | no d ↦ rw (mem-one, ne-eqb q p d) (at-set-past f m w p q 0 d)
+  ];
+}
+
+-- with other columns changed before and after
+zeroed-frame : {f m : ℕ} {fs gs xs t u v w : List ℕ} → Frame fs m t u → Zeroed f m xs u v → Frame gs m v w → among fs f ≡ false → among gs f ≡ false → f < 16 → Zeroed f m xs t w
+zeroed-frame {f} {m} {fs} {gs} {xs} F Z G a b h = record { field = λ p l. G .cell f b h p l ∙ Z .field p l ∙ ap (either (mem p xs) 0) (F .cell f a h p l) }
+
+pub zeroed-clear : {f m : ℕ} {xs w w′ : List ℕ} → Within f m xs w → Zeroed f m xs w w′ → Clear f m w′
+zeroed-clear {f} {m} {xs} {w} A Z = record { zero = λ p h. Z .field p h ∙ split (mem p xs) (λ e. rw e refl) (λ e. rw e (A .zero p h e)) }
+
+-- ---- the pins above level 0 are realised
+
+pub retired-none : {m : ℕ} {w : List ℕ} → Retired m [] w w
+unfolding mem
+retired-none = record { frame = frame-none; done = λ p h. refl; cells = zeroed-none; marks = zeroed-none; spare = zeroed-none }
+
+mixed : (d c : ℕ) (x y : Bool) → either (y && not (eqb (either x 0 c) 0)) 1 (either (x && not (eqb c 0)) 1 d) ≡ either ((x || y) && not (eqb c 0)) 1 d
+mixed d c true true = refl
+mixed d c true false = refl
+mixed d c false y = refl
+
 pub retired-then : {m : ℕ} {xs ys u v w : List ℕ} → Retired m xs u v → Retired m ys v w → Retired m (xs ++ ys) u w
 retired-then {m} {xs} {ys} {u} a b = record {
   frame = frame-then (a .frame) (b .frame);
-  done = λ p h. b .done p h ∙ rw (a .done p h, a .cells p h, mem-append) (mixed (getD u (DONE * m + p) 0) (getD u (CELLS * m + p) 0) (mem p xs) (mem p ys));
-  cells = λ p h. b .cells p h ∙ rw (a .cells p h, mem-append) (both (getD u (CELLS * m + p) 0) (mem p xs) (mem p ys));
+  done = λ p h. b .done p h ∙ rw (a .done p h, a .cells .field p h, mem-append) (mixed (getD u (DONE * m + p) 0) (getD u (CELLS * m + p) 0) (mem p xs) (mem p ys));
+  cells = zeroed-then (a .cells) (b .cells);
+  marks = zeroed-then (a .marks) (b .marks);
+  spare = zeroed-then (a .spare) (b .spare);
 }
 
-either-same : (b : Bool) (x : ℕ) → either b x x ≡ x
-either-same true x = refl
-either-same false x = refl
-
 module _ {m p : ℕ} {w : List ℕ} (a : PinAt m p w) where
-  pub retire-none : getD w (CELLS * m + p) 0 ≡ 0 → Retired m (p ∷ []) w w
-  retire-none e = record {
-    frame = frame-none;
-    done = λ q h. elim (ℕ-discrete q p) [ yes d ↦ rw (d, e, mem-one, eq-eqb p p refl) refl | no d ↦ rw (mem-one, ne-eqb q p d) refl ];
-    cells = λ q h. elim (ℕ-discrete q p) [ yes d ↦ rw (d, e) (sym (either-same (mem p (p ∷ [])) 0)) | no d ↦ rw (mem-one, ne-eqb q p d) refl ];
+  pub wiped : (w₁ w₂ w₃ : List ℕ) → w₁ ≡ set w (CELLS * m + p) 0 → w₂ ≡ set w₁ (MARK * m + p) 0 → w₃ ≡ set w₂ (SPARE * m + p) 0 → Wiped m (p ∷ []) w w₃
+  wiped w₁ w₂ w₃ e₁ e₂ e₃ =
+      let F₁ : Frame (CELLS ∷ []) m w w₁ = rw e₁ (frame-set CELLS p 0 (a .pin) (omega arith) refl) in
+      let F₂ : Frame (MARK ∷ []) m w₁ w₂ = rw e₂ (frame-set MARK p 0 (a .pin) (omega arith) refl) in
+      let F₃ : Frame (SPARE ∷ []) m w₂ w₃ = rw e₃ (frame-set SPARE p 0 (a .pin) (omega arith) refl) in
+      record {
+        frame = frame-then (frame-more refl F₁) (frame-then (frame-more refl F₂) (frame-more refl F₃));
+        cells = zeroed-frame {fs = []} frame-none (rw e₁ (zeroed-set CELLS p (a .pin) (omega (arith, a .area .room)))) (frame-then (frame-more {gs = MARK ∷ SPARE ∷ []} refl F₂) (frame-more refl F₃)) refl refl (omega arith);
+        marks = zeroed-frame F₁ (rw e₂ (zeroed-set MARK p (a .pin) (omega (arith, a .area .room, F₁ .len)))) F₃ refl refl (omega arith);
+        spare = zeroed-frame (frame-then (frame-more {gs = CELLS ∷ MARK ∷ []} refl F₁) (frame-more refl F₂)) (rw e₃ (zeroed-set SPARE p (a .pin) (omega (arith, a .area .room, F₁ .len, F₂ .len)))) (frame-none {fs = []}) refl refl (omega arith);
+      }
+
+  pub retire-none : getD w (CELLS * m + p) 0 ≡ 0 → {w₁ : List ℕ} → Wiped m (p ∷ []) w w₁ → Retired m (p ∷ []) w w₁
+  retire-none e W = record {
+    frame = frame-more refl (W .frame);
+    done = λ q h. W .frame .cell DONE refl (omega arith) q h ∙ elim (ℕ-discrete q p) [ yes d ↦ rw (d, e, mem-one, eq-eqb p p refl) refl | no d ↦ rw (mem-one, ne-eqb q p d) refl ];
+    cells = W .cells;
+    marks = W .marks;
+    spare = W .spare;
   }
 
-  module _ (ne : getD w (CELLS * m + p) 0 ≡ 0 → ⊥) (w₁ w₂ : List ℕ) (e₁ : w₁ ≡ set w (DONE * m + p) 1) (e₂ : w₂ ≡ set w₁ (CELLS * m + p) 0) where
-    is : w₂ ≡ set (set w (DONE * m + p) 1) (CELLS * m + p) 0
-    is = rw e₁ at e₂
+  module _ (w₁ : List ℕ) (e₁ : w₁ ≡ set w (DONE * m + p) 1) where
+    first : Frame (DONE ∷ []) m w w₁
+    first = rw e₁ (frame-set DONE p 1 (a .pin) (omega arith) refl)
 
-    at-done : (q : ℕ) → q < m → getD w₂ (DONE * m + q) 0 ≡ getD (set w (DONE * m + p) 1) (DONE * m + q) 0
-    at-done q h = rw is (at-set-other CELLS DONE m (set w (DONE * m + p) 1) p q 0 (a .pin) h (λ d. omega arith))
+    pub retire-at : PinAt m p w₁
+    retire-at = record { area = frame-room first (a .area); pin = a .pin }
 
-    at-cells : (q : ℕ) → (q ≡ p → ⊥) → q < m → getD w₂ (CELLS * m + q) 0 ≡ getD w (CELLS * m + q) 0
-    at-cells q d h = rw is (at-set-past CELLS m (set w (DONE * m + p) 1) p q 0 d ∙ at-set-other DONE CELLS m w p q 1 (a .pin) h (λ e. omega arith))
-
-    pub retire-one : Retired m (p ∷ []) w w₂
-    retire-one = record {
-      frame = rw is (frame-then (frame-set DONE p 1 (a .pin) (omega arith) refl) (frame-set CELLS p 0 (a .pin) (omega arith) refl));
-      done = λ q h. at-done q h ∙ elim (ℕ-discrete q p) [
-        | yes d ↦ rw (d, mem-one, eq-eqb p p refl, ne-eqb (getD w (CELLS * m + p) 0) 0 ne) (at-set DONE m w p 1 (a .pin) (omega (arith, a .area .room)))
-        | no d ↦ rw (mem-one, ne-eqb q p d) (at-set-past DONE m w p q 1 d)
+    pub retire-one : (getD w (CELLS * m + p) 0 ≡ 0 → ⊥) → {w₂ : List ℕ} → Wiped m (p ∷ []) w₁ w₂ → Retired m (p ∷ []) w w₂
+    retire-one ne W = record {
+      frame = frame-then (frame-more refl first) (frame-more refl (W .frame));
+      done = λ q h. W .frame .cell DONE refl (omega arith) q h ∙ elim (ℕ-discrete q p) [
+        | yes d ↦ rw (d, e₁, mem-one, eq-eqb p p refl, ne-eqb (getD w (CELLS * m + p) 0) 0 ne) (at-set DONE m w p 1 (a .pin) (omega (arith, a .area .room)))
+        | no d ↦ rw (e₁, mem-one, ne-eqb q p d) (at-set-past DONE m w p q 1 d)
       ];
-      cells = λ q h. elim (ℕ-discrete q p) [
-        | yes d ↦ rw (d, is, mem-one, eq-eqb p p refl) (at-set CELLS m (set w (DONE * m + p) 1) p 0 (a .pin) (rw length-set (omega (arith, a .area .room))))
-        | no d ↦ at-cells q d h ∙ rw (mem-one, ne-eqb q p d) refl
-      ];
+      cells = zeroed-frame first (W .cells) (frame-none {fs = []}) refl refl (omega arith);
+      marks = zeroed-frame first (W .marks) (frame-none {fs = []}) refl refl (omega arith);
+      spare = zeroed-frame first (W .spare) (frame-none {fs = []}) refl refl (omega arith);
     }
 
 module _ {m k i : ℕ} {w w₁ : List ℕ} (a : RetireAt m k w) (R : Retired m (take i (list ORDER m k w)) w w₁) (h : i < k) where

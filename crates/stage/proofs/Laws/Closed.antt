@@ -1,79 +1,69 @@
 -- Rule 11 as a whole. Assumes nothing.
-use mathlib.Core.Path.{_≡_, refl, sym, _∙_}
+use mathlib.Core.Path.{_≡_, refl, sym, ap, _∙_}
+use mathlib.Core.Bool.{false, not, _&&_}
 use mathlib.Core.List.{List, [], _∷_}
-use Prim.Native.Nat.{ℕ, _+_, _*_, _≤_}
+use Prim.Native.Nat.{ℕ, _+_, _*_, _<_, _≤_}
 use native.Mathlib.Omega.{arith}
+use lib.Dec.{eqb}
 use lib.ListN.{length, getD, replicate}
-use Rattle.rules.specs.Lists.{laidOver}
+use Rattle.rules.specs.Lists.{mem, laidOver}
+use Rattle.rules.proofs.Lists.Members.{Out}
 use Rattle.columns.specs.Fields.{ORDER, DONE, WAITING, CELLS, STACK, PLACE, MARK, SPARE, TAIL}
-use Rattle.columns.specs.Area.{put, tail, putTail, Frame}
-use Rattle.columns.specs.Lists.{list}
-use Rattle.columns.proofs.Area.Frames.{frame-then, frame-more, frame-room, frame-fill, frame-putTail}
+use Rattle.columns.specs.Area.{among, tail, putTail, Frame}
+use Rattle.columns.specs.Lists.{list, Clear}
+use Rattle.columns.proofs.Area.Frames.{frame-then, frame-more, frame-room, frame-putTail}
 use Rattle.columns.proofs.Area.Tails.{getD-tail, length-tail, tail-putTail}
 use Rattle.columns.proofs.Area.Lent.{length-laid, at-laid, past-laid}
-use Rattle.columns.proofs.Lists.Entries.{frame-list}
-use Rattle.columns.proofs.Lists.Marks.{marked-frame, zeros}
+use Rattle.columns.proofs.Lists.Entries.{frame-list, holds-frame}
 use Rattle.columns.proofs.Lists.Places.{placed-frame}
-use Rattle.stage.specs.Close.{Retired, LeaveAt, Left}
+use Rattle.stage.specs.Close.{either, Within, Retired, RetireAt, Left}
 use Rattle.stage.specs.Ending.{CloseAt, Closed}
+use Rattle.stage.proofs.Laws.Close.{zeroed-clear}
 
-module _ {m o n r : ℕ} {w : List ℕ} (A : CloseAt m o n r w) {w1 : List ℕ} (R : Retired m (list ORDER m o w) w w1) where
-  waiting-is : list WAITING m n w1 ≡ list WAITING m n w
-  waiting-is = frame-list (R .frame) WAITING n refl (omega arith)
+within-frame : {fs : List ℕ} {f m : ℕ} {xs w w′ : List ℕ} → Frame fs m w w′ → among fs f ≡ false → f < 16 → Within f m xs w → Within f m xs w′
+within-frame {fs} {f} F a h A = record { zero = λ p b o. F .cell f a h p b ∙ A .zero p b o }
 
-  real-is : list STACK m r w1 ≡ list STACK m r w
-  real-is = frame-list (R .frame) STACK r refl (omega arith)
+clear-frame : {fs : List ℕ} {f m : ℕ} {w w′ : List ℕ} → Frame fs m w w′ → among fs f ≡ false → f < 16 → Clear f m w → Clear f m w′
+clear-frame {fs} {f} F a h A = record { zero = λ p b. F .cell f a h p b ∙ A .zero p b }
 
-  pub leave-at : LeaveAt m n r w1
-  leave-at = record {
-    area = frame-room (R .frame) (A .area);
-    real = rw real-is (marked-frame (A .real) (R .frame) refl refl (omega arith) (omega arith));
-    waiting = rw waiting-is (placed-frame (A .waiting) (R .frame) refl refl (omega arith) (omega arith));
-    waits = rw (real-is, waiting-is) (A .waits);
-  }
+module _ {m o n r : ℕ} {w : List ℕ} (A : CloseAt m o n r w) {w1 : List ℕ} {e : ℕ} (L : Left m n r w w1 e) where
+  order-is : list ORDER m o w1 ≡ list ORDER m o w
+  order-is = frame-list (L .frame) ORDER o refl (omega arith)
 
-  module _ {w2 : List ℕ} {e : ℕ} (L : Left m n r w1 w2 e) {w3 w4 w5 : List ℕ} (e3 : w3 ≡ put MARK m w2 (replicate m 0)) (e4 : w4 ≡ put SPARE m w3 (replicate m 0)) (e5 : w5 ≡ putTail m w4 (laidOver (replicate 258 0) (tail m w4))) where
-    room2 : 16 * m + 512 ≤ length w2
-    room2 = omega (arith, A .area .room, R .frame .len, L .frame .len)
+  pub retire-at : RetireAt m o w1
+  retire-at = record { area = frame-room (L .frame) (A .area); order = rw order-is (holds-frame (A .order) (L .frame) refl (omega arith)) }
 
-    frame3 : Frame (MARK ∷ []) m w2 w3
-    frame3 = rw e3 (frame-fill MARK 0 (omega arith) refl)
+  module _ {w2 w3 : List ℕ} (R : Retired m (list ORDER m o w1) w1 w2) (e3 : w3 ≡ putTail m w2 (laidOver (replicate 258 0) (tail m w2))) where
+    room : 16 * m + 512 ≤ length w2
+    room = omega (arith, A .area .room, R .frame .len, L .frame .len)
 
-    frame4 : Frame (SPARE ∷ []) m w3 w4
-    frame4 = rw e4 (frame-fill SPARE 0 (omega arith) refl)
+    few : 258 ≤ length (tail m w2)
+    few = omega (arith, length-tail m w2, room)
 
-    room4 : 16 * m + 512 ≤ length w4
-    room4 = omega (arith, room2, frame3 .len, frame4 .len)
+    last : Frame (TAIL ∷ []) m w2 w3
+    last = rw e3 (frame-putTail (laidOver (replicate 258 0) (tail m w2)) (omega (arith, room)) (length-laid 258 0 (tail m w2) few) refl)
 
-    few : 258 ≤ length (tail m w4)
-    few = omega (arith, length-tail m w4, room4)
+    tail-is : (j : ℕ) → getD w3 (16 * m + j) 0 ≡ getD (laidOver (replicate 258 0) (tail m w2)) j 0
+    tail-is j = sym (getD-tail m w3 j) ∙ rw (e3, tail-putTail m w2 (laidOver (replicate 258 0) (tail m w2)) (omega (arith, room))) refl
 
-    frame5 : Frame (TAIL ∷ []) m w4 w5
-    frame5 = rw e5 (frame-putTail (laidOver (replicate 258 0) (tail m w4)) (omega (arith, room4)) (length-laid 258 0 (tail m w4) few) refl)
+    later : Frame (DONE ∷ CELLS ∷ MARK ∷ SPARE ∷ TAIL ∷ []) m w1 w3
+    later = frame-then (frame-more refl (R .frame)) (frame-more refl last)
 
-    tail-is : (j : ℕ) → getD w5 (16 * m + j) 0 ≡ getD (laidOver (replicate 258 0) (tail m w4)) j 0
-    tail-is j = sym (getD-tail m w5 j) ∙ rw (e5, tail-putTail m w4 (laidOver (replicate 258 0) (tail m w4)) (omega (arith, room4))) refl
+    -- as before its pins left
+    abbrev realised : ℕ → List ℕ → ℕ → ℕ
+    realised c xs p = either (mem p xs && not (eqb c 0)) 1 (getD w (DONE * m + p) 0)
 
-    abbrev names : List ℕ
-    names = DONE ∷ WAITING ∷ CELLS ∷ PLACE ∷ MARK ∷ SPARE ∷ TAIL ∷ []
+    done-is : (p : ℕ) → p < m → getD w2 (DONE * m + p) 0 ≡ realised (getD w (CELLS * m + p) 0) (list ORDER m o w) p
+    done-is p b = R .done p b ∙ rw (order-is, L .frame .cell CELLS refl (omega arith) p b, L .frame .cell DONE refl (omega arith) p b) refl
 
-    cleared : Frame (MARK ∷ SPARE ∷ TAIL ∷ []) m w2 w5
-    cleared = frame-then (frame-more refl frame3) (frame-then (frame-more refl frame4) (frame-more refl frame5))
-
-    later : Frame (WAITING ∷ PLACE ∷ MARK ∷ SPARE ∷ TAIL ∷ []) m w1 w5
-    later = frame-then (frame-more refl (L .frame)) (frame-more refl cleared)
-
-    before : (j : ℕ) → getD w4 (16 * m + j) 0 ≡ getD w (16 * m + j) 0
-    before j = frame4 .past refl (16 * m + j) (omega arith) ∙ frame3 .past refl (16 * m + j) (omega arith) ∙ L .frame .past refl (16 * m + j) (omega arith) ∙ R .frame .past refl (16 * m + j) (omega arith)
-
-    pub closed : Closed m o n r w w5 e
+    pub closed : Closed m o n r w w3 e
     closed = record {
-      frame = frame-then (frame-more refl (R .frame)) (frame-more refl later);
-      past = λ j h. tail-is j ∙ past-laid 258 0 (tail m w4) j h ∙ getD-tail m w4 j ∙ before j;
-      done = λ p b. later .cell DONE refl (omega arith) p b ∙ R .done p b;
-      cells = λ p b. later .cell CELLS refl (omega arith) p b ∙ R .cells p b;
-      waiting = rw (real-is, waiting-is) at (placed-frame (L .now) cleared refl refl (omega arith) (omega arith));
-      marks = λ p b. frame5 .cell MARK refl (omega arith) p b ∙ frame4 .cell MARK refl (omega arith) p b ∙ rw e3 (zeros MARK m w2 (omega (arith, room2)) p b);
-      spare = λ p b. frame5 .cell SPARE refl (omega arith) p b ∙ rw e4 (zeros SPARE m w3 (omega (arith, room2, frame3 .len)) p b);
-      tail = λ j h. tail-is j ∙ at-laid 258 0 (tail m w4) j h;
+      frame = frame-then (frame-more refl (L .frame)) (frame-more refl later);
+      past = λ j h. tail-is j ∙ past-laid 258 0 (tail m w2) j h ∙ getD-tail m w2 j ∙ R .frame .past refl (16 * m + j) (omega arith) ∙ L .frame .past refl (16 * m + j) (omega arith);
+      done = λ p b. last .cell DONE refl (omega arith) p b ∙ done-is p b;
+      waiting = placed-frame (L .now) later refl refl (omega arith) (omega arith);
+      cells = clear-frame last refl (omega arith) (zeroed-clear (within-frame (L .frame) refl (omega arith) (rw order-is (A .cells))) (R .cells));
+      marks = clear-frame last refl (omega arith) (zeroed-clear (within-frame (L .frame) refl (omega arith) (rw order-is (A .marks))) (R .marks));
+      spare = clear-frame last refl (omega arith) (zeroed-clear (within-frame (L .frame) refl (omega arith) (rw order-is (A .spare))) (R .spare));
+      tail = λ j h. tail-is j ∙ at-laid 258 0 (tail m w2) j h;
     }
