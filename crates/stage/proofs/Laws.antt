@@ -13,3 +13,8 @@ pub mod Filled
 pub mod Closed
 pub mod Lasted
 pub mod Filling
+pub mod Laid
+pub mod Midway
+pub mod Lasting
+pub mod Ended
+pub mod Finish

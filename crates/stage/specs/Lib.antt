@@ -7,3 +7,4 @@ pub mod Rest
 pub mod Loop
 pub mod Ending
 pub mod Filling
+pub mod Finish

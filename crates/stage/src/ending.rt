@@ -23,7 +23,7 @@ pub struct Spent {
 }
 
 // Rule 8.
-fn write_runs(
+pub fn write_runs(
     gates: &[u32],
     stage: &mut [u32],
     work: &mut [u32],
@@ -51,7 +51,7 @@ fn write_runs(
 }
 
 // Rule 9 for q needed pins. Does level 1 have a cell for each, and one that stays empty?
-fn fill_rest(
+pub fn fill_rest(
     gates: &[u32],
     stage: &mut [u32],
     work: &mut [u32],
@@ -75,7 +75,7 @@ pub struct Kept {
 }
 
 // Rule 10, in the last stage: the words of the unrealised tree endpoints, if all fit.
-fn last_words(
+pub fn last_words(
     stage: &[u32],
     work: &mut [u32],
     words: &mut [u32],
@@ -105,7 +105,7 @@ fn last_words(
 }
 
 // Rule 11 for o pins in the order and r realised endpoints, and what the next stage finds empty. Returns how many wait.
-fn close_stage(work: &mut [u32], m: usize, o: usize, n: usize, r: usize) -> usize
+pub fn close_stage(work: &mut [u32], m: usize, o: usize, n: usize, r: usize) -> usize
     requires { ⌜ CloseAt m o n r (now work) ⌝ }
     ensures { λ e. ⌜ Closed m o n r (now (work .entry)) (now (work .exit)) e ⌝ }
 {

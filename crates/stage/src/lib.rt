@@ -3,6 +3,7 @@ mod classes;
 mod close;
 mod ending;
 mod filling;
+mod finish;
 mod lean;
 mod puts;
 mod rest;

@@ -1,5 +1,5 @@
 -- Rule 11 as a whole. Assumes nothing.
-use mathlib.Core.Path.{_≡_, refl, sym, ap, _∙_}
+use mathlib.Core.Path.{_≡_, refl, sym, _∙_}
 use mathlib.Core.Bool.{false, not, _&&_}
 use mathlib.Core.List.{List, [], _∷_}
 use Prim.Native.Nat.{ℕ, _+_, _*_, _<_, _≤_}
@@ -7,8 +7,7 @@ use native.Mathlib.Omega.{arith}
 use lib.Dec.{eqb}
 use lib.ListN.{length, getD, replicate}
 use Rattle.rules.specs.Lists.{mem, laidOver}
-use Rattle.rules.proofs.Lists.Members.{Out}
-use Rattle.columns.specs.Fields.{ORDER, DONE, WAITING, CELLS, STACK, PLACE, MARK, SPARE, TAIL}
+use Rattle.columns.specs.Fields.{ORDER, DONE, CELLS, MARK, SPARE, TAIL}
 use Rattle.columns.specs.Area.{among, tail, putTail, Frame}
 use Rattle.columns.specs.Lists.{list, Clear}
 use Rattle.columns.proofs.Area.Frames.{frame-then, frame-more, frame-room, frame-putTail}
@@ -20,10 +19,10 @@ use Rattle.stage.specs.Close.{either, Within, Retired, RetireAt, Left}
 use Rattle.stage.specs.Ending.{CloseAt, Closed}
 use Rattle.stage.proofs.Laws.Close.{zeroed-clear}
 
-within-frame : {fs : List ℕ} {f m : ℕ} {xs w w′ : List ℕ} → Frame fs m w w′ → among fs f ≡ false → f < 16 → Within f m xs w → Within f m xs w′
+pub within-frame : {fs : List ℕ} {f m : ℕ} {xs w w′ : List ℕ} → Frame fs m w w′ → among fs f ≡ false → f < 16 → Within f m xs w → Within f m xs w′
 within-frame {fs} {f} F a h A = record { zero = λ p b o. F .cell f a h p b ∙ A .zero p b o }
 
-clear-frame : {fs : List ℕ} {f m : ℕ} {w w′ : List ℕ} → Frame fs m w w′ → among fs f ≡ false → f < 16 → Clear f m w → Clear f m w′
+pub clear-frame : {fs : List ℕ} {f m : ℕ} {w w′ : List ℕ} → Frame fs m w w′ → among fs f ≡ false → f < 16 → Clear f m w → Clear f m w′
 clear-frame {fs} {f} F a h A = record { zero = λ p b. F .cell f a h p b ∙ A .zero p b }
 
 module _ {m o n r : ℕ} {w : List ℕ} (A : CloseAt m o n r w) {w1 : List ℕ} {e : ℕ} (L : Left m n r w w1 e) where

@@ -17,7 +17,7 @@ use Rattle.stage.specs.Close.{isTree, RealiseAt, Realised}
 use Rattle.stage.specs.Words as words
 use Rattle.stage.specs.Ending.{LastAt, endWords, Lasted}
 use Rattle.stage.proofs.Laws.Words.{kept-then}
-use Rattle.stage.proofs.Laws.Written.{laid-length}
+use Rattle.stage.proofs.Laws.Laid.{laid-length}
 
 module _ {m K half n at room : ℕ} {s : Kept} {pl w out : List ℕ} (A : LastAt m K half n at room s pl w out) {w1 : List ℕ} {k : ℕ} (U : words.Upped m K pl w w1 k) where
   abbrev ws : List ℕ

@@ -45,7 +45,7 @@ use Rattle.stage.proofs.Laws.Written.{noted-length}
 
 -- ---- lists
 
-not-not : (b : Bool) → not (not b) ≡ b
+pub not-not : (b : Bool) → not (not b) ≡ b
 not-not true = refl
 not-not false = refl
 

@@ -1,19 +1,18 @@
 -- Rule 10's words, written one by one. Assumes nothing.
-use mathlib.Core.Path.{_≡_, refl, sym, _∙_}
+use mathlib.Core.Path.{_≡_, refl, _∙_}
 use mathlib.Core.Logic.{_⊎_, inl, inr}
-use mathlib.Core.List.{List, _++_}
+use mathlib.Core.List.{List}
 use Prim.Native.Nat.{ℕ, zero, suc, _+_, _-_, _*_, _<_, _≤_}
 use native.Mathlib.Omega.{arith}
 use native.Mathlib.Decide.{ℕ-discrete}
-use lib.Dec.{ltb}
-use lib.ListN.{length, getD, set, take, drop, length-set, length-append, length-drop, List·getD-append}
-use lib.Seq.{getD-take, getD-drop, getD-set-same, getD-set-other, getD-append-add, length-take-le, ext-getD}
+use lib.ListN.{length, getD, set, length-set}
+use lib.Seq.{getD-set-same, getD-set-other}
 use Rattle.rules.specs.Lists.{mem}
 use Rattle.rules.proofs.Lists.Members.{split, in-getD, getD-in}
-use Rattle.rules.proofs.Tree.Loads.{ltb-true, ltb-false}
 use Rattle.columns.proofs.Area.Frames.{frame-room}
-use Rattle.stage.specs.Words.{OneAt, One, WriteAt, Writing, laidAt, Written}
+use Rattle.stage.specs.Words.{OneAt, One, WriteAt, Writing, Written}
 use Rattle.stage.proofs.Laws.Words.{kept-none, kept-then, kept-set}
+use Rattle.stage.proofs.Laws.Laid.{laid-is}
 
 -- ---- one word
 
@@ -90,41 +89,12 @@ module _ {m at n : ℕ} {ws words w : List ℕ} (W : WriteAt m at n ws words w) 
       }
 
   module _ {j : ℕ} {words₁ w₁ : List ℕ} (Y : Writing m at j ws words w words₁ w₁) (h : 256 ≤ j) where
-    abbrev new : List ℕ
-    new = take at words ++ (ws ++ drop (at + length ws) words)
-
     fits : at + length ws ≤ length words
     fits = omega (arith, W .fits, W .spots .count)
 
-    front : length (take at words) ≡ at
-    front = length-take-le at words (omega (arith, fits))
-
-    below : (i : ℕ) → i < at → getD words₁ i 0 ≡ getD new i 0
-    below i b = Y .there i (inl b) ∙ sym (List·getD-append (take at words) (ws ++ drop (at + length ws) words) 0 i (rw front b) ∙ getD-take at words i 0 b)
-
-    behind : (k : ℕ) → getD new (at + k) 0 ≡ getD (ws ++ drop (at + length ws) words) k 0
-    behind k = rw front at (getD-append-add (take at words) (ws ++ drop (at + length ws) words) k 0)
-
-    word-at : (k : ℕ) → k < length ws → getD words₁ (at + k) 0 ≡ getD new (at + k) 0
-    word-at k b = Y .here k b (omega (arith, W .spots .low (getD ws k 0) (in-getD ws k 0 b))) ∙ sym (behind k ∙ List·getD-append ws (drop (at + length ws) words) 0 k b)
-
-    past : (k : ℕ) → getD words₁ (at + length ws + k) 0 ≡ getD new (at + length ws + k) 0
-    past k =
-        let z : at + length ws + k ≡ at + (length ws + k) = omega arith in
-        let d : getD new (at + length ws + k) 0 ≡ getD new (at + (length ws + k)) 0 = rw z refl in
-        let e : getD new (at + (length ws + k)) 0 ≡ getD words (at + length ws + k) 0 = behind (length ws + k) ∙ getD-append-add ws (drop (at + length ws) words) k 0 ∙ getD-drop (at + length ws) words k 0 in
-        Y .there (at + length ws + k) (inr (omega arith)) ∙ sym (d ∙ e)
-
-    each : (i : ℕ) → getD words₁ i 0 ≡ getD new i 0
-    each i = split (ltb i at) (λ a. below i (ltb-true i at a))
-        (λ a. let z : i ≡ at + (i - at) = omega (arith, ltb-false i at a) in split (ltb (i - at) (length ws))
-        (λ b. rw z (word-at (i - at) (ltb-true (i - at) (length ws) b)))
-        (λ b. let y : i ≡ at + length ws + (i - at - length ws) = omega (arith, ltb-false (i - at) (length ws) b) in rw y (past (i - at - length ws))))
-
     pub writing-done : Written m at ws words w words₁ w₁
-    unfolding laidAt
     writing-done = record {
       kept = Y .kept;
       clear = λ i b. Y .gone i (omega arith);
-      stands = ext-getD 0 words₁ new (Y .len ∙ rw (length-append (take at words) (ws ++ drop (at + length ws) words), length-append ws (drop (at + length ws) words), front, length-drop) (omega (arith, fits))) (λ i b. each i);
+      stands = laid-is at words ws fits words₁ (Y .len) (λ i b. Y .there i (inl b)) (λ k b. Y .here k b (omega (arith, W .spots .low (getD ws k 0) (in-getD ws k 0 b)))) (λ i b. Y .there i (inr b));
     }

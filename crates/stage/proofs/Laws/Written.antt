@@ -1,13 +1,12 @@
 -- Rule 8 record by record, with the words. Assumes nothing.
 use mathlib.Core.Path.{_≡_, refl, sym, ap, _∙_}
 use mathlib.Core.Bool.{Bool, true, false, _||_}
-use mathlib.Core.List.{List, [], _∷_, _++_, append-assoc}
+use mathlib.Core.List.{List, [], _∷_, _++_}
 use Prim.Native.Nat.{ℕ, zero, suc, _+_, _-_, _/_, _<_, _≤_}
 use native.Mathlib.Omega.{arith}
 use lib.Dec.{leb, ltb}
-use lib.ListN.{length, getD, set, take, drop, length-append, length-drop, length-map, length-take, drop-of-length-le}
-use lib.Seq.{take-nil, take-all, take-append-le, drop-cons, set-at, length-take-le}
-use lib.ListN as list-n
+use lib.ListN.{length, getD, take, drop, length-append, length-drop, length-map, length-take, drop-of-length-le}
+use lib.Seq.{take-nil, take-all, take-append-le, length-take-le}
 use Rattle.rules.specs.Cells.{rowAt}
 use Rattle.rules.specs.Ending as rules
 use Rattle.rules.proofs.Lists.Members.{split}
@@ -23,10 +22,10 @@ use Rattle.stage.specs.declared.puts.Puts.{Puts}
 use Rattle.stage.specs.declared.runs.Sparse.{Sparse}
 use Rattle.stage.specs.declared.runs.Runs.{Runs}
 use Rattle.stage.specs.Runs.{known, listed}
-use Rattle.stage.specs.Words.{laidAt}
 use Rattle.stage.specs.Puts.{putOf, RunAt, noted, Noted, RecordAt, PutRecord, wordsOf, WriteAt, Writing, Wrote}
 use Rattle.stage.proofs.Laws.Runs.{map-append, listed-length, listed-next, listed-take}
 use Rattle.stage.proofs.Laws.Words.{row-high}
+use Rattle.stage.proofs.Laws.Laid.{laid-none, laid-length, laid-more}
 use Rattle.stage.proofs.Laws.Puts.{moved-none, moved-then}
 
 -- ---- the test
@@ -37,36 +36,19 @@ enough-rest last f left w e d = rw e (same-truth (leb 32 (left + w)) (leb (32 - 
 -- ---- words laid one behind the other
 
 module _ (at : ℕ) (words : List ℕ) where
-  pub laid-none : laidAt at [] words ≡ words
-  unfolding laidAt
-  laid-none = let z : at + 0 ≡ at = omega arith in rw z (list-n.take-append-drop at words)
-
-  module _ (ws : List ℕ) where
-    pub laid-length : at + length ws ≤ length words → length (laidAt at ws words) ≡ length words
-    unfolding laidAt
-    laid-length h = rw (length-append (take at words) (ws ++ drop (at + length ws) words), length-append ws (drop (at + length ws) words), length-drop, length-take-le at words (omega arith)) (omega arith)
-
-    pub laid-more : (x : ℕ) → at + length ws < length words → set (laidAt at ws words) (at + length ws) x ≡ laidAt at (ws ++ (x ∷ [])) words
-    unfolding laidAt
-    laid-more x h =
-        let n : length (ws ++ (x ∷ [])) ≡ suc (length ws) = length-append ws (x ∷ []) ∙ omega arith in
-        let y : at + suc (length ws) ≡ suc (at + length ws) = omega arith in
-        let l : length (take at words ++ ws) ≡ at + length ws = rw (length-append, length-take-le at words (omega arith)) refl in
-        rw (n, y, drop-cons words (at + length ws) 0 h, ← append-assoc (take at words) ws, set-at (take at words ++ ws) (getD words (at + length ws) 0) (drop (suc (at + length ws)) words) x (at + length ws) l, append-assoc, append-assoc) refl
-
   pub noted-none : (room : ℕ) → words ≡ noted at room [] words
   unfolding noted
-  noted-none room = let z : take {A = ℕ} room [] ≡ [] = take-nil room in rw z (sym laid-none)
+  noted-none room = let z : take {A = ℕ} room [] ≡ [] = take-nil room in rw z (sym (laid-none at words))
 
   pub noted-length : (room : ℕ) (ws : List ℕ) → at + room ≤ length words → length (noted at room ws words) ≡ length words
   unfolding noted
-  noted-length room ws h = laid-length (take room ws) (omega (arith, length-take room ws))
+  noted-length room ws h = laid-length at words (take room ws) (omega (arith, length-take room ws))
 
   pub noted-more : (room j x : ℕ) (ws words1 words2 : List ℕ) → length ws ≡ j → at + room ≤ length words → words1 ≡ noted at room ws words → Noted at room j x words1 words2 → words2 ≡ noted at room (ws ++ (x ∷ [])) words
   unfolding noted
   noted-more room j x ws words1 words2 l h e N = split (ltb j room)
       (λ t. let b = ltb-true j room t in
-      rw (N .within b, e, ← l, take-all room ws (omega arith), take-all room (ws ++ (x ∷ [])) (rw (length-append ws (x ∷ [])) (omega arith))) (laid-more ws x (omega arith)))
+      rw (N .within b, e, ← l, take-all room ws (omega arith), take-all room (ws ++ (x ∷ [])) (rw (length-append ws (x ∷ [])) (omega arith))) (laid-more at words ws x (omega arith)))
       (λ t. let b = ltb-false j room t in rw (N .past b, e, take-append-le room ws (x ∷ []) (omega arith)) refl)
 
 -- ---- one record

@@ -1,0 +1,209 @@
+-- Rules 8 and 9 with the tests, then the rest. Assumes nothing.
+use mathlib.Core.Path.{_≡_, refl, sym, ap, _∙_}
+use mathlib.Core.Logic.{inl, inr}
+use mathlib.Core.Bool.{Bool, true, false}
+use mathlib.Core.List.{List}
+use Prim.Native.Nat.{ℕ, _+_, _*_, _<_, _≤_}
+use native.Mathlib.Omega.{arith}
+use lib.Dec.{ltb}
+use lib.ListN.{length, take, length-take}
+use lib.Seq.{take-all}
+use Rattle.rules.specs.Placing.{neededOf}
+use Rattle.rules.specs.Ending.{putRest, written, rest, finish}
+use Rattle.rules.proofs.Lists.Members.{In}
+use Rattle.rules.proofs.Needed.Needs.{need-listed}
+use Rattle.rules.proofs.Needed.Lacks.{same-needed, wanted-low, true-ltb, false-ltb}
+use Rattle.rules.proofs.Stage.Branches.{finish-seven, finish-full, finish-none}
+use Rattle.columns.specs.Fields.{NEEDED}
+use Rattle.columns.specs.Lists.{list}
+use Rattle.columns.proofs.Area.Frames.{frame-then, frame-more, frame-room}
+use Rattle.columns.proofs.Lists.Entries.{holds-self, holds-frame}
+use Rattle.columns.proofs.Lists.Marks.{marks-frame, marked-frame}
+use Rattle.columns.proofs.Lists.Places.{placed-frame}
+use Rattle.walk.specs.Stands.{Context}
+use Rattle.stage.specs.declared.ending.Spent.{Spent}
+use Rattle.stage.specs.declared.finish.Outcome.{Outcome}
+use Rattle.stage.specs.Words.{laidAt}
+use Rattle.stage.specs.Puts.{noted}
+use Rattle.stage.specs.Rest.{RestAt}
+use Rattle.stage.specs.Ending.{EndAt, Ran, Filled}
+use Rattle.stage.specs.Finish.{FinishAt, Changed, touched, Finished, Midway, RestingAt, LastingAt, Ends}
+use Rattle.stage.proofs.Laws.Laid.{laid-length, laid-below, laid-past, laid-over}
+use Rattle.rules.specs.Traversal.{levelAt}
+
+pub changed-then : {fs : List ℕ} {m at room : ℕ} {pl w words pl1 w1 words1 pl2 w2 words2 : List ℕ} → Changed fs m at room pl w words pl1 w1 words1 → Changed fs m at room pl1 w1 words1 pl2 w2 words2 → Changed fs m at room pl w words pl2 w2 words2
+changed-then a b = record {
+  frame = frame-then (a .frame) (b .frame);
+  past = λ j h. b .past j h ∙ a .past j h;
+  size = b .size ∙ a .size;
+  len = b .len ∙ a .len;
+  before = λ i h. b .before i h ∙ a .before i h;
+  behind = λ i h. b .behind i h ∙ a .behind i h;
+}
+
+-- ---- rule 9 and test 8
+
+module _ {C : Context} {pl : List ℕ} {m K half o n q at room : ℕ} {s : Spent} {gates pl1 w words : List ℕ} (A : RestingAt C pl m K half o n q at room s gates pl1 w words) where
+  abbrev M : Midway C pl m K half o n at room s pl1 w words
+  M = A .mid
+
+  pub rest-at : RestAt C m half q gates pl1 w
+  rest-at = record { stands = A .stands; row = M .row ∙ rw (M .height) refl; needed = holds-self (A .list); pins = rw (A .list .is) (A .pins) }
+
+  module _ {b : Bool} {pl2 w1 : List ℕ} (F : Filled C m q gates pl1 w b pl2 w1) where
+    rest-is : putRest (C .X) (list NEEDED m q w) (written (C .X) pl .real) pl1 ≡ rest (C .X) pl
+    unfolding rest
+    rest-is = rw (A .list .is, A .is-plan) refl
+
+    filling : Changed touched m at room pl1 w words pl2 w1 words
+    filling = record {
+      frame = frame-more refl (F .kept .frame);
+      past = λ j h. F .kept .rest (16 * m + j) (omega arith) (λ e. omega arith) (λ e. omega arith);
+      size = F .size;
+      len = refl;
+      before = λ i h. refl;
+      behind = λ i h. refl;
+    }
+
+    fits : ltb room (length (written (C .X) pl .words)) ≡ false
+    fits = false-ltb room (length (written (C .X) pl .words)) (omega (arith, M .fit, M .count))
+
+    pub ends-eight : b ≡ false → Ends C pl m at room s pl1 w words (record { number = 8; words = 0; waiting = 0 }) pl2 w1 words
+    ends-eight e = record {
+      finished = record {
+        changed = filling;
+        refuses = λ h. elim (F .no e (written (C .X) pl .real) (M .realised .marks)) [
+          | inl d ↦ finish-full (C .X) room pl fits (sym rest-is ∙ d)
+          | inr d ↦ finish-none (C .X) room pl fits pl2 (sym rest-is ∙ d .0) (d .1)
+        ];
+        whole = λ h. absurd (omega arith);
+      };
+      longer = λ h. absurd (omega arith);
+    }
+
+    pub lasting-at : b ≡ true → LastingAt C pl m K half o n at room s pl2 w1 words
+    lasting-at e =
+        let fr = F .kept .frame in
+        record {
+          mid = record {
+            area = frame-room fr (M .area);
+            graph = M .graph;
+            tally = F .stands .tally;
+            fair = F .stands .fair;
+            done = marks-frame (M .done) fr refl (omega arith);
+            waiting = placed-frame (M .waiting) fr refl refl (omega arith) (omega arith);
+            order = holds-frame (M .order) fr refl (omega arith);
+            is-last = M .is-last;
+            needed = marks-frame (M .needed) fr refl (omega arith);
+            realised = marked-frame (M .realised) fr refl refl (omega arith) (omega arith);
+            waits = M .waits;
+            count = M .count;
+            fit = M .fit;
+            wrote = M .wrote;
+            tail = λ j h. F .kept .rest (16 * m + j) (omega arith) (λ d. omega arith) (λ d. omega arith) ∙ M .tail j h;
+            height = M .height;
+            row = M .row;
+            fits = M .fits;
+            small = M .small;
+          };
+          rested = sym rest-is ∙ F .yes e .0 (written (C .X) pl .real) (M .realised .marks);
+          free = F .yes e .1;
+        }
+
+    pub ends-rest : {e : Outcome} {pl3 w2 words1 : List ℕ} → Ends C pl m at room s pl2 w1 words e pl3 w2 words1 → Ends C pl m at room s pl1 w words e pl3 w2 words1
+    ends-rest E = record { finished = record { changed = changed-then filling (E .finished .changed); refuses = E .finished .refuses; whole = E .finished .whole }; longer = E .longer }
+
+-- ---- rule 8 and test 7
+
+module _ {C : Context} {m K half o n q at room : ℕ} {gates pl w words : List ℕ} (A : FinishAt C m K half o n q at room gates pl w words) where
+  pub end-at : EndAt C m K half n at room gates pl w words
+  end-at = record { stands = A .stands; begun = A .set .begun; height = A .height; row = A .row; marks = A .marks .zero; spare = A .spare .zero; fits = A .fits }
+
+  low-needed : (x : ℕ) → In x (neededOf (C .X) pl) → In x (C .X .seen) × (levelAt (C .X) x ≤ 1)
+  low-needed x i = (need-listed (C .X) (C .r) (length (C .X .g)) (C .S) pl x i, wanted-low (C .X) pl x (rw (same-needed (C .X) (C .r) (length (C .X .g)) (C .S) (C .M) (A .stands .fair)) at i))
+
+  module _ {s : Spent} {pl1 w1 words1 : List ℕ} (R : Ran C m at room gates pl w words s pl1 w1 words1) where
+    abbrev early : List ℕ
+    early = written (C .X) pl .words
+
+    abbrev some : List ℕ
+    some = take room early
+
+    few : at + length some ≤ length words
+    few = omega (arith, A .fits, length-take room early)
+
+    wrote-is : words1 ≡ laidAt at some words
+    unfolding noted
+    wrote-is = R .wrote
+
+    running : Changed touched m at room pl w words pl1 w1 words1
+    running = record {
+      frame = frame-more refl (R .touched .frame);
+      past = λ j h. R .touched .rest (16 * m + j) (omega arith) (λ e. omega arith) (λ e. omega arith);
+      size = R .size;
+      len = rw wrote-is (laid-length at words some few);
+      before = λ i h. rw wrote-is (laid-below at words some few i h);
+      behind = λ i h. rw wrote-is (laid-past at words some few i (omega (arith, length-take room early)));
+    }
+
+    pub finished-seven : room < s .words → Finished C m at room (finish (C .X) room pl) pl w words (record { number = 7; words = 0; waiting = 0 }) pl1 w1 words1
+    finished-seven h = record { changed = running; refuses = λ d. finish-seven (C .X) room pl (true-ltb room (length early) (omega (arith, R .count))); whole = λ d. absurd (omega arith) }
+
+    module _ (h : s .words ≤ room) where
+      all-are : words1 ≡ laidAt at early words
+      all-are = wrote-is ∙ rw (take-all room early (omega (arith, R .count))) refl
+
+      stay : words1 ≡ laidAt at early words1
+      stay = all-are ∙ sym (ap (laidAt at early) all-are ∙ laid-over at words early early (omega (arith, A .fits, R .count)) (omega arith))
+
+      pub resting-at : RestingAt C pl m K half o n q at room s gates pl1 w1 words1
+      resting-at =
+          let fr = R .touched .frame in
+          record {
+            mid = record {
+              area = frame-room fr (A .stands .base .area);
+              graph = A .stands .base .size;
+              tally = R .stands .tally;
+              fair = R .stands .fair;
+              done = marks-frame (A .set .begun .done) fr refl (omega arith);
+              waiting = placed-frame (A .set .begun .waiting) fr refl refl (omega arith) (omega arith);
+              order = holds-frame (A .set .ordered .order) fr refl (omega arith);
+              is-last = R .is-last;
+              needed = R .needed;
+              realised = R .realised;
+              waits = R .waits;
+              count = R .count;
+              fit = h;
+              wrote = stay;
+              tail = λ j b. R .touched .rest (16 * m + j) (omega arith) (λ e. omega arith) (λ e. omega arith) ∙ A .tail j b;
+              height = A .height;
+              row = A .row;
+              fits = rw (running .len) (A .fits);
+              small = rw (running .len) (A .small);
+            };
+            stands = R .stands;
+            is-plan = R .is-plan;
+            list = holds-frame (A .needed) fr refl (omega arith);
+            pins = low-needed;
+          }
+
+      pub finished : {e : Outcome} {pl2 w2 words2 : List ℕ} → Ends C pl m at room s pl1 w1 words1 e pl2 w2 words2 → Finished C m at room (finish (C .X) room pl) pl w words e pl2 w2 words2
+      finished E = record {
+        changed = changed-then running (E .finished .changed);
+        refuses = E .finished .refuses;
+        whole = λ z. let W = E .finished .whole z in
+            record {
+              ws = W .ws;
+              left = W .left;
+              is = W .is;
+              count = W .count;
+              fit = W .fit;
+              wrote = W .wrote ∙ rw all-are (laid-over at words (W .ws) early (omega (arith, W .fit, A .fits)) (omega (arith, E .longer z, W .count, R .count)));
+              done = W .done;
+              waiting = W .waiting;
+              cells = W .cells;
+              marks = W .marks;
+              spare = W .spare;
+              tail = W .tail;
+            };
+      }

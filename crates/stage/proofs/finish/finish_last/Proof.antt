@@ -1,0 +1,24 @@
+-- `stage::finish::finish_last` meets its contract: rule 10, then rule 11 over what it realised. Assumes nothing.
+use Rattle.stage.proofs.Laws.Ended.{close-at, ended}
+use borrow.Author.Needs.{needs}
+use Rattle.stage.proofs.finish.finish_last.Statement.{statement}
+use Rattle.stage.proofs.finish.finish_last.Tie as tie
+
+write-last-requires : tie.Need-write-last-requires
+write-last-requires c κs = record { C = _; pl = _; at = c .before .before .before .before .before .pre .at }
+
+close-stage-requires : tie.Need-close-stage-requires
+close-stage-requires c κs = close-at (c .before .before .before .before .before .before .before .before .before .before .before .pre .at) (c .before .before .before .before .before .write-last .ensures .all _ _ (c .before .before .before .before .before .before .before .before .before .before .before .pre .at))
+
+same-length : tie.Need-same-length
+same-length c = search needs
+
+same-length-2 : tie.Need-same-length-2
+same-length-2 c = search needs
+
+returns : tie.Need-returns
+returns c = record { all = λ C pl A. ended A (c .before .before .before .before .before .before .before .before .write-last .ensures .all C pl A) (c .before .before .close-stage .ensures) }
+
+pub finish-last-spec : {M : Type 1} → statement M
+finish-last-spec =
+    tie.close (tie.spec write-last-requires close-stage-requires same-length same-length-2 returns)

@@ -1,0 +1,46 @@
+-- `stage::finish::finish_rest` meets its contract: no cell or none left empty refuses the stage. Assumes nothing.
+use Rattle.stage.proofs.Laws.Finish.{rest-at, ends-eight, lasting-at, ends-rest}
+use borrow.Author.Needs.{needs}
+use Rattle.stage.proofs.finish.finish_rest.Statement.{statement}
+use Rattle.stage.proofs.finish.finish_rest.Tie as tie
+
+fill-rest-requires : tie.Need-fill-rest-requires
+fill-rest-requires c κs = record { C = _; at = rest-at (c .before .before .before .before .before .before .pre .at) }
+
+finish-last-requires : tie.Need-finish-last-requires
+finish-last-requires c κs = record { C = _; pl = _; at = lasting-at (c .before .before .before .before .before .before .before .before .before .before .before .before .before .before .before .pre .at) (c .before .before .before .before .before .before .before .before .fill-rest .ensures .all _ (rest-at (c .before .before .before .before .before .before .before .before .before .before .before .before .before .before .before .pre .at))) (c .before .before .before .if1 .taken) }
+
+same-length : tie.Need-same-length
+same-length c = search needs
+
+same-length-2 : tie.Need-same-length-2
+same-length-2 c = search needs
+
+same-length-3 : tie.Need-same-length-3
+same-length-3 c = search needs
+
+returns : tie.Need-returns
+returns c = record { all = λ C pl A. ends-rest A (c .before .before .before .before .before .before .before .before .before .before .before .before .before .fill-rest .ensures .all C (rest-at A)) (c .before .before .before .before .finish-last .ensures .all C pl (lasting-at A (c .before .before .before .before .before .before .before .before .before .before .before .before .before .fill-rest .ensures .all C (rest-at A)) (c .before .before .before .before .before .before .before .before .if1 .taken))) }
+
+same-length-4 : tie.Need-same-length-4
+same-length-4 c = search needs
+
+same-length-5 : tie.Need-same-length-5
+same-length-5 c = search needs
+
+returns-2 : tie.Need-returns-2
+returns-2 c = record { all = λ C pl A. ends-eight A (c .before .before .before .before .before .fill-rest .ensures .all C (rest-at A)) (c .if1 .left) }
+
+pub finish-rest-spec : {M : Type 1} → statement M
+finish-rest-spec =
+    tie.close
+    (tie.spec
+    fill-rest-requires
+    finish-last-requires
+    same-length
+    same-length-2
+    same-length-3
+    returns
+    same-length-4
+    same-length-5
+    returns-2)

@@ -1,0 +1,144 @@
+// Rules 8 to 11 in order after the loop of rules 2 to 7, with tests 7 and 8. m = N + 1; level 1 of the height has `half` cells; o pins are
+// listed, n wait, q are needed; the words go behind `at`, where there is `room` for so many.
+use crate::ending::Kept;
+use crate::ending::Spent;
+use crate::ending::close_stage;
+use crate::ending::fill_rest;
+use crate::ending::last_words;
+use crate::ending::write_runs;
+ghost use Rattle.rules.specs.Ending as rules;
+ghost use Rattle.walk.specs.Stands.{Some, Every};
+ghost use Rattle.walk.specs.Needed.{SomePlan, EveryPlan};
+ghost use Rattle.stage.specs.Finish.{FinishAt, Finished, RestingAt, LastingAt, Lasting, Ends};
+
+// 0, or the number that refuses the stage; for 0 how many words it has and how many pins wait then.
+pub struct Outcome {
+    pub number: u32,
+    pub words: usize,
+    pub waiting: usize,
+}
+
+// Rule 10 where nothing is untouched.
+fn write_last(
+    stage: &[u32],
+    work: &mut [u32],
+    words: &mut [u32],
+    m: usize,
+    height: usize,
+    half: usize,
+    o: usize,
+    n: usize,
+    at: usize,
+    room: usize,
+    s: Spent,
+) -> Kept
+    requires { ⌜ SomePlan (λ C pl. LastingAt C pl m height half o n at room s (now stage) (now work) (now words)) ⌝ }
+    ensures { λ r. ⌜ EveryPlan (λ C pl. LastingAt C pl m height half o n at room s (now (stage .entry)) (now (work .entry)) (now (words .entry))) (λ C pl. Lasting C pl m at room s (now (stage .entry)) (now (work .entry)) (now (words .entry)) r (now (work .exit)) (now (words .exit))) ⌝ }
+{
+    let kept = Kept {
+        real: s.real,
+        words: s.words,
+    };
+    if s.last {
+        return last_words(stage, work, words, m, height, half, n, at, room, kept);
+    }
+    kept
+}
+
+// Rules 10 and 11.
+fn finish_last(
+    stage: &[u32],
+    work: &mut [u32],
+    words: &mut [u32],
+    m: usize,
+    height: usize,
+    half: usize,
+    o: usize,
+    n: usize,
+    at: usize,
+    room: usize,
+    s: Spent,
+) -> Outcome
+    requires { ⌜ SomePlan (λ C pl. LastingAt C pl m height half o n at room s (now stage) (now work) (now words)) ⌝ }
+    ensures { λ r. ⌜ EveryPlan (λ C pl. LastingAt C pl m height half o n at room s (now (stage .entry)) (now (work .entry)) (now (words .entry))) (λ C pl. Ends C pl m at room s (now (stage .entry)) (now (work .entry)) (now (words .entry)) r (now (stage .entry)) (now (work .exit)) (now (words .exit))) ⌝ }
+{
+    let kept = write_last(stage, work, words, m, height, half, o, n, at, room, s);
+    let left = close_stage(work, m, o, n, kept.real);
+    Outcome {
+        number: 0,
+        words: kept.words,
+        waiting: left,
+    }
+}
+
+// Rule 9, test 8 and the rest.
+fn finish_rest(
+    gates: &[u32],
+    stage: &mut [u32],
+    work: &mut [u32],
+    words: &mut [u32],
+    m: usize,
+    height: usize,
+    half: usize,
+    o: usize,
+    n: usize,
+    q: usize,
+    at: usize,
+    room: usize,
+    s: Spent,
+) -> Outcome
+    requires { ⌜ SomePlan (λ C pl. RestingAt C pl m height half o n q at room s (now gates) (now stage) (now work) (now words)) ⌝ }
+    ensures { λ r. ⌜ EveryPlan (λ C pl. RestingAt C pl m height half o n q at room s (now (gates .entry)) (now (stage .entry)) (now (work .entry)) (now (words .entry))) (λ C pl. Ends C pl m at room s (now (stage .entry)) (now (work .entry)) (now (words .entry)) r (now (stage .exit)) (now (work .exit)) (now (words .exit))) ⌝ }
+{
+    if fill_rest(gates, stage, work, m, half, q) {
+        return finish_last(stage, work, words, m, height, half, o, n, at, room, s);
+    }
+    Outcome {
+        number: 8,
+        words: 0,
+        waiting: 0,
+    }
+}
+
+// Rules 8 to 11.
+pub fn finish(
+    gates: &[u32],
+    stage: &mut [u32],
+    work: &mut [u32],
+    words: &mut [u32],
+    m: usize,
+    height: usize,
+    half: usize,
+    o: usize,
+    n: usize,
+    q: usize,
+    at: usize,
+    room: usize,
+) -> Outcome
+    requires { ⌜ Some (λ C. FinishAt C m height half o n q at room (now gates) (now stage) (now work) (now words)) ⌝ }
+    ensures { λ r. ⌜ Every (λ C. FinishAt C m height half o n q at room (now (gates .entry)) (now (stage .entry)) (now (work .entry)) (now (words .entry))) (λ C. Finished C m at room (rules.finish (C .X) room (now (stage .entry))) (now (stage .entry)) (now (work .entry)) (now (words .entry)) r (now (stage .exit)) (now (work .exit)) (now (words .exit))) ⌝ }
+{
+    let s = write_runs(gates, stage, work, words, m, height, half, n, at, room);
+    if room < s.words {
+        return Outcome {
+            number: 7,
+            words: 0,
+            waiting: 0,
+        };
+    }
+    finish_rest(
+        gates,
+        stage,
+        work,
+        words,
+        m,
+        height,
+        half,
+        o,
+        n,
+        q,
+        at,
+        room,
+        s,
+    )
+}
