@@ -8,3 +8,4 @@ pub mod Loop
 pub mod Ending
 pub mod Filling
 pub mod Finish
+pub mod Stage

@@ -1,0 +1,39 @@
+-- One stage, rules 1 to 11: what it finds and leaves. pl is the stage, w the work area. Assumes nothing.
+use mathlib.Core.Path.{_≡_}
+use mathlib.Core.List.{List, [], _∷_}
+use Prim.Native.Nat.{ℕ, _+_, _*_, _^_, _<_, _≤_}
+use lib.ListN.{length, getD}
+use Rattle.rules.specs.Lean as lean
+use Rattle.rules.specs.Ending.{Stage?, refused, oneStage}
+use Rattle.columns.specs.Fields.{ORDER, DONE, LEVEL, WAITING, CELLS, RANKED, STARTS, ENDS, REVERSE, NEEDED, LISTED, STACK, PHASE, PLACE, MARK, SPARE, TAIL}
+use Rattle.columns.specs.Lists.{Clear}
+use Rattle.walk.specs.Stands.{Context, Begun}
+use Rattle.walk.specs.Prepared.{Fresh}
+use Rattle.stage.specs.declared.finish.Outcome.{Outcome}
+use Rattle.stage.specs.Finish.{Changed, Whole}
+
+-- n pins wait; the stage is empty, and so is every column but those of given and realised pins and of the waiting list
+pub record StageAt (C : Context) (m K n at room : ℕ) (gates pl w words : List ℕ) : Type 0 where
+  pub begun : Begun C m n gates w
+  pub fresh : Fresh m w
+  pub cells : Clear CELLS m w
+  pub marks : Clear MARK m w
+  pub tail : (j : ℕ) → j < 258 → getD w (16 * m + j) 0 ≡ 0
+  pub height : K ≡ C .X .K
+  pub blank : pl ≡ lean.blank (C .X)
+  pub fits : at + room ≤ length words
+  pub small : length words < 2 ^ 63
+
+abbrev pub columns : List ℕ
+columns = ORDER ∷ DONE ∷ LEVEL ∷ WAITING ∷ CELLS ∷ RANKED ∷ STARTS ∷ ENDS ∷ REVERSE ∷ NEEDED ∷ LISTED ∷ STACK ∷ PHASE ∷ PLACE ∷ MARK ∷ SPARE ∷ TAIL ∷ []
+
+-- the stage that rules 1 to 11 build for a context, or what refuses it
+unfoldable pub built : Context → ℕ → Stage?
+built C room = oneStage (C .X .K) (C .X .g) (C .X .done) (C .X .waiting) room
+
+-- after a whole stage the next one finds what this one found
+pub record Staged (C : Context) (m at room : ℕ) (pl w words : List ℕ) (e : Outcome) (pl′ w′ words′ : List ℕ) : Type 0 where
+  pub changed : Changed columns m at room pl w words pl′ w′ words′
+  pub refuses : 0 < e .number → built C room ≡ refused (e .number)
+  pub whole : e .number ≡ 0 → Whole C m at room (built C room) words e pl′ w′ words′
+  pub fresh : e .number ≡ 0 → Fresh m w′
