@@ -15,10 +15,10 @@ use Rattle.columns.specs.Area.{Room, Frame}
 use Rattle.columns.specs.Lists.{Holds, Marks, Clear, Marked, Placed}
 use Rattle.walk.specs.Stands.{Context, Set, Tally}
 use Rattle.tree.specs.Bits.{Standing}
-use Rattle.stage.specs.declared.ending.Spent.{Spent}
-use Rattle.stage.specs.declared.ending.Kept.{Kept}
+use Rattle.runs.specs.declared.Spent.{Spent}
+use Rattle.runs.specs.Laid.{laidAt}
+use Rattle.ending.specs.declared.last.Kept.{Kept}
 use Rattle.stage.specs.declared.finish.Outcome.{Outcome}
-use Rattle.stage.specs.Words.{laidAt}
 
 -- the plan of rules 2 to 7 stands; o pins are listed, n wait, q are needed
 pub record FinishAt (C : Context) (m K half o n q at room : ℕ) (gates pl w words : List ℕ) : Type 0 where

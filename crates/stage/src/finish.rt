@@ -1,11 +1,11 @@
 // Rules 8 to 11 in order after the loop of rules 2 to 7, with tests 7 and 8. m = N + 1; level 1 of the height has `half` cells; o pins are
 // listed, n wait, q are needed; the words go behind `at`, where there is `room` for so many.
-use crate::ending::Kept;
-use crate::ending::Spent;
-use crate::ending::close_stage;
-use crate::ending::fill_rest;
-use crate::ending::last_words;
-use crate::ending::write_runs;
+use ending::close::close_stage;
+use ending::last::Kept;
+use ending::last::last_words;
+use ending::rest::fill_rest;
+use runs::Spent;
+use runs::write_runs;
 ghost use Rattle.rules.specs.Ending as rules;
 ghost use Rattle.walk.specs.Stands.{Some, Every};
 ghost use Rattle.walk.specs.Needed.{SomePlan, EveryPlan};

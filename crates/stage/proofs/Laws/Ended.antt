@@ -16,14 +16,13 @@ use Rattle.columns.proofs.Lists.Entries.{holds-self, holds-frame}
 use Rattle.columns.proofs.Lists.Marks.{marks-frame, marked-self}
 use Rattle.columns.proofs.Lists.Places.{placed-frame, placed-self}
 use Rattle.walk.specs.Stands.{Context}
-use Rattle.stage.specs.declared.ending.Spent.{Spent}
-use Rattle.stage.specs.declared.ending.Kept.{Kept}
-use Rattle.stage.specs.Close.{either}
-use Rattle.stage.specs.Ending.{CloseAt, Closed}
+use Rattle.runs.specs.declared.Spent.{Spent}
+use Rattle.runs.proofs.Laws.Laid.{laid-length, laid-below, laid-past}
+use Rattle.ending.specs.declared.last.Kept.{Kept}
+use Rattle.ending.specs.Close.{either, CloseAt, Closed}
+use Rattle.ending.proofs.Laws.Close.{mem-append}
+use Rattle.ending.proofs.Laws.Closed.{within-frame}
 use Rattle.stage.specs.Finish.{Changed, touched, Midway, LastingAt, Lasting, Ends}
-use Rattle.stage.proofs.Laws.Close.{mem-append}
-use Rattle.stage.proofs.Laws.Closed.{within-frame}
-use Rattle.stage.proofs.Laws.Laid.{laid-length, laid-below, laid-past}
 use Rattle.stage.proofs.Laws.Midway.{within-marks, tree-listed, waiting-order, counts, cells-within, need-waits}
 
 module _ {C : Context} {pl : List ℕ} {m K half o n at room : ℕ} {s : Spent} {pl2 w words : List ℕ} (A : LastingAt C pl m K half o n at room s pl2 w words) {k : Kept} {w1 words1 : List ℕ} (L : Lasting C pl m at room s pl2 w words k w1 words1) where

@@ -19,12 +19,12 @@ use Rattle.columns.proofs.Area.Frames.{frame-none}
 use Rattle.columns.proofs.Lists.Entries.{holds-self}
 use Rattle.columns.proofs.Lists.Marks.{marked-self}
 use Rattle.walk.specs.Stands.{Context}
-use Rattle.stage.specs.declared.ending.Spent.{Spent}
-use Rattle.stage.specs.declared.ending.Kept.{Kept}
-use Rattle.stage.specs.Words.{laidAt}
-use Rattle.stage.specs.Ending.{LastAt, endWords, Lasted}
+use Rattle.runs.specs.declared.Spent.{Spent}
+use Rattle.runs.specs.Laid.{laidAt}
+use Rattle.runs.proofs.Laws.Laid.{laid-then}
+use Rattle.ending.specs.declared.last.Kept.{Kept}
+use Rattle.ending.specs.Last.{LastAt, endWords, Lasted}
 use Rattle.stage.specs.Finish.{Midway, LastingAt, Lasting}
-use Rattle.stage.proofs.Laws.Laid.{laid-then}
 use Rattle.stage.proofs.Laws.Midway.{cells-pins, end-words, tree-ends}
 use borrow.Author.Tests.{leb-false}
 

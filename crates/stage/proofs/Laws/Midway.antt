@@ -27,14 +27,13 @@ use Rattle.columns.proofs.Lists.Places.{placed-test}
 use Rattle.walk.specs.Stands.{Context}
 use Rattle.walk.proofs.Contexts.{low-mark}
 use Rattle.tree.proofs.Bits.Cells.{getD-any}
-use Rattle.stage.specs.declared.ending.Spent.{Spent}
-use Rattle.stage.specs.Close.{Within, isTree}
-use Rattle.stage.specs.Words.{isEnd, Pins}
-use Rattle.stage.specs.Ending.{endWords}
+use Rattle.runs.specs.declared.Spent.{Spent}
+use Rattle.runs.proofs.Laws.Plain.{not-not, not-zero}
+use Rattle.ending.specs.Close.{Within, isTree}
+use Rattle.ending.specs.Words.{isEnd, Pins}
+use Rattle.ending.specs.Last.{endWords}
+use Rattle.ending.proofs.Laws.Ends.{words-up}
 use Rattle.stage.specs.Finish.{Midway}
-use Rattle.stage.proofs.Laws.Ends.{words-up}
-use Rattle.stage.proofs.Laws.Ran.{not-not}
-use Rattle.stage.proofs.Laws.Rest.{not-zero}
 
 -- ---- lists
 

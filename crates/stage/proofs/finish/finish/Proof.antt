@@ -1,8 +1,8 @@
 -- `stage::finish::finish` meets its contract: too many words refuse the stage, else the other rules follow. Assumes nothing.
 use Rattle.stage.proofs.Laws.Finish.{end-at, finished-seven, resting-at, finished}
-use borrow.Author.Needs.{needs}
 use Rattle.stage.proofs.finish.finish.Statement.{statement}
 use Rattle.stage.proofs.finish.finish.Tie as tie
+use borrow.Author.Needs.{needs}
 
 write-runs-requires : tie.Need-write-runs-requires
 write-runs-requires c κs = record { C = _; at = end-at (c .before .before .before .before .before .before .before .pre .at) }

@@ -1,8 +1,8 @@
 -- `stage::finish::finish_last` meets its contract: rule 10, then rule 11 over what it realised. Assumes nothing.
 use Rattle.stage.proofs.Laws.Ended.{close-at, ended}
-use borrow.Author.Needs.{needs}
 use Rattle.stage.proofs.finish.finish_last.Statement.{statement}
 use Rattle.stage.proofs.finish.finish_last.Tie as tie
+use borrow.Author.Needs.{needs}
 
 write-last-requires : tie.Need-write-last-requires
 write-last-requires c κs = record { C = _; pl = _; at = c .before .before .before .before .before .pre .at }

@@ -1,8 +1,8 @@
 -- `stage::finish::finish_rest` meets its contract: no cell or none left empty refuses the stage. Assumes nothing.
 use Rattle.stage.proofs.Laws.Finish.{rest-at, ends-eight, lasting-at, ends-rest}
-use borrow.Author.Needs.{needs}
 use Rattle.stage.proofs.finish.finish_rest.Statement.{statement}
 use Rattle.stage.proofs.finish.finish_rest.Tie as tie
+use borrow.Author.Needs.{needs}
 
 fill-rest-requires : tie.Need-fill-rest-requires
 fill-rest-requires c κs = record { C = _; at = rest-at (c .before .before .before .before .before .before .pre .at) }

@@ -1,8 +1,8 @@
 -- `stage::finish::write_last` meets its contract: the last stage writes what fits, any other stage nothing more. Assumes nothing.
 use Rattle.stage.proofs.Laws.Lasting.{last-at, lasting-not, lasting-last}
-use borrow.Author.Needs.{needs}
 use Rattle.stage.proofs.finish.write_last.Statement.{statement}
 use Rattle.stage.proofs.finish.write_last.Tie as tie
+use borrow.Author.Needs.{needs}
 
 last-words-requires : tie.Need-last-words-requires
 last-words-requires c κs = last-at (c .before .before .before .before .before .before .pre .at)

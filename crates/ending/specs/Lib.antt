@@ -1,0 +1,4 @@
+pub mod Close
+pub mod Words
+pub mod Last
+pub mod Rest

@@ -1,0 +1,5 @@
+pub mod Classes
+pub mod Laid
+pub mod Runs
+pub mod Puts
+pub mod Ran
