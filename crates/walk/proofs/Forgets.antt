@@ -14,7 +14,7 @@ use Rattle.rules.specs.Lists.{mem}
 use Rattle.rules.proofs.Lists.Members.{Out, true-false, eqb-true, in-reverse}
 use Rattle.rules.proofs.Walk.Reverse.{out-sub}
 use Rattle.columns.specs.Area.{Frame, among, col, put}
-use Rattle.columns.specs.Fields.{ORDER, LEVEL, STARTS, ENDS, REVERSE, LISTED}
+use Rattle.columns.specs.Fields.{ORDER, LEVEL, STARTS, ENDS, REVERSE, LISTED, SPARE}
 use Rattle.columns.specs.Lists.{list, bit, Holds, Marks, Clear}
 use Rattle.columns.proofs.Area.Columns.{getD-col, at-set}
 use Rattle.columns.proofs.Area.Frames.{or-true, frame-none, frame-then, frame-more, frame-set, frame-front, frame-room}
@@ -22,7 +22,7 @@ use Rattle.columns.proofs.Lists.Entries.{frame-list, holds-at, holds-pin, holds
 use Rattle.columns.proofs.Lists.Clears.{zero-stays, clear-frame, front-clear}
 use Rattle.walk.specs.Stands.{Context, Reversed, Set}
 use Rattle.walk.specs.Ranking.{Beyond}
-use Rattle.walk.specs.Prepared.{atPins, ForgetAt, Unlisted, Forgot}
+use Rattle.walk.specs.Prepared.{Fresh, atPins, ForgetAt, Unlisted, Forgot}
 use Rattle.walk.proofs.Contexts.{order-is}
 use Rattle.walk.proofs.levels.Order.{level-out}
 use Rattle.walk.proofs.levels.Lifting.{reverse-out}
@@ -149,4 +149,26 @@ forget-frame {m} {k} {w} A {fs} {w′} fr a b c d e g = record {
   order = holds-self (holds-frame (A .order) fr a (omega arith));
   outside = λ f t p h o. each (λ i. getD w (i * m + p) 0 ≡ 0 → getD w′ (i * m + p) 0 ≡ 0) (λ z. fr .cell LISTED g (omega arith) p h ∙ z) (λ z. fr .cell LEVEL b (omega arith) p h ∙ z) (λ z. fr .cell REVERSE e (omega arith) p h ∙ z) f t (A .outside f t p h (rw (frame-list fr ORDER k a (omega arith)) at o));
   beyond = λ v l h. (fr .cell STARTS c (omega arith) v h ∙ A .beyond v l h .0, fr .cell ENDS d (omega arith) v h ∙ A .beyond v l h .1);
+}
+
+-- ---- the next stage finds what this one found
+
+pub fresh-again : {m : ℕ} {w w′ : List ℕ} → Forgot m w w′ → Clear SPARE m w → Fresh m w′
+fresh-again F z = record {
+  listed = F .listed;
+  levels = F .levels;
+  reverse = F .reverse;
+  starts = F .starts;
+  ends = F .ends;
+  spare = clear-frame z (F .frame) refl (omega arith);
+}
+
+pub fresh-frame : {m : ℕ} {w : List ℕ} → Fresh m w → {fs : List ℕ} {w′ : List ℕ} → Frame fs m w w′ → among fs LISTED ≡ false → among fs LEVEL ≡ false → among fs REVERSE ≡ false → among fs STARTS ≡ false → among fs ENDS ≡ false → among fs SPARE ≡ false → Fresh m w′
+fresh-frame Z fr a b c d e f = record {
+  listed = clear-frame (Z .listed) fr a (omega arith);
+  levels = clear-frame (Z .levels) fr b (omega arith);
+  reverse = clear-frame (Z .reverse) fr c (omega arith);
+  starts = clear-frame (Z .starts) fr d (omega arith);
+  ends = clear-frame (Z .ends) fr e (omega arith);
+  spare = clear-frame (Z .spare) fr f (omega arith);
 }
