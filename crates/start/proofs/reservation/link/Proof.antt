@@ -1,0 +1,64 @@
+use borrow.Author.Needs.{needs}
+use Rattle.start.proofs.reservation.link.Statement.{statement}
+use Rattle.start.proofs.reservation.link.Tie as tie
+use Rattle.start.proofs.reservation.link.Reads as reads
+use Rattle.start.proofs.reservation.link.Lts as lts
+use Rattle.columns.proofs.push.Reads as push-reads
+use Rattle.columns.proofs.tail_set.Reads as tail-set-reads
+
+mul-tail-set : tie.Need-mul-tail-set
+mul-tail-set c = search needs
+
+add-tail-set : tie.Need-add-tail-set
+add-tail-set c = search needs
+
+cast-tail-set : tie.Need-cast-tail-set
+cast-tail-set c = search needs
+
+tail-set-requires : tie.Need-tail-set-requires
+tail-set-requires c κs = search needs
+
+mul-tail-set-2 : tie.Need-mul-tail-set-2
+mul-tail-set-2 c = search needs
+
+add-tail-set-2 : tie.Need-add-tail-set-2
+add-tail-set-2 c = search needs
+
+add-tail-set-3 : tie.Need-add-tail-set-3
+add-tail-set-3 c = search needs
+
+cast-tail-set-2 : tie.Need-cast-tail-set-2
+cast-tail-set-2 c = search needs
+
+tail-set-requires-2 : tie.Need-tail-set-requires-2
+tail-set-requires-2 c κs = search needs
+
+add-push : tie.Need-add-push
+add-push c = search needs
+
+push-requires : tie.Need-push-requires
+push-requires c κs = search needs
+
+same-length : tie.Need-same-length
+same-length c = search needs
+
+returns : tie.Need-returns
+returns c = search needs
+
+pub link-spec : {M : Type 1} → statement M
+link-spec =
+    tie.close
+    (tie.spec
+    mul-tail-set
+    add-tail-set
+    cast-tail-set
+    tail-set-requires
+    mul-tail-set-2
+    add-tail-set-2
+    add-tail-set-3
+    cast-tail-set-2
+    tail-set-requires-2
+    add-push
+    push-requires
+    same-length
+    returns)

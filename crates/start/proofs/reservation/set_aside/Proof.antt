@@ -1,0 +1,17 @@
+use borrow.Author.Needs.{needs}
+use Rattle.start.proofs.reservation.set_aside.Statement.{statement}
+use Rattle.start.proofs.reservation.set_aside.Tie as tie
+use Rattle.start.proofs.reservation.set_aside.Reads as reads
+use Rattle.start.proofs.reservation.set_aside.Lts as lts
+
+add-result : tie.Need-add-result
+add-result c = search needs
+
+add-result-2 : tie.Need-add-result-2
+add-result-2 c = search needs
+
+returns : tie.Need-returns
+returns c = search needs
+
+pub set-aside-spec : {M : Type 1} → statement M
+set-aside-spec = tie.close (tie.spec add-result add-result-2 returns)
