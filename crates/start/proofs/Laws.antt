@@ -2,3 +2,5 @@ pub mod Given
 pub mod Waiting
 pub mod Chains
 pub mod Codes
+pub mod Counts
+pub mod Reserving

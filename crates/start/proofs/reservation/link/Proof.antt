@@ -1,10 +1,7 @@
+-- `start::reservation::link` meets its contract: three stores. Assumes nothing.
 use borrow.Author.Needs.{needs}
 use Rattle.start.proofs.reservation.link.Statement.{statement}
 use Rattle.start.proofs.reservation.link.Tie as tie
-use Rattle.start.proofs.reservation.link.Reads as reads
-use Rattle.start.proofs.reservation.link.Lts as lts
-use Rattle.columns.proofs.push.Reads as push-reads
-use Rattle.columns.proofs.tail_set.Reads as tail-set-reads
 
 mul-tail-set : tie.Need-mul-tail-set
 mul-tail-set c = search needs
@@ -43,7 +40,7 @@ same-length : tie.Need-same-length
 same-length c = search needs
 
 returns : tie.Need-returns
-returns c = search needs
+returns c = record { is = cc (c .before .before .push .ensures, c .before .before .before .before .before .before .tail-set2 .ensures, c .before .before .before .before .before .before .before .before .before .before .tail-set .ensures) }
 
 pub link-spec : {M : Type 1} → statement M
 link-spec =

@@ -1,11 +1,9 @@
+use mathlib.Core.Path.{_∙_}
+use Rattle.start.proofs.Laws.Counts.{adds-output}
+-- `start::reservation::output` meets its contract. Assumes nothing.
 use borrow.Author.Needs.{needs}
 use Rattle.start.proofs.reservation.output.Statement.{statement}
 use Rattle.start.proofs.reservation.output.Tie as tie
-use Rattle.start.proofs.reservation.output.Reads as reads
-use Rattle.start.proofs.reservation.output.Lts as lts
-use Rattle.columns.proofs.wide.Reads as wide-reads
-use Rattle.graph.proofs.inversion_of.Reads as inversion-of-reads
-use Rattle.graph.proofs.pin_of.Reads as pin-of-reads
 
 pin-of-requires : tie.Need-pin-of-requires
 pin-of-requires c κs = search needs
@@ -23,7 +21,7 @@ add-t6 : tie.Need-add-t6
 add-t6 c = search needs
 
 returns : tie.Need-returns
-returns c = search needs
+returns c = adds-output _ _ _ (c .before .before .wide .ensures ∙ c .before .before .before .pin-of .ensures) (c .wide2 .ensures ∙ c .before .inversion-of .ensures)
 
 pub output-spec : {M : Type 1} → statement M
 output-spec =

@@ -1,8 +1,9 @@
+use mathlib.Core.Path.{refl}
+use Rattle.start.proofs.Laws.Counts.{aside}
+-- `start::reservation::set_aside` meets its contract. Assumes nothing.
 use borrow.Author.Needs.{needs}
 use Rattle.start.proofs.reservation.set_aside.Statement.{statement}
 use Rattle.start.proofs.reservation.set_aside.Tie as tie
-use Rattle.start.proofs.reservation.set_aside.Reads as reads
-use Rattle.start.proofs.reservation.set_aside.Lts as lts
 
 add-result : tie.Need-add-result
 add-result c = search needs
@@ -11,7 +12,7 @@ add-result-2 : tie.Need-add-result-2
 add-result-2 c = search needs
 
 returns : tie.Need-returns
-returns c = search needs
+returns c = aside _ _ refl
 
 pub set-aside-spec : {M : Type 1} → statement M
 set-aside-spec = tie.close (tie.spec add-result add-result-2 returns)

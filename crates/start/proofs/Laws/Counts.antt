@@ -1,0 +1,192 @@
+-- What a record adds, and the limits. Assumes nothing.
+use mathlib.Core.Path.{_≡_, refl, sym, ap, _∙_}
+use mathlib.Core.Bool.{Bool, true, false, not}
+use mathlib.Core.List.{List, [], _∷_, _++_, append-nil}
+use Prim.Native.Nat.{ℕ, suc, _+_, _*_, _/_, _%_, _<_, _≤_}
+use native.Mathlib.Omega.{arith}
+use native.Mathlib.Decide.{decLt}
+use borrow.Author.Tests.{lt-ltb, le-ltb, le-leb, lt-leb}
+use lib.Dec.{leb, ltb}
+use lib.ListN.{length, getD, take, drop}
+use lib.Seq.{drop-cons, getD-drop}
+use Rattle.rules.specs.Cells.{wordLimit}
+use Rattle.rules.specs.Graph.{pinOf, inversionOf}
+use Rattle.rules.specs.Records.{Group, output, flipFlop, memory, stagedPin, sizeOf, groupAt, wholeAt, endpointsOf}
+use Rattle.rules.specs.Reservation.{Activation, activations, duplicates, memories, reserved, reservable}
+use Rattle.rules.proofs.Lists.Members.{In, in-here, in-there}
+use Rattle.rules.proofs.Demand.{first}
+use Rattle.rules.proofs.Reservation.Counting.{repeats, memories-snoc, duplicates-repeats, activations-append}
+use Rattle.graph.specs.Values.{known, sizeAt}
+use Rattle.graph.proofs.Laws.Reading.{Stands, standing, known-is}
+use Rattle.graph.proofs.Laws.Passed.{Next, read-next}
+use Rattle.start.specs.declared.reservation.Added.{Added}
+use Rattle.start.specs.declared.reservation.Added.the-variants.{Memory, Code}
+use Rattle.start.specs.declared.reservation.Count.{Count}
+use Rattle.start.specs.Reservation.{codesOf, memoriesOf, AddsGroup, Chains, CodeAt, Coded, Counts, CountAt, Counted, SetAside, Judged}
+use Rattle.start.proofs.Laws.Chains.{touched-none}
+
+-- ---- what a group adds
+
+pub adds-memory : (ls : List ℕ) → AddsGroup (memory ls) Memory
+unfolding activations memories codesOf memoriesOf
+adds-memory ls = record { codes = refl; memory = refl }
+
+pub adds-staged : (p q : ℕ) → q ≡ p → AddsGroup (stagedPin p) (Code q 2)
+unfolding activations memories codesOf memoriesOf
+adds-staged p q e = record { codes = rw e; memory = refl }
+
+pub adds-output : (l p i : ℕ) → p ≡ pinOf l → i ≡ inversionOf l → AddsGroup (output l) (Code p (2 + i))
+unfolding activations memories codesOf memoriesOf
+adds-output l p i ep ei = record { codes = rw (ep, ei); memory = refl }
+
+pub adds-flip-flop : (a d p e i : ℕ) → p ≡ pinOf d → e ≡ a → i ≡ inversionOf d → AddsGroup (flipFlop a d) (Code p (2 * e + i))
+unfolding activations memories codesOf memoriesOf
+adds-flip-flop a d p e i ep ee ei = record { codes = rw (ep, ee, ei); memory = refl }
+
+-- ---- the record at an index, by its kind
+
+module _ (xs : List ℕ) (at : ℕ) (whole : wholeAt (drop at xs) ≡ true) where
+  S : Stands xs at
+  S = standing xs at whole
+
+  -- its kind and its first number are there
+  pub record-inside : at + 1 < length xs
+  record-inside = omega (arith, S .some, S .inside)
+
+  pub kind-is : (k : ℕ) → k ≡ known (getD xs at 0) → getD xs at 0 ≡ k
+  kind-is k e = sym (e ∙ known-is (getD xs at 0) (omega (arith, S .some, S .size)))
+
+  pub flip-inside : getD xs at 0 ≡ 2 → at + 2 < length xs
+  unfolding sizeOf
+  flip-inside e = let s : sizeAt xs at ≡ 2 = S .size ∙ ap sizeOf e in omega (arith, S .inside)
+
+  -- the kind is a known one
+  pub kind-known : getD xs at 0 ≡ 0 → ⊥
+  unfolding sizeOf
+  kind-known e = let s : sizeAt xs at ≡ 0 = S .size ∙ ap sizeOf e in omega (arith, S .some)
+
+  front : (k : ℕ) → getD xs at 0 ≡ k → drop at xs ≡ k ∷ drop (suc at) xs
+  front k e = rw (← e) (drop-cons xs at 0 (omega (arith, S .inside)))
+
+  number : (i j : ℕ) → suc at + i ≡ j → getD (drop (suc at) xs) i 0 ≡ getD xs j 0
+  number i j e = getD-drop (suc at) xs i 0 ∙ ap (λ (n : ℕ). getD xs n 0) e
+
+  pub group-output : getD xs at 0 ≡ 1 → groupAt (drop at xs) ≡ output (getD xs (at + 1) 0)
+  unfolding groupAt
+  group-output e = rw (front 1 e, number 0 (at + 1) (omega arith))
+
+  pub group-flip : getD xs at 0 ≡ 2 → groupAt (drop at xs) ≡ flipFlop (getD xs (at + 1) 0) (getD xs (at + 2) 0)
+  unfolding groupAt
+  group-flip e = rw (front 2 e, number 0 (at + 1) (omega arith), number 1 (at + 2) (omega arith))
+
+  pub group-memory : getD xs at 0 ≡ 3 → groupAt (drop at xs) ≡ memory (take 91 (drop (suc at) xs))
+  unfolding groupAt
+  group-memory e = rw (front 3 e)
+
+  pub group-staged : getD xs at 0 ≡ 4 → groupAt (drop at xs) ≡ stagedPin (getD xs (at + 1) 0)
+  unfolding groupAt
+  group-staged e = rw (front 4 e, number 0 (at + 1) (omega arith))
+
+-- ---- the pin is one of the group's, and the number is small since a literal of such a pin is
+
+same-head : {a b : Activation} → a ∷ [] ≡ b ∷ [] → a ≡ b
+same-head e = cc
+
+module _ (m : ℕ) (small : m ≤ 65536) (p c : ℕ) where
+  abbrev one : List Activation
+  one = record { pin = p; code = c } ∷ []
+
+  code-named : (x : Group) → ((q : ℕ) → In q (endpointsOf x) → q < m) → activations (x ∷ []) ≡ one → (p < m) × (c < 262144)
+  unfolding activations endpointsOf pinOf inversionOf
+  code-named (output l) b e =
+      let s = same-head e in
+      let ep : l / 2 ≡ p = ap (λ (a : Activation). a .pin) s in
+      let ec : 2 + l % 2 ≡ c = ap (λ (a : Activation). a .code) s in
+      (rw (← ep) (b (l / 2) (in-here (l / 2) [])), omega arith)
+  code-named (flipFlop a d) b e =
+      let s = same-head e in
+      let ep : d / 2 ≡ p = ap (λ (a : Activation). a .pin) s in
+      let ec : 2 * a + d % 2 ≡ c = ap (λ (a : Activation). a .code) s in
+      let ha : a / 2 < m = b (a / 2) (in-here (a / 2) (d / 2 ∷ [])) in
+      (rw (← ep) (b (d / 2) (in-there (d / 2) (a / 2) (d / 2 ∷ []) (in-here (d / 2) []))), omega arith)
+  code-named (memory ls) b e = absurd (let z : _≡_ {A = ℕ} 0 1 = cc in omega arith)
+  code-named (stagedPin q) b e =
+      let s = same-head e in
+      let ep : q ≡ p = ap (λ (a : Activation). a .pin) s in
+      let ec : 2 ≡ c = ap (λ (a : Activation). a .code) s in
+      (rw (← ep) (b q (in-here q [])), omega arith)
+
+-- ---- one record more
+
+module _ {m at : ℕ} {count : Count} {xs : List Group} {records w : List ℕ} (A : CountAt m at count xs records w) where
+  abbrev g : Group
+  g = groupAt (drop at records)
+
+  next : Next records at (A .now .before .rest)
+  next = read-next records at (A .now .before .rest) (A .now .before .unread) (A .index)
+
+  pub count-whole : wholeAt (drop at records) ≡ true
+  count-whole = next .whole
+
+  g-named : (q : ℕ) → In q (endpointsOf g) → q < m
+  g-named q i = A .now .before .named q (rw (next .these) (first i))
+
+  pub counted-memory : AddsGroup g Memory → Counted m at xs records w w (record { memories = count .memories + 1; duplicates = count .duplicates })
+  unfolding codesOf memoriesOf
+  counted-memory B =
+      let e : activations (xs ++ (g ∷ [])) ≡ activations xs = activations-append xs (g ∷ []) ∙ ap (λ (l : List Activation). activations xs ++ l) (B .codes) ∙ append-nil (activations xs) in
+      record {
+        touched = touched-none;
+        chains = rw e (record { before = λ p h. omega (arith, A .now .chains .before p h); chain = A .now .chains .chain });
+        counts = record {
+          memory = omega (arith, memories-snoc xs g, B .memory, A .now .counts .memory);
+          double = duplicates-repeats (xs ++ (g ∷ [])) ∙ ap repeats e ∙ sym (duplicates-repeats xs) ∙ A .now .counts .double;
+        };
+        few = omega (arith, A .now .few);
+      }
+
+  module _ {p c : ℕ} (B : AddsGroup g (Code p c)) where
+    pub count-code : CodeAt m at p c (activations xs) w
+    unfolding codesOf
+    count-code =
+        let n = code-named m (A .area .small) p c g g-named (B .codes) in
+        record {
+          area = A .area;
+          room = omega (arith, A .room, A .index);
+          small = omega (arith, A .short, A .index);
+          pin = n .0;
+          fits = n .1;
+          chains = A .now .chains;
+        }
+
+    pub counted-code : {w′ : List ℕ} {r : ℕ} → Coded m at p c (activations xs) w w′ r → Counted m at xs records w w′ (record { memories = count .memories; duplicates = count .duplicates + r })
+    unfolding codesOf memoriesOf
+    counted-code {w′} {r} C =
+        let e : activations (xs ++ (g ∷ [])) ≡ activations xs ++ (record { pin = p; code = c } ∷ []) = activations-append xs (g ∷ []) ∙ ap (λ (l : List Activation). activations xs ++ l) (B .codes) in
+        record {
+          touched = C .touched;
+          chains = rw e (C .chains);
+          counts = record {
+            memory = omega (arith, memories-snoc xs g, B .memory, A .now .counts .memory);
+            double = duplicates-repeats (xs ++ (g ∷ [])) ∙ ap repeats e ∙ C .more ∙ omega (arith, duplicates-repeats xs, A .now .counts .double);
+          };
+          few = omega (arith, A .now .few, C .few);
+        }
+
+-- ---- the limits
+
+pub aside : (count : Count) (r : ℕ) → r ≡ count .memories + (count .duplicates + 31) / 32 → SetAside count r
+unfolding reserved
+aside count r e = record { is = λ xs C. rw (C .memory, C .double) e }
+
+not-leb : (a b : ℕ) → ltb a b ≡ not (leb b a)
+not-leb a b = elim (decLt a b) [ yes h ↦ rw (lt-ltb a b h, lt-leb b a h) | no h ↦ let k : b ≤ a = (let n : (a < b → ⊥) = h in omega arith) in rw (le-ltb a b k, le-leb b a k) ]
+
+module _ {count : Count} {limit s : ℕ} (S : SetAside count s) where
+  pub judged-words : limit ≤ s → Judged count limit true
+  unfolding reservable
+  judged-words h = record { is = λ K xs e C. rw (le-ltb (reserved xs) (wordLimit K) (omega (arith, S .is xs C)), reservable) }
+
+  pub judged-rest : s < limit → (r : Bool) → r ≡ ltb limit (4 * count .memories + count .duplicates) → Judged count limit r
+  unfolding reservable
+  judged-rest h r er = record { is = λ K xs e C. er ∙ not-leb limit (4 * count .memories + count .duplicates) ∙ rw (lt-ltb (reserved xs) (wordLimit K) (omega (arith, S .is xs C)), reservable, C .memory, C .double, e) }
