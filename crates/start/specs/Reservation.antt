@@ -6,7 +6,7 @@ use Prim.Native.Nat.{ℕ, suc, _+_, _*_, _<_, _≤_}
 use lib.ListN.{length, getD, set, drop}
 use Rattle.rules.specs.Lists.{mem}
 use Rattle.rules.specs.Cells.{wordLimit}
-use Rattle.rules.specs.Records.{Group, groups, read, groupAt, groupsOf}
+use Rattle.rules.specs.Records.{Group, groups, read, groupAt, wholeAt, groupsOf}
 use Rattle.rules.specs.Reservation.{Activation, activations, codesAt, duplicates, memories, reserved, reservable}
 use Rattle.rules.proofs.Demand.{Ends}
 use Rattle.rules.proofs.Reservation.Counting.{repeats}
@@ -37,6 +37,10 @@ codesOf (Code p c) = record { pin = p; code = c } ∷ []
 unfoldable pub memoriesOf : Added → ℕ
 memoriesOf Memory = 1
 memoriesOf (Code p c) = 0
+
+-- a whole record stands at an index
+pub record WholeAt (at : ℕ) (records : List ℕ) : Type 0 where
+  pub whole : wholeAt (drop at records) ≡ true
 
 pub record AddsGroup (x : Group) (r : Added) : Type 0 where
   pub codes : activations (x ∷ []) ≡ codesOf r

@@ -14,13 +14,11 @@ use graph::inversion_of;
 use graph::kind_of;
 use graph::pin_of;
 use graph::size_at;
-ghost use mathlib.Core.Path.{_≡_};
-ghost use mathlib.Core.Bool.{true};
 ghost use Prim.Native.Nat.{_+_, _≤_};
 ghost use lib.ListN.{drop};
 ghost use Rattle.rules.specs.Records as rules;
-ghost use Rattle.rules.specs.Records.{flipFlop, groupAt, wholeAt};
-ghost use Rattle.start.specs.Reservation.{Some, Every, AddsGroup, ChainAt, Knows, LinkAt, Linked, CodeAt, Coded, CountAt, Counted, Judged, SetAside, ReserveAt, Reserved};
+ghost use Rattle.rules.specs.Records.{flipFlop, groupAt};
+ghost use Rattle.start.specs.Reservation.{Some, Every, WholeAt, AddsGroup, ChainAt, Knows, LinkAt, Linked, CodeAt, Coded, CountAt, Counted, Judged, SetAside, ReserveAt, Reserved};
 
 // What a record adds: a memory, or an activation at a pin.
 pub enum Added {
@@ -56,7 +54,7 @@ fn flip_flop(enable: Literal, input: Literal) -> Added
 
 // What the whole record at an index adds.
 fn adds(records: &[u32], at: usize) -> Added
-    requires { ⌜ wholeAt (drop at (now records)) ≡ true ⌝ }
+    requires { ⌜ WholeAt at (now records) ⌝ }
     ensures { λ r. ⌜ AddsGroup (groupAt (drop at (now (records .entry)))) r ⌝ }
 {
     let kind = kind_of(records[at]);

@@ -7,31 +7,34 @@ use native.Mathlib.Omega.{arith}
 use native.Mathlib.Decide.{decLt}
 use borrow.Author.Tests.{lt-ltb, le-ltb, le-leb, lt-leb}
 use lib.Dec.{leb, ltb}
-use lib.ListN.{length, getD, take, drop}
+use lib.ListN.{length, getD, drop}
 use lib.Seq.{drop-cons, getD-drop}
 use Rattle.rules.specs.Cells.{wordLimit}
 use Rattle.rules.specs.Graph.{pinOf, inversionOf}
-use Rattle.rules.specs.Records.{Group, output, flipFlop, memory, stagedPin, sizeOf, groupAt, wholeAt, endpointsOf}
+use Rattle.rules.specs.Records.{Group, output, flipFlop, memory, stagedPin, sizeOf, groupAt, endpointsOf}
 use Rattle.rules.specs.Reservation.{Activation, activations, duplicates, memories, reserved, reservable}
 use Rattle.rules.proofs.Lists.Members.{In, in-here, in-there}
 use Rattle.rules.proofs.Demand.{first}
 use Rattle.rules.proofs.Reservation.Counting.{repeats, memories-snoc, duplicates-repeats, activations-append}
-use Rattle.graph.specs.Values.{known, sizeAt}
+use Rattle.graph.specs.declared.records.Kind.{Kind}
+use Rattle.graph.specs.declared.records.Kind.the-variants as kinds
+use Rattle.graph.specs.declared.records.Kind.the-variants.{Output, FlipFlop, StagedPin, Unknown}
+use Rattle.graph.specs.Values.{numberOf, known, sizeAt}
 use Rattle.graph.proofs.Laws.Reading.{Stands, standing, known-is}
 use Rattle.graph.proofs.Laws.Passed.{Next, read-next}
 use Rattle.start.specs.declared.reservation.Added.{Added}
 use Rattle.start.specs.declared.reservation.Added.the-variants.{Memory, Code}
 use Rattle.start.specs.declared.reservation.Count.{Count}
-use Rattle.start.specs.Reservation.{codesOf, memoriesOf, AddsGroup, Chains, CodeAt, Coded, Counts, CountAt, Counted, SetAside, Judged}
+use Rattle.start.specs.Reservation.{codesOf, memoriesOf, WholeAt, AddsGroup, Chains, CodeAt, Coded, Counts, CountAt, Counted, SetAside, Judged}
 use Rattle.start.proofs.Laws.Chains.{touched-none}
 
 -- ---- what a group adds
 
-pub adds-memory : (ls : List ℕ) → AddsGroup (memory ls) Memory
+adds-memory : (ls : List ℕ) → AddsGroup (memory ls) Memory
 unfolding activations memories codesOf memoriesOf
 adds-memory ls = record { codes = refl; memory = refl }
 
-pub adds-staged : (p q : ℕ) → q ≡ p → AddsGroup (stagedPin p) (Code q 2)
+adds-staged : (p q : ℕ) → q ≡ p → AddsGroup (stagedPin p) (Code q 2)
 unfolding activations memories codesOf memoriesOf
 adds-staged p q e = record { codes = rw e; memory = refl }
 
@@ -45,25 +48,13 @@ adds-flip-flop a d p e i ep ee ei = record { codes = rw (ep, ee, ei); memory = r
 
 -- ---- the record at an index, by its kind
 
-module _ (xs : List ℕ) (at : ℕ) (whole : wholeAt (drop at xs) ≡ true) where
+module _ {at : ℕ} {xs : List ℕ} (A : WholeAt at xs) where
   S : Stands xs at
-  S = standing xs at whole
+  S = standing xs at (A .whole)
 
   -- its kind and its first number are there
   pub record-inside : at + 1 < length xs
   record-inside = omega (arith, S .some, S .inside)
-
-  pub kind-is : (k : ℕ) → k ≡ known (getD xs at 0) → getD xs at 0 ≡ k
-  kind-is k e = sym (e ∙ known-is (getD xs at 0) (omega (arith, S .some, S .size)))
-
-  pub flip-inside : getD xs at 0 ≡ 2 → at + 2 < length xs
-  unfolding sizeOf
-  flip-inside e = let s : sizeAt xs at ≡ 2 = S .size ∙ ap sizeOf e in omega (arith, S .inside)
-
-  -- the kind is a known one
-  pub kind-known : getD xs at 0 ≡ 0 → ⊥
-  unfolding sizeOf
-  kind-known e = let s : sizeAt xs at ≡ 0 = S .size ∙ ap sizeOf e in omega (arith, S .some)
 
   front : (k : ℕ) → getD xs at 0 ≡ k → drop at xs ≡ k ∷ drop (suc at) xs
   front k e = rw (← e) (drop-cons xs at 0 (omega (arith, S .inside)))
@@ -71,21 +62,34 @@ module _ (xs : List ℕ) (at : ℕ) (whole : wholeAt (drop at xs) ≡ true) wher
   number : (i j : ℕ) → suc at + i ≡ j → getD (drop (suc at) xs) i 0 ≡ getD xs j 0
   number i j e = getD-drop (suc at) xs i 0 ∙ ap (λ (n : ℕ). getD xs n 0) e
 
-  pub group-output : getD xs at 0 ≡ 1 → groupAt (drop at xs) ≡ output (getD xs (at + 1) 0)
-  unfolding groupAt
-  group-output e = rw (front 1 e, number 0 (at + 1) (omega arith))
+  module _ {k : Kind} (en : numberOf k ≡ known (getD xs at 0)) where
+    kind-is : (l : Kind) → k ≡ l → getD xs at 0 ≡ numberOf l
+    kind-is l e = sym (ap numberOf (sym e) ∙ en ∙ known-is (getD xs at 0) (omega (arith, S .some, S .size)))
 
-  pub group-flip : getD xs at 0 ≡ 2 → groupAt (drop at xs) ≡ flipFlop (getD xs (at + 1) 0) (getD xs (at + 2) 0)
-  unfolding groupAt
-  group-flip e = rw (front 2 e, number 0 (at + 1) (omega arith), number 1 (at + 2) (omega arith))
+    pub flip-inside : k ≡ FlipFlop → at + 2 < length xs
+    unfolding sizeOf numberOf
+    flip-inside e = let s : sizeAt xs at ≡ 2 = S .size ∙ ap sizeOf (kind-is FlipFlop e) in omega (arith, S .inside)
 
-  pub group-memory : getD xs at 0 ≡ 3 → groupAt (drop at xs) ≡ memory (take 91 (drop (suc at) xs))
-  unfolding groupAt
-  group-memory e = rw (front 3 e)
+    -- the kind is a known one
+    pub record-known : {P : Type 0} → k ≡ Unknown → P
+    unfolding sizeOf numberOf
+    record-known e = absurd (let s : sizeAt xs at ≡ 0 = S .size ∙ ap sizeOf (kind-is Unknown e) in omega (arith, S .some))
 
-  pub group-staged : getD xs at 0 ≡ 4 → groupAt (drop at xs) ≡ stagedPin (getD xs (at + 1) 0)
-  unfolding groupAt
-  group-staged e = rw (front 4 e, number 0 (at + 1) (omega arith))
+    pub record-memory : k ≡ kinds.Memory → AddsGroup (groupAt (drop at xs)) Memory
+    unfolding groupAt numberOf
+    record-memory e = rw (front 3 (kind-is kinds.Memory e)) (adds-memory _)
+
+    pub record-output : k ≡ Output → {r : Added} → AddsGroup (output (getD xs (at + 1) 0)) r → AddsGroup (groupAt (drop at xs)) r
+    unfolding groupAt numberOf
+    record-output e B = rw (front 1 (kind-is Output e), number 0 (at + 1) (omega arith)) B
+
+    pub record-flip : k ≡ FlipFlop → {r : Added} → AddsGroup (flipFlop (getD xs (at + 1) 0) (getD xs (at + 2) 0)) r → AddsGroup (groupAt (drop at xs)) r
+    unfolding groupAt numberOf
+    record-flip e B = rw (front 2 (kind-is FlipFlop e), number 0 (at + 1) (omega arith), number 1 (at + 2) (omega arith)) B
+
+    pub record-staged : k ≡ StagedPin → (p : ℕ) → p ≡ getD xs (at + 1) 0 → AddsGroup (groupAt (drop at xs)) (Code p 2)
+    unfolding groupAt numberOf
+    record-staged e p ep = rw (front 4 (kind-is StagedPin e), number 0 (at + 1) (omega arith)) (adds-staged _ p ep)
 
 -- ---- the pin is one of the group's, and the number is small since a literal of such a pin is
 
@@ -125,15 +129,16 @@ module _ {m at : ℕ} {count : Count} {xs : List Group} {records w : List ℕ} (
   next : Next records at (A .now .before .rest)
   next = read-next records at (A .now .before .rest) (A .now .before .unread) (A .index)
 
-  pub count-whole : wholeAt (drop at records) ≡ true
-  count-whole = next .whole
+  pub count-whole : WholeAt at records
+  count-whole = record { whole = next .whole }
 
   g-named : (q : ℕ) → In q (endpointsOf g) → q < m
   g-named q i = A .now .before .named q (rw (next .these) (first i))
 
-  pub counted-memory : AddsGroup g Memory → Counted m at xs records w w (record { memories = count .memories + 1; duplicates = count .duplicates })
+  pub counted-memory : {r : Added} → AddsGroup g r → r ≡ Memory → Counted m at xs records w w (record { memories = count .memories + 1; duplicates = count .duplicates })
   unfolding codesOf memoriesOf
-  counted-memory B =
+  counted-memory B₀ er =
+      let B : AddsGroup g Memory = rw er at B₀ in
       let e : activations (xs ++ (g ∷ [])) ≡ activations xs = activations-append xs (g ∷ []) ∙ ap (λ (l : List Activation). activations xs ++ l) (B .codes) ∙ append-nil (activations xs) in
       record {
         touched = touched-none;
@@ -145,7 +150,10 @@ module _ {m at : ℕ} {count : Count} {xs : List Group} {records w : List ℕ} (
         few = omega (arith, A .now .few);
       }
 
-  module _ {p c : ℕ} (B : AddsGroup g (Code p c)) where
+  module _ {p c : ℕ} {s : Added} (B₀ : AddsGroup g s) (es : s ≡ Code p c) where
+    B : AddsGroup g (Code p c)
+    B = rw es at B₀
+
     pub count-code : CodeAt m at p c (activations xs) w
     unfolding codesOf
     count-code =

@@ -1,13 +1,12 @@
+use native.Mathlib.Omega.{arith}
+use Rattle.start.proofs.Laws.Counts.{count-whole, count-code, counted-memory, counted-code}
+-- `start::reservation::add_record` meets its contract: a memory or an activation more. Assumes nothing.
 use borrow.Author.Needs.{needs}
 use Rattle.start.proofs.reservation.add_record.Statement.{statement}
 use Rattle.start.proofs.reservation.add_record.Tie as tie
-use Rattle.start.proofs.reservation.add_record.Reads as reads
-use Rattle.start.proofs.reservation.add_record.Lts as lts
-use Rattle.start.proofs.reservation.add_code.Reads as add-code-reads
-use Rattle.start.proofs.reservation.adds.Reads as adds-reads
 
 adds-requires : tie.Need-adds-requires
-adds-requires c κs = search needs
+adds-requires c κs = count-whole (c .before .before .pre .at)
 
 enum-told : tie.Need-enum-told
 enum-told c = search needs
@@ -19,19 +18,19 @@ enum-known-added : tie.Need-enum-known-added
 enum-known-added c = search needs
 
 add-code-requires : tie.Need-add-code-requires
-add-code-requires c κs = search needs
+add-code-requires c κs = record { it = _; at = count-code (c .before .before .before .before .before .before .before .pre .at) (c .before .before .before .before .adds .ensures) (c .before .before .added .given .1) }
 
 add-t16 : tie.Need-add-t16
-add-t16 c = search needs
+add-t16 c = let A = c .before .before .before .before .before .before .before .before .before .before .pre .at in omega (arith, A .now .few, A .index, A .short, c .before .before .add-code .ensures .all _ (count-code A (c .before .before .before .before .before .before .before .adds .ensures) (c .before .before .before .before .before .added .given .1)) .few)
 
 returns : tie.Need-returns
-returns c = search needs
+returns c = record { all = λ xs A. counted-memory A (c .before .before .adds .ensures) (c .enum-told .given .1) }
 
 same-length : tie.Need-same-length
 same-length c = search needs
 
 returns-2 : tie.Need-returns-2
-returns-2 c = search needs
+returns-2 c = record { all = λ xs A. counted-code A (c .before .before .before .before .before .before .before .adds .ensures) (c .before .before .before .before .before .added .given .1) (c .before .before .add-code .ensures .all _ (count-code A (c .before .before .before .before .before .before .before .adds .ensures) (c .before .before .before .before .before .added .given .1))) }
 
 pub add-record-spec : {M : Type 1} → statement M
 add-record-spec =

@@ -1,11 +1,9 @@
+use mathlib.Core.Path.{_∙_}
+use Rattle.start.proofs.Laws.Counts.{adds-flip-flop}
+-- `start::reservation::flip_flop` meets its contract: two 32-bit numbers have room in a sum of 64 bits. Assumes nothing.
 use borrow.Author.Needs.{needs}
 use Rattle.start.proofs.reservation.flip_flop.Statement.{statement}
 use Rattle.start.proofs.reservation.flip_flop.Tie as tie
-use Rattle.start.proofs.reservation.flip_flop.Reads as reads
-use Rattle.start.proofs.reservation.flip_flop.Lts as lts
-use Rattle.columns.proofs.wide.Reads as wide-reads
-use Rattle.graph.proofs.inversion_of.Reads as inversion-of-reads
-use Rattle.graph.proofs.pin_of.Reads as pin-of-reads
 
 pin-of-requires : tie.Need-pin-of-requires
 pin-of-requires c κs = search needs
@@ -29,7 +27,7 @@ add-t9 : tie.Need-add-t9
 add-t9 c = search needs
 
 returns : tie.Need-returns
-returns c = search needs
+returns c = adds-flip-flop _ _ _ _ _ (c .before .before .before .wide .ensures ∙ c .before .before .before .before .pin-of .ensures) (c .before .before .wide2 .ensures) (c .wide3 .ensures ∙ c .before .inversion-of .ensures)
 
 pub flip-flop-spec : {M : Type 1} → statement M
 flip-flop-spec =
