@@ -6,9 +6,9 @@ use Prim.Native.Nat.{ℕ, suc, _+_, _*_, _<_, _≤_}
 use lib.ListN.{length, getD, set, drop}
 use Rattle.rules.specs.Lists.{mem}
 use Rattle.rules.specs.Cells.{wordLimit}
-use Rattle.rules.specs.Records.{Group, groups, read, groupAt, wholeAt, groupsOf}
+use Rattle.rules.specs.Records.{Group, groupAt, wholeAt, endpointsOf, groupsOf}
 use Rattle.rules.specs.Reservation.{Activation, activations, codesAt, duplicates, memories, reserved, reservable}
-use Rattle.rules.proofs.Demand.{Ends}
+use Rattle.rules.proofs.Lists.Members.{In}
 use Rattle.rules.proofs.Reservation.Counting.{repeats}
 use Rattle.columns.specs.Fields.{RANKED, TAIL, RECORDS}
 use Rattle.columns.specs.Area.{Room, Frame}
@@ -67,39 +67,39 @@ pub record ChainAt (m head : ℕ) (cs w : List ℕ) : Type 0 where
 pub record Knows (code : ℕ) (cs : List ℕ) (r : Bool) : Type 0 where
   pub is : r ≡ mem code cs
 
--- what the reservation changes: heads, and the tail's numbers of the first e records' indices
+-- what the reservation changes: heads, and the tail's numbers of the first e indices
 pub record Touched (m e : ℕ) (w w′ : List ℕ) : Type 0 where
   pub frame : Frame (RANKED ∷ TAIL ∷ []) m w w′
   pub low : (j : ℕ) → j < RECORDS → getD w′ (16 * m + j) 0 ≡ getD w (16 * m + j) 0
   pub past : (j : ℕ) → 16 * m + RECORDS + 2 * e ≤ j → getD w′ j 0 ≡ getD w j 0
 
-pub record LinkAt (m at p head code : ℕ) (w : List ℕ) : Type 0 where
+pub record LinkAt (m k p head code : ℕ) (w : List ℕ) : Type 0 where
   pub area : Room m w
-  pub room : 16 * m + RECORDS + 2 * at + 2 ≤ length w
-  pub small : at < 65536
+  pub room : 16 * m + RECORDS + 2 * k + 2 ≤ length w
+  pub small : k < 4294967295
   pub pin : p < m
-  pub before : head ≤ at
+  pub before : head ≤ k
   pub fits : code < 262144
 
-pub record Linked (m at p head code : ℕ) (w w′ : List ℕ) : Type 0 where
-  pub is : w′ ≡ set (set (set w (16 * m + (RECORDS + 2 * at)) code) (16 * m + (RECORDS + 2 * at + 1)) head) (RANKED * m + p) (at + 1)
+pub record Linked (m k p head code : ℕ) (w w′ : List ℕ) : Type 0 where
+  pub is : w′ ≡ set (set (set w (16 * m + (RECORDS + 2 * k)) code) (16 * m + (RECORDS + 2 * k + 1)) head) (RANKED * m + p) (k + 1)
 
--- each pin has a chain of its activations among ys, which belong to records before an index
-pub record Chains (m at : ℕ) (ys : List Activation) (w : List ℕ) : Type 0 where
-  pub before : (p : ℕ) → p < m → getD w (RANKED * m + p) 0 ≤ at
+-- each pin has a chain of its activations among ys, all with indices below k
+pub record Chains (m k : ℕ) (ys : List Activation) (w : List ℕ) : Type 0 where
+  pub before : (p : ℕ) → p < m → getD w (RANKED * m + p) 0 ≤ k
   pub chain : (p : ℕ) → p < m → Chain m w (getD w (RANKED * m + p) 0) (codesAt p ys [])
 
-pub record CodeAt (m at p code : ℕ) (ys : List Activation) (w : List ℕ) : Type 0 where
+pub record CodeAt (m k p code : ℕ) (ys : List Activation) (w : List ℕ) : Type 0 where
   pub area : Room m w
-  pub room : 16 * m + RECORDS + 2 * at + 2 ≤ length w
-  pub small : at < 65536
+  pub room : 16 * m + RECORDS + 2 * k + 2 ≤ length w
+  pub small : k < 4294967295
   pub pin : p < m
   pub fits : code < 262144
-  pub chains : Chains m at ys w
+  pub chains : Chains m k ys w
 
-pub record Coded (m at p code : ℕ) (ys : List Activation) (w w′ : List ℕ) (r : ℕ) : Type 0 where
-  pub touched : Touched m (at + 1) w w′
-  pub chains : Chains m (at + 1) (ys ++ (record { pin = p; code = code } ∷ [])) w′
+pub record Coded (m k p code : ℕ) (ys : List Activation) (w w′ : List ℕ) (r : ℕ) : Type 0 where
+  pub touched : Touched m (k + 1) w w′
+  pub chains : Chains m (k + 1) (ys ++ (record { pin = p; code = code } ∷ [])) w′
   pub more : repeats (ys ++ (record { pin = p; code = code } ∷ [])) ≡ repeats ys + r
   pub few : r ≤ 1
 
@@ -110,35 +110,28 @@ pub record Counts (xs : List Group) (count : Count) : Type 0 where
   pub memory : memories xs ≡ count .memories
   pub double : duplicates xs ≡ count .duplicates
 
--- the records before an index are xs
-pub record Before (m at : ℕ) (xs : List Group) (records : List ℕ) : Type 0 where
-  pub upto : at ≤ length records
-  pub rest : List Group
-  pub all : groupsOf records ≡ xs ++ rest
-  pub unread : read (drop at records) ≡ groups rest
-  pub named : (q : ℕ) → Ends q rest → q < m
-
--- what is known when they are counted
-pub record Counting (m at : ℕ) (count : Count) (xs : List Group) (records w : List ℕ) : Type 0 where
-  pub before : Before m at xs records
-  pub chains : Chains m at (activations xs) w
-  pub counts : Counts xs count
-  pub few : count .memories + count .duplicates ≤ at
-
-pub record CountAt (m at : ℕ) (count : Count) (xs : List Group) (records w : List ℕ) : Type 0 where
+-- xs are counted, with indices below k; the record at an index is next
+pub record CountAt (m at k : ℕ) (count : Count) (xs : List Group) (records w : List ℕ) : Type 0 where
   pub area : Room m w
-  pub room : 16 * m + RECORDS + 8 * length records ≤ length w
-  pub short : length records ≤ 65536
-  pub index : at < length records
-  pub now : Counting m at count xs records w
+  pub room : 16 * m + RECORDS + 2 * k + 2 ≤ length w
+  pub small : k < 4294967295
+  pub whole : wholeAt (drop at records) ≡ true
+  pub named : (q : ℕ) → In q (endpointsOf (groupAt (drop at records))) → q < m
+  pub chains : Chains m k (activations xs) w
+  pub counts : Counts xs count
+  pub few : count .memories + count .duplicates ≤ k
 
-pub record Counted (m at : ℕ) (xs : List Group) (records w w′ : List ℕ) (r : Count) : Type 0 where
-  pub touched : Touched m (at + 1) w w′
-  pub chains : Chains m (at + 1) (activations (xs ++ (groupAt (drop at records) ∷ []))) w′
+pub record Counted (m at k : ℕ) (xs : List Group) (records w w′ : List ℕ) (r : Count) : Type 0 where
+  pub touched : Touched m (k + 1) w w′
+  pub chains : Chains m (k + 1) (activations (xs ++ (groupAt (drop at records) ∷ []))) w′
   pub counts : Counts (xs ++ (groupAt (drop at records) ∷ [])) r
-  pub few : r .memories + r .duplicates ≤ at + 1
+  pub few : r .memories + r .duplicates ≤ k + 1
 
 -- ---- the limits
+
+-- so few that nothing wraps
+pub record Few (count : Count) : Type 0 where
+  pub few : count .memories + count .duplicates ≤ 4294967295
 
 pub record SetAside (count : Count) (r : ℕ) : Type 0 where
   pub is : (xs : List Group) → Counts xs count → r ≡ reserved xs

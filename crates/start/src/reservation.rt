@@ -1,6 +1,6 @@
-// The reservation, record after record. Each pin has a chain of its distinct activations: RANKED has one more than the index of the
-// newest one's record, 0 for none; the tail has, from RECORDS on, two numbers for a record's index: its activation, and one more than
-// the index of the next record in the chain. Counting stops once a limit is passed, so no chain grows longer than the limit and one.
+// The reservation, record after record. Each pin has a chain of its distinct activations: RANKED has one more than the newest one's
+// index, 0 for none; the tail has, from RECORDS on, two numbers an index: the activation, and one more than the next one's index. A
+// record's index is where it stands. Counting stops once a limit is passed, so no chain grows longer than the limit and one.
 use columns::RANKED;
 use columns::RECORDS;
 use columns::get;
@@ -14,11 +14,10 @@ use graph::inversion_of;
 use graph::kind_of;
 use graph::pin_of;
 use graph::size_at;
-ghost use Prim.Native.Nat.{_+_, _≤_};
 ghost use lib.ListN.{drop};
 ghost use Rattle.rules.specs.Records as rules;
 ghost use Rattle.rules.specs.Records.{flipFlop, groupAt};
-ghost use Rattle.start.specs.Reservation.{Some, Every, WholeAt, AddsGroup, ChainAt, Knows, LinkAt, Linked, CodeAt, Coded, CountAt, Counted, Judged, SetAside, ReserveAt, Reserved};
+ghost use Rattle.start.specs.Reservation.{Some, Every, WholeAt, AddsGroup, ChainAt, Knows, LinkAt, Linked, CodeAt, Coded, CountAt, Counted, Few, Judged, SetAside, ReserveAt, Reserved};
 
 // What a record adds: a memory, or an activation at a pin.
 pub enum Added {
@@ -83,36 +82,43 @@ fn has_code(work: &[u32], m: usize, head: usize, code: usize) -> bool
     false
 }
 
-// The activation of the record at an index goes before pin p's chain from `head`.
-fn link(work: &mut [u32], m: usize, at: usize, p: usize, head: usize, code: usize)
-    requires { ⌜ LinkAt m at p head code (now work) ⌝ }
-    ensures { λ _. ⌜ Linked m at p head code (now (work .entry)) (now (work .exit)) ⌝ }
+// An activation with index k goes before pin p's chain from `head`. It fits: a literal of one of the m pins is below 131,072.
+fn link(work: &mut [u32], m: usize, k: usize, p: usize, head: usize, code: usize)
+    requires { ⌜ LinkAt m k p head code (now work) ⌝ }
+    ensures { λ _. ⌜ Linked m k p head code (now (work .entry)) (now (work .exit)) ⌝ }
 {
-    tail_set(work, m, RECORDS + 2 * at, code as u32);
-    tail_set(work, m, RECORDS + 2 * at + 1, head as u32);
-    push(work, m, p, RANKED, at + 1);
+    tail_set(work, m, RECORDS + 2 * k, code as u32);
+    tail_set(work, m, RECORDS + 2 * k + 1, head as u32);
+    push(work, m, p, RANKED, k + 1);
 }
 
-// The activation of the record at an index, at pin p. Returns how many duplicates it adds.
-fn add_code(work: &mut [u32], m: usize, at: usize, p: usize, code: usize) -> usize
-    requires { ⌜ Some (λ ys. CodeAt m at p code ys (now work)) ⌝ }
-    ensures { λ r. ⌜ Every (λ ys. CodeAt m at p code ys (now (work .entry))) (λ ys. Coded m at p code ys (now (work .entry)) (now (work .exit)) r) ⌝ }
+// An activation at pin p, with index k. Returns how many duplicates it adds.
+fn add_code(work: &mut [u32], m: usize, k: usize, p: usize, code: usize) -> usize
+    requires { ⌜ Some (λ ys. CodeAt m k p code ys (now work)) ⌝ }
+    ensures { λ r. ⌜ Every (λ ys. CodeAt m k p code ys (now (work .entry))) (λ ys. Coded m k p code ys (now (work .entry)) (now (work .exit)) r) ⌝ }
 {
     let head = get(work, m, p, RANKED);
     if has_code(work, m, head, code) {
         return 0;
     }
-    link(work, m, at, p, head, code);
+    link(work, m, k, p, head, code);
     if head == 0 {
         return 0;
     }
     1
 }
 
-// The record at an index.
-fn add_record(records: &[u32], work: &mut [u32], m: usize, at: usize, count: Count) -> Count
-    requires { ⌜ Some (λ xs. CountAt m at count xs (now records) (now work)) ⌝ }
-    ensures { λ r. ⌜ Every (λ xs. CountAt m at count xs (now (records .entry)) (now (work .entry))) (λ xs. Counted m at xs (now (records .entry)) (now (work .entry)) (now (work .exit)) r) ⌝ }
+// The record that stands at `at`, with index k.
+pub fn add_record(
+    records: &[u32],
+    work: &mut [u32],
+    m: usize,
+    at: usize,
+    k: usize,
+    count: Count,
+) -> Count
+    requires { ⌜ Some (λ xs. CountAt m at k count xs (now records) (now work)) ⌝ }
+    ensures { λ r. ⌜ Every (λ xs. CountAt m at k count xs (now (records .entry)) (now (work .entry))) (λ xs. Counted m at k xs (now (records .entry)) (now (work .entry)) (now (work .exit)) r) ⌝ }
 {
     let memories = count.memories;
     let duplicates = count.duplicates;
@@ -123,7 +129,7 @@ fn add_record(records: &[u32], work: &mut [u32], m: usize, at: usize, count: Cou
             duplicates: duplicates,
         },
         Added::Code(pin, code) => {
-            let more = add_code(work, m, at, pin, code);
+            let more = add_code(work, m, k, pin, code);
             Count {
                 memories: memories,
                 duplicates: duplicates + more,
@@ -133,8 +139,8 @@ fn add_record(records: &[u32], work: &mut [u32], m: usize, at: usize, count: Cou
 }
 
 // The words set aside for so many.
-fn set_aside(count: Count) -> usize
-    requires { ⌜ count .memories + count .duplicates ≤ 65536 ⌝ }
+pub fn set_aside(count: Count) -> usize
+    requires { ⌜ Few count ⌝ }
     ensures { λ r. ⌜ SetAside count r ⌝ }
 {
     let memories = count.memories;
@@ -143,8 +149,8 @@ fn set_aside(count: Count) -> usize
 }
 
 // Do so many pass a limit?
-fn over(count: Count, limit: usize) -> bool
-    requires { ⌜ count .memories + count .duplicates ≤ 65536 ⌝ }
+pub fn over(count: Count, limit: usize) -> bool
+    requires { ⌜ Few count ⌝ }
     ensures { λ r. ⌜ Judged count limit r ⌝ }
 {
     if limit <= set_aside(count) {
@@ -164,7 +170,7 @@ pub fn reserve(records: &[u32], work: &mut [u32], m: usize, limit: usize) -> Res
     };
     let mut at = 0;
     while at < records.len() {
-        count = add_record(records, work, m, at, count);
+        count = add_record(records, work, m, at, at, count);
         if over(count, limit) {
             return Reservation::Over;
         }

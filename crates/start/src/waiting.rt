@@ -17,8 +17,8 @@ fn wait_pin(work: &mut [u32], m: usize, n: usize, p: usize) -> usize
     wait(work, m, n, p)
 }
 
-// The pins of the whole record at an index.
-fn wait_record(records: &[u32], work: &mut [u32], m: usize, n: usize, at: usize) -> usize
+// The pins of the whole record that stands at `at`, behind the n waiting pins. Returns how many wait.
+pub fn wait_record(records: &[u32], work: &mut [u32], m: usize, n: usize, at: usize) -> usize
     requires { ⌜ RecordAt m n at (now records) (now work) ⌝ }
     ensures { λ r. ⌜ RecordWaits m n at (now (records .entry)) (now (work .entry)) (now (work .exit)) r ⌝ }
 {

@@ -86,38 +86,38 @@ touched-then h a b = record {
 
 -- ---- one longer
 
-module _ {m at p head code : ℕ} {w w′ : List ℕ} (A : LinkAt m at p head code w) (L : Linked m at p head code w w′) where
+module _ {m k p head code : ℕ} {w w′ : List ℕ} (A : LinkAt m k p head code w) (L : Linked m k p head code w w′) where
   abbrev w₁ : List ℕ
-  w₁ = set w (16 * m + (RECORDS + 2 * at)) code
+  w₁ = set w (16 * m + (RECORDS + 2 * k)) code
 
   abbrev w₂ : List ℕ
-  w₂ = set w₁ (16 * m + (RECORDS + 2 * at + 1)) head
+  w₂ = set w₁ (16 * m + (RECORDS + 2 * k + 1)) head
 
   -- anywhere but at the three stores
-  elsewhere : (j : ℕ) → (j ≡ 16 * m + (RECORDS + 2 * at) → ⊥) → (j ≡ 16 * m + (RECORDS + 2 * at + 1) → ⊥) → (j ≡ RANKED * m + p → ⊥) → getD w′ j 0 ≡ getD w j 0
-  elsewhere j a b c = rw (L .is) (getD-set-other w₂ (RANKED * m + p) j (at + 1) 0 c ∙ getD-set-other w₁ (16 * m + (RECORDS + 2 * at + 1)) j head 0 b ∙ getD-set-other w (16 * m + (RECORDS + 2 * at)) j code 0 a)
+  elsewhere : (j : ℕ) → (j ≡ 16 * m + (RECORDS + 2 * k) → ⊥) → (j ≡ 16 * m + (RECORDS + 2 * k + 1) → ⊥) → (j ≡ RANKED * m + p → ⊥) → getD w′ j 0 ≡ getD w j 0
+  elsewhere j a b c = rw (L .is) (getD-set-other w₂ (RANKED * m + p) j (k + 1) 0 c ∙ getD-set-other w₁ (16 * m + (RECORDS + 2 * k + 1)) j head 0 b ∙ getD-set-other w (16 * m + (RECORDS + 2 * k)) j code 0 a)
 
-  pub link-head : getD w′ (RANKED * m + p) 0 ≡ at + 1
-  link-head = rw (L .is) (getD-set-same w₂ (RANKED * m + p) (at + 1) 0 (simp length-set (omega (arith, A .room, A .pin))))
+  pub link-head : getD w′ (RANKED * m + p) 0 ≡ k + 1
+  link-head = rw (L .is) (getD-set-same w₂ (RANKED * m + p) (k + 1) 0 (simp length-set (omega (arith, A .room, A .pin))))
 
   pub link-heads : (q : ℕ) → q < m → (q ≡ p → ⊥) → getD w′ (RANKED * m + q) 0 ≡ getD w (RANKED * m + q) 0
   link-heads q h ne = elsewhere (RANKED * m + q) (λ e. omega arith) (λ e. omega arith) (λ e. ne (omega arith))
 
-  pub link-code : codeOf m w′ at ≡ code
-  link-code = rw (L .is) (getD-set-other w₂ (RANKED * m + p) _ (at + 1) 0 (λ e. omega (arith, A .pin)) ∙ getD-set-other w₁ _ _ head 0 (λ e. omega arith) ∙ getD-set-same w _ code 0 (omega (arith, A .room)))
+  pub link-code : codeOf m w′ k ≡ code
+  link-code = rw (L .is) (getD-set-other w₂ (RANKED * m + p) _ (k + 1) 0 (λ e. omega (arith, A .pin)) ∙ getD-set-other w₁ _ _ head 0 (λ e. omega arith) ∙ getD-set-same w _ code 0 (omega (arith, A .room)))
 
-  pub link-next : nextOf m w′ at ≡ head
-  link-next = rw (L .is) (getD-set-other w₂ (RANKED * m + p) _ (at + 1) 0 (λ e. omega (arith, A .pin)) ∙ getD-set-same w₁ _ head 0 (simp length-set (omega (arith, A .room))))
+  pub link-next : nextOf m w′ k ≡ head
+  link-next = rw (L .is) (getD-set-other w₂ (RANKED * m + p) _ (k + 1) 0 (λ e. omega (arith, A .pin)) ∙ getD-set-same w₁ _ head 0 (simp length-set (omega (arith, A .room))))
 
-  pub link-touched : Touched m (at + 1) w w′
+  pub link-touched : Touched m (k + 1) w w′
   link-touched = record {
-    frame = rw (L .is) (frame-then (frame-set-tail (RECORDS + 2 * at) code refl) (frame-then (frame-set-tail (RECORDS + 2 * at + 1) head refl) (frame-set RANKED p (at + 1) (A .pin) (omega arith) refl)));
+    frame = rw (L .is) (frame-then (frame-set-tail (RECORDS + 2 * k) code refl) (frame-then (frame-set-tail (RECORDS + 2 * k + 1) head refl) (frame-set RANKED p (k + 1) (A .pin) (omega arith) refl)));
     low = λ j h. elsewhere (16 * m + j) (λ e. omega arith) (λ e. omega arith) (λ e. omega (arith, A .pin));
     past = λ j h. elsewhere j (λ e. omega arith) (λ e. omega arith) (λ e. omega (arith, A .pin));
   }
 
   -- chains of records before this one stay
-  pub chain-kept : {h : ℕ} {cs : List ℕ} → Chain m w h cs → h ≤ at → Chain m w′ h cs
+  pub chain-kept : {h : ℕ} {cs : List ℕ} → Chain m w h cs → h ≤ k → Chain m w′ h cs
   chain-kept none b = none
   chain-kept (link {i = i} {cs = cs} a c) b =
       let ec : codeOf m w′ i ≡ codeOf m w i = elsewhere _ (λ e. omega arith) (λ e. omega arith) (λ e. omega (arith, A .pin)) in
@@ -127,5 +127,5 @@ module _ {m at p head code : ℕ} {w w′ : List ℕ} (A : LinkAt m at p head co
   -- and the activation stands behind those of its pin
   pub chain-longer : {cs : List ℕ} → Chain m w head cs → Chain m w′ (getD w′ (RANKED * m + p) 0) (cs ++ (code ∷ []))
   chain-longer {cs} c =
-      let s : at + 1 ≡ suc at = omega arith in
-      rw (link-head, s, ← link-code) (link {i = at} {cs = cs} (omega (arith, link-next, A .before)) (rw link-next (chain-kept c (A .before))))
+      let s : k + 1 ≡ suc k = omega arith in
+      rw (link-head, s, ← link-code) (link {i = k} {cs = cs} (omega (arith, link-next, A .before)) (rw link-next (chain-kept c (A .before))))

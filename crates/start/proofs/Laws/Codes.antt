@@ -47,7 +47,7 @@ some-length c (x ∷ cs) i = omega arith
 
 -- ---- at pin p
 
-module _ {m at p code : ℕ} {ys : List Activation} {w : List ℕ} (A : CodeAt m at p code ys w) where
+module _ {m k p code : ℕ} {ys : List Activation} {w : List ℕ} (A : CodeAt m k p code ys w) where
   abbrev a : Activation
   a = record { pin = p; code = code }
 
@@ -57,13 +57,13 @@ module _ {m at p code : ℕ} {ys : List Activation} {w : List ℕ} (A : CodeAt m
   pub head-at : (head : ℕ) → head ≡ getD w (RANKED * m + p) 0 → ChainAt m head codes w
   head-at head e = record { room = omega (arith, A .room, A .chains .before p (A .pin)); chain = rw e (A .chains .chain p (A .pin)) }
 
-  pub link-at : (head : ℕ) → head ≡ getD w (RANKED * m + p) 0 → LinkAt m at p head code w
+  pub link-at : (head : ℕ) → head ≡ getD w (RANKED * m + p) 0 → LinkAt m k p head code w
   link-at head e = record { area = A .area; room = A .room; small = A .small; pin = A .pin; before = rw e (A .chains .before p (A .pin)); fits = A .fits }
 
   others : (q : ℕ) → (q ≡ p → ⊥) → codesAt q (ys ++ (a ∷ [])) [] ≡ codesAt q ys []
   others q ne = codes-other a q ys [] (ne-eqb p q (λ e. ne (sym e)))
 
-  pub coded-old : In code codes → Coded m at p code ys w w 0
+  pub coded-old : In code codes → Coded m k p code ys w w 0
   coded-old i = record {
     touched = touched-none;
     chains = record { before = λ q h. omega (arith, A .chains .before q h); chain = λ q h. one q h (ℕ-discrete q p) };
@@ -75,14 +75,14 @@ module _ {m at p code : ℕ} {ys : List Activation} {w : List ℕ} (A : CodeAt m
       one q h (yes e) = rw (e, codes-same a p ys [] refl, insert-old code codes i) (A .chains .chain p (A .pin))
       one q h (no ne) = rw (others q ne) (A .chains .chain q h)
 
-  module _ (head : ℕ) (e : head ≡ getD w (RANKED * m + p) 0) (o : Out code codes) {w′ : List ℕ} (L : Linked m at p head code w w′) where
-    B : LinkAt m at p head code w
+  module _ (head : ℕ) (e : head ≡ getD w (RANKED * m + p) 0) (o : Out code codes) {w′ : List ℕ} (L : Linked m k p head code w w′) where
+    B : LinkAt m k p head code w
     B = link-at head e
 
-    linked-chains : Chains m (at + 1) (ys ++ (a ∷ [])) w′
+    linked-chains : Chains m (k + 1) (ys ++ (a ∷ [])) w′
     linked-chains = record { before = λ q h. low q h (ℕ-discrete q p); chain = λ q h. one q h (ℕ-discrete q p) }
       where
-        low : (q : ℕ) → q < m → Dec (q ≡ p) → getD w′ (RANKED * m + q) 0 ≤ at + 1
+        low : (q : ℕ) → q < m → Dec (q ≡ p) → getD w′ (RANKED * m + q) 0 ≤ k + 1
         low q h (yes d) = rw (d, link-head B L) (omega arith)
         low q h (no ne) = rw (link-heads B L q h ne) (omega (arith, A .chains .before q h))
 
@@ -90,7 +90,7 @@ module _ {m at p code : ℕ} {ys : List Activation} {w : List ℕ} (A : CodeAt m
         one q h (yes d) = rw (d, codes-same a p ys [] refl, insert-new code codes o) (chain-longer B L (head-at head e .chain))
         one q h (no ne) = rw (others q ne, link-heads B L q h ne) (chain-kept B L (A .chains .chain q h) (A .chains .before q h))
 
-    pub coded-first : head ≡ 0 → Coded m at p code ys w w′ 0
+    pub coded-first : head ≡ 0 → Coded m k p code ys w w′ 0
     coded-first z = record {
       touched = link-touched B L;
       chains = linked-chains;
@@ -98,7 +98,7 @@ module _ {m at p code : ℕ} {ys : List Activation} {w : List ℕ} (A : CodeAt m
       few = omega arith;
     }
 
-    pub coded-more : (head ≡ 0 → ⊥) → Coded m at p code ys w w′ 1
+    pub coded-more : (head ≡ 0 → ⊥) → Coded m k p code ys w w′ 1
     coded-more ne =
         let i = chain-some (head-at head e .chain) ne in
         record {

@@ -14,14 +14,12 @@ use Rattle.rules.specs.Graph.{pinOf, inversionOf}
 use Rattle.rules.specs.Records.{Group, output, flipFlop, memory, stagedPin, sizeOf, groupAt, endpointsOf}
 use Rattle.rules.specs.Reservation.{Activation, activations, duplicates, memories, reserved, reservable}
 use Rattle.rules.proofs.Lists.Members.{In, in-here, in-there}
-use Rattle.rules.proofs.Demand.{first}
 use Rattle.rules.proofs.Reservation.Counting.{repeats, memories-snoc, duplicates-repeats, activations-append}
 use Rattle.graph.specs.declared.records.Kind.{Kind}
 use Rattle.graph.specs.declared.records.Kind.the-variants as kinds
 use Rattle.graph.specs.declared.records.Kind.the-variants.{Output, FlipFlop, StagedPin, Unknown}
 use Rattle.graph.specs.Values.{numberOf, known, sizeAt}
 use Rattle.graph.proofs.Laws.Reading.{Stands, standing, known-is}
-use Rattle.graph.proofs.Laws.Passed.{Next, read-next}
 use Rattle.start.specs.declared.reservation.Added.{Added}
 use Rattle.start.specs.declared.reservation.Added.the-variants.{Memory, Code}
 use Rattle.start.specs.declared.reservation.Count.{Count}
@@ -122,52 +120,46 @@ module _ (m : ℕ) (small : m ≤ 65536) (p c : ℕ) where
 
 -- ---- one record more
 
-module _ {m at : ℕ} {count : Count} {xs : List Group} {records w : List ℕ} (A : CountAt m at count xs records w) where
+module _ {m at k : ℕ} {count : Count} {xs : List Group} {records w : List ℕ} (A : CountAt m at k count xs records w) where
   abbrev g : Group
   g = groupAt (drop at records)
 
-  next : Next records at (A .now .before .rest)
-  next = read-next records at (A .now .before .rest) (A .now .before .unread) (A .index)
-
   pub count-whole : WholeAt at records
-  count-whole = record { whole = next .whole }
+  count-whole = record { whole = A .whole }
 
-  g-named : (q : ℕ) → In q (endpointsOf g) → q < m
-  g-named q i = A .now .before .named q (rw (next .these) (first i))
-
-  pub counted-memory : {r : Added} → AddsGroup g r → r ≡ Memory → Counted m at xs records w w (record { memories = count .memories + 1; duplicates = count .duplicates })
+  pub counted-memory : {r : Added} → AddsGroup g r → r ≡ Memory → Counted m at k xs records w w (record { memories = count .memories + 1; duplicates = count .duplicates })
   unfolding codesOf memoriesOf
   counted-memory B₀ er =
       let B : AddsGroup g Memory = rw er at B₀ in
       let e : activations (xs ++ (g ∷ [])) ≡ activations xs = activations-append xs (g ∷ []) ∙ ap (λ (l : List Activation). activations xs ++ l) (B .codes) ∙ append-nil (activations xs) in
       record {
         touched = touched-none;
-        chains = rw e (record { before = λ p h. omega (arith, A .now .chains .before p h); chain = A .now .chains .chain });
+        chains = rw e (record { before = λ p h. omega (arith, A .chains .before p h); chain = A .chains .chain });
         counts = record {
-          memory = omega (arith, memories-snoc xs g, B .memory, A .now .counts .memory);
-          double = duplicates-repeats (xs ++ (g ∷ [])) ∙ ap repeats e ∙ sym (duplicates-repeats xs) ∙ A .now .counts .double;
+          memory = omega (arith, memories-snoc xs g, B .memory, A .counts .memory);
+          double = duplicates-repeats (xs ++ (g ∷ [])) ∙ ap repeats e ∙ sym (duplicates-repeats xs) ∙ A .counts .double;
         };
-        few = omega (arith, A .now .few);
+        few = omega (arith, A .few);
       }
 
   module _ {p c : ℕ} {s : Added} (B₀ : AddsGroup g s) (es : s ≡ Code p c) where
     B : AddsGroup g (Code p c)
     B = rw es at B₀
 
-    pub count-code : CodeAt m at p c (activations xs) w
+    pub count-code : CodeAt m k p c (activations xs) w
     unfolding codesOf
     count-code =
-        let n = code-named m (A .area .small) p c g g-named (B .codes) in
+        let n = code-named m (A .area .small) p c g (A .named) (B .codes) in
         record {
           area = A .area;
-          room = omega (arith, A .room, A .index);
-          small = omega (arith, A .short, A .index);
+          room = A .room;
+          small = A .small;
           pin = n .0;
           fits = n .1;
-          chains = A .now .chains;
+          chains = A .chains;
         }
 
-    pub counted-code : {w′ : List ℕ} {r : ℕ} → Coded m at p c (activations xs) w w′ r → Counted m at xs records w w′ (record { memories = count .memories; duplicates = count .duplicates + r })
+    pub counted-code : {w′ : List ℕ} {r : ℕ} → Coded m k p c (activations xs) w w′ r → Counted m at k xs records w w′ (record { memories = count .memories; duplicates = count .duplicates + r })
     unfolding codesOf memoriesOf
     counted-code {w′} {r} C =
         let e : activations (xs ++ (g ∷ [])) ≡ activations xs ++ (record { pin = p; code = c } ∷ []) = activations-append xs (g ∷ []) ∙ ap (λ (l : List Activation). activations xs ++ l) (B .codes) in
@@ -175,10 +167,10 @@ module _ {m at : ℕ} {count : Count} {xs : List Group} {records w : List ℕ} (
           touched = C .touched;
           chains = rw e (C .chains);
           counts = record {
-            memory = omega (arith, memories-snoc xs g, B .memory, A .now .counts .memory);
-            double = duplicates-repeats (xs ++ (g ∷ [])) ∙ ap repeats e ∙ C .more ∙ omega (arith, duplicates-repeats xs, A .now .counts .double);
+            memory = omega (arith, memories-snoc xs g, B .memory, A .counts .memory);
+            double = duplicates-repeats (xs ++ (g ∷ [])) ∙ ap repeats e ∙ C .more ∙ omega (arith, duplicates-repeats xs, A .counts .double);
           };
-          few = omega (arith, A .now .few, C .few);
+          few = omega (arith, A .few, C .few);
         }
 
 -- ---- the limits

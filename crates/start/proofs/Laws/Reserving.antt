@@ -9,10 +9,11 @@ use lib.Dec.{leb, ltb}
 use lib.ListN.{length, getD, drop}
 use lib.Pow.{pow-pos}
 use Rattle.rules.specs.Cells.{wordLimit}
-use Rattle.rules.specs.Records.{Group, groupAt, groupsOf}
+use Rattle.rules.specs.Records.{Group, groups, read, groupAt, groupsOf}
 use Rattle.rules.specs.Lists.{insertAll, distinct}
 use Rattle.rules.specs.Reservation.{activations, codesAt, extraAt, duplicates, memories, reserved, reservable}
 use Rattle.rules.proofs.Lists.Members.{split, and-true, true-false}
+use Rattle.rules.proofs.Demand.{Ends, first}
 use Rattle.rules.proofs.Reservation.Counting.{duplicates-grow, memories-grow}
 use Rattle.graph.specs.Values.{sizeAt}
 use Rattle.graph.proofs.Laws.Reading.{Stands, standing}
@@ -21,7 +22,7 @@ use Rattle.columns.proofs.Area.Frames.{frame-room}
 use Rattle.start.specs.declared.reservation.Count.{Count}
 use Rattle.start.specs.declared.reservation.Reservation.{Reservation}
 use Rattle.start.specs.declared.reservation.Reservation.the-variants.{Over, Words}
-use Rattle.start.specs.Reservation.{Some, Every, none, Touched, Chains, Counting, CountAt, Counted, SetAside, Judged, reservationOf, ReserveAt, Reserved}
+use Rattle.start.specs.Reservation.{Some, Every, none, Touched, Chains, Counts, CountAt, Counted, Few, SetAside, Judged, reservationOf, ReserveAt, Reserved}
 use Rattle.start.proofs.Laws.Chains.{touched-none, touched-then}
 
 -- ---- what the rules say of more records
@@ -54,10 +55,18 @@ module _ (K : ℕ) (xs : List Group) where
 
 -- ---- the records one after the other
 
+-- the records before an index are xs, and counted
 pub record Reserving (m limit at : ℕ) (count : Count) (records w w′ : List ℕ) : Type 0 where
   pub touched : Touched m at w w′
+  pub upto : at ≤ length records
   pub xs : List Group
-  pub now : Counting m at count xs records w′
+  pub rest : List Group
+  pub all : groupsOf records ≡ xs ++ rest
+  pub unread : read (drop at records) ≡ groups rest
+  pub named : (q : ℕ) → Ends q rest → q < m
+  pub chains : Chains m at (activations xs) w′
+  pub counts : Counts xs count
+  pub few : count .memories + count .duplicates ≤ at
   pub fine : (K : ℕ) → limit ≡ wordLimit K → reservable K xs ≡ true
 
 module _ {m limit : ℕ} {records w : List ℕ} (A : ReserveAt m records w) where
@@ -65,29 +74,40 @@ module _ {m limit : ℕ} {records w : List ℕ} (A : ReserveAt m records w) wher
   unfolding activations memories duplicates codesAt extraAt distinct insertAll
   reserving-none = record {
     touched = touched-none;
+    upto = omega arith;
     xs = [];
-    now = record {
-      before = record { upto = omega arith; rest = groupsOf records; all = refl; unread = A .right .readable; named = A .right .named };
-      chains = record { before = λ p h. rw (A .clear .zero p h) (omega arith); chain = λ p h. rw (A .clear .zero p h) none };
-      counts = record { memory = refl; double = refl };
-      few = omega arith;
-    };
+    rest = groupsOf records;
+    all = refl;
+    unread = A .right .readable;
+    named = A .right .named;
+    chains = record { before = λ p h. rw (A .clear .zero p h) (omega arith); chain = λ p h. rw (A .clear .zero p h) none };
+    counts = record { memory = refl; double = refl };
+    few = omega arith;
     fine = λ K e. reservable-none K;
   }
 
   module _ {at : ℕ} {count : Count} {w₁ : List ℕ} (R : Reserving m limit at count records w w₁) where
-    pub reserving-small : count .memories + count .duplicates ≤ 65536
-    reserving-small = omega (arith, R .now .few, R .now .before .upto, A .right .short)
+    pub reserving-small : Few count
+    reserving-small = record { few = omega (arith, R .few, R .upto, A .right .short) }
 
     module _ (h : at < length records) where
-      count-at : CountAt m at count (R .xs) records w₁
-      count-at = record { area = frame-room (R .touched .frame) (A .area); room = omega (arith, R .touched .frame .len, A .room); short = A .right .short; index = h; now = R .now }
+      next : Next records at (R .rest)
+      next = read-next records at (R .rest) (R .unread) h
 
-      pub reserving-at : Some (λ xs. CountAt m at count xs records w₁)
+      count-at : CountAt m at at count (R .xs) records w₁
+      count-at = record {
+        area = frame-room (R .touched .frame) (A .area);
+        room = omega (arith, R .touched .frame .len, A .room);
+        small = omega (arith, A .right .short);
+        whole = next .whole;
+        named = λ q i. R .named q (rw (next .these) (first i));
+        chains = R .chains;
+        counts = R .counts;
+        few = R .few;
+      }
+
+      pub reserving-at : Some (λ xs. CountAt m at at count xs records w₁)
       reserving-at = record { it = R .xs; at = count-at }
-
-      next : Next records at (R .now .before .rest)
-      next = read-next records at (R .now .before .rest) (R .now .before .unread) h
 
       pub reserving-stands : Stands records at
       reserving-stands = standing records at (next .whole)
@@ -96,14 +116,14 @@ module _ {m limit : ℕ} {records w : List ℕ} (A : ReserveAt m records w) wher
       more = R .xs ++ (groupAt (drop at records) ∷ [])
 
       all-more : groupsOf records ≡ more ++ next .rest
-      all-more = R .now .before .all ∙ ap (λ (l : List Group). R .xs ++ l) (next .these) ∙ sym (append-assoc (R .xs) (groupAt (drop at records) ∷ []) (next .rest))
+      all-more = R .all ∙ ap (λ (l : List Group). R .xs ++ l) (next .these) ∙ sym (append-assoc (R .xs) (groupAt (drop at records) ∷ []) (next .rest))
 
-      module _ {w₂ : List ℕ} {c : Count} (E : Every (λ xs. CountAt m at count xs records w₁) (λ xs. Counted m at xs records w₁ w₂ c)) where
-        C : Counted m at (R .xs) records w₁ w₂ c
+      module _ {w₂ : List ℕ} {c : Count} (E : Every (λ xs. CountAt m at at count xs records w₁) (λ xs. Counted m at at xs records w₁ w₂ c)) where
+        C : Counted m at at (R .xs) records w₁ w₂ c
         C = E .all (R .xs) count-at
 
-        pub counted-small : c .memories + c .duplicates ≤ 65536
-        counted-small = omega (arith, C .few, A .right .short)
+        pub counted-small : Few c
+        counted-small = record { few = omega (arith, C .few, A .right .short) }
 
         -- a limit is passed, and stays so
         pub reserving-over : (r : Bool) → Judged c limit r → r ≡ true → Reserved m limit records w w₂ Over
@@ -121,19 +141,15 @@ module _ {m limit : ℕ} {records w : List ℕ} (A : ReserveAt m records w) wher
             let s = reserving-stands in
             record {
               touched = touched-then (omega arith) (R .touched) (touched-then (omega arith) (C .touched) touched-none);
+              upto = omega (arith, s .inside);
               xs = more;
-              now = record {
-                before = record {
-                  upto = omega (arith, s .inside);
-                  rest = next .rest;
-                  all = all-more;
-                  unread = rw (es, s .size) (next .others);
-                  named = rest-below records at (R .now .before .rest) next m (R .now .before .named);
-                };
-                chains = record { before = λ p h. omega (arith, C .chains .before p h); chain = C .chains .chain };
-                counts = C .counts;
-                few = omega (arith, C .few);
-              };
+              rest = next .rest;
+              all = all-more;
+              unread = rw (es, s .size) (next .others);
+              named = rest-below records at (R .rest) next m (R .named);
+              chains = record { before = λ p h. omega (arith, C .chains .before p h); chain = C .chains .chain };
+              counts = C .counts;
+              few = omega (arith, C .few);
               fine = λ K l. is-true (reservable K more) (sym e ∙ J .is K more l (C .counts));
             }
           where
@@ -143,9 +159,9 @@ module _ {m limit : ℕ} {records w : List ℕ} (A : ReserveAt m records w) wher
 
     pub reserving-done : length records ≤ at → (r : ℕ) → SetAside count r → Reserved m limit records w w₁ (Words r)
     reserving-done h r S =
-        let z = read-last records at (R .now .before .rest) (R .now .before .unread) h in
-        let a : groupsOf records ≡ R .xs = R .now .before .all ∙ ap (λ (l : List Group). R .xs ++ l) z ∙ append-nil (R .xs) in
+        let z = read-last records at (R .rest) (R .unread) h in
+        let a : groupsOf records ≡ R .xs = R .all ∙ ap (λ (l : List Group). R .xs ++ l) z ∙ append-nil (R .xs) in
         record {
-          touched = touched-then (R .now .before .upto) (R .touched) touched-none;
-          answer = λ K l. rw a (reservation-words K (R .xs) r (R .fine K l) (S .is (R .xs) (R .now .counts)));
+          touched = touched-then (R .upto) (R .touched) touched-none;
+          answer = λ K l. rw a (reservation-words K (R .xs) r (R .fine K l) (S .is (R .xs) (R .counts)));
         }

@@ -11,8 +11,8 @@ adds-requires c κs = count-whole (c .before .before .pre .at)
 enum-told : tie.Need-enum-told
 enum-told c = search needs
 
-add-t13 : tie.Need-add-t13
-add-t13 c = search needs
+add-t14 : tie.Need-add-t14
+add-t14 c = search needs
 
 enum-known-added : tie.Need-enum-known-added
 enum-known-added c = search needs
@@ -20,8 +20,8 @@ enum-known-added c = search needs
 add-code-requires : tie.Need-add-code-requires
 add-code-requires c κs = record { it = _; at = count-code (c .before .before .before .before .before .before .before .pre .at) (c .before .before .before .before .adds .ensures) (c .before .before .added .given .1) }
 
-add-t16 : tie.Need-add-t16
-add-t16 c = let A = c .before .before .before .before .before .before .before .before .before .before .pre .at in omega (arith, A .now .few, A .index, A .short, c .before .before .add-code .ensures .all _ (count-code A (c .before .before .before .before .before .before .before .adds .ensures) (c .before .before .before .before .before .added .given .1)) .few)
+add-t17 : tie.Need-add-t17
+add-t17 c = let A = c .before .before .before .before .before .before .before .before .before .before .pre .at in omega (arith, A .few, A .small, c .before .before .add-code .ensures .all _ (count-code A (c .before .before .before .before .before .before .before .adds .ensures) (c .before .before .before .before .before .added .given .1)) .few)
 
 returns : tie.Need-returns
 returns c = record { all = λ xs A. counted-memory A (c .before .before .adds .ensures) (c .enum-told .given .1) }
@@ -38,10 +38,10 @@ add-record-spec =
     (tie.spec
     adds-requires
     enum-told
-    add-t13
+    add-t14
     enum-known-added
     add-code-requires
-    add-t16
+    add-t17
     returns
     same-length
     returns-2)
