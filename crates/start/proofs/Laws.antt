@@ -4,3 +4,5 @@ pub mod Chains
 pub mod Codes
 pub mod Counts
 pub mod Reserving
+pub mod Opening
+pub mod First

@@ -7,8 +7,8 @@ use lib.ListN.{length, getD}
 use Rattle.rules.specs.Cells.{wordLimit}
 use Rattle.rules.specs.Records.{waitingOf, groupsOf}
 use Rattle.rules.proofs.Lists.Members.{In}
-use Rattle.columns.specs.Fields.{DONE, WAITING, RANKED, PLACE, RECORDS}
-use Rattle.columns.specs.Area.{Room, among}
+use Rattle.columns.specs.Fields.{DONE, WAITING, RANKED, PLACE, TAIL, RECORDS}
+use Rattle.columns.specs.Area.{Room, Frame, among}
 use Rattle.columns.specs.Lists.{Marks, Clear, Placed}
 use Rattle.start.specs.declared.Opening.{Opening}
 use Rattle.start.specs.declared.Opening.the-variants.{Over, Ready}
@@ -29,16 +29,20 @@ unfoldable pub reservationFor : Opening → Reservation
 reservationFor Over = reservation.Over
 reservationFor (Ready words n) = reservation.Words words
 
--- what the first stage starts from, with n pins waiting: the columns but these and RANKED, which a stage fills anew, are still 0
+-- what changes: these columns, and in the tail the numbers that serve the records
+abbrev pub opened : List ℕ
+opened = DONE ∷ WAITING ∷ RANKED ∷ PLACE ∷ TAIL ∷ []
+
+-- what the first stage starts from, with n pins waiting. Of RANKED, which a stage fills anew, nothing is said; the other columns are 0
 pub record First (m n : ℕ) (given records w : List ℕ) : Type 0 where
   pub area : Room m w
   pub done : Marks DONE m given w
   pub waiting : Placed WAITING PLACE m n (waitingOf (groupsOf records) []) w
-  pub clear : (f : ℕ) → f < 16 → among (DONE ∷ WAITING ∷ RANKED ∷ PLACE ∷ []) f ≡ false → Clear f m w
+  pub clear : (f : ℕ) → among opened f ≡ false → f < 16 → Clear f m w
   pub zeros : (j : ℕ) → j < RECORDS → getD w (16 * m + j) 0 ≡ 0
 
 pub record Begins (m limit : ℕ) (given records w : List ℕ) (r : Opening) (w′ : List ℕ) : Type 0 where
-  pub len : length w′ ≡ length w
+  pub frame : Frame opened m w w′
   pub past : (j : ℕ) → 16 * m + RECORDS + 8 * length records ≤ j → getD w′ j 0 ≡ getD w j 0
   pub answer : (K : ℕ) → limit ≡ wordLimit K → reservationFor r ≡ reservationOf K (groupsOf records)
   pub first : (words n : ℕ) → r ≡ Ready words n → First m n given records w′

@@ -1,0 +1,101 @@
+-- For the placer: from passed checks and a cleared area to `begin`, and from there to the first stage's context. Assumes nothing.
+use mathlib.Core.Path.{_≡_, refl, sym, ap, _∙_}
+use mathlib.Core.Bool.{Bool, true, _&&_}
+use mathlib.Core.List.{List, [], _∷_}
+use Prim.Native.Nat.{ℕ, _+_, _*_, _<_, _≤_}
+use native.Mathlib.Omega.{arith}
+use borrow.Author.Tests.{leb-true}
+use lib.Dec.{leb}
+use lib.ListN.{length, getD, replicate}
+use Rattle.rules.specs.Lists.{laidOver}
+use Rattle.rules.specs.Cells.{isHeight, wordLimit, rooms}
+use Rattle.rules.specs.Graph.{graphOf, pinCount}
+use Rattle.rules.specs.Records.{waitingOf, groupsOf}
+use Rattle.rules.specs.Checks.{planSized, workSize, areasSized, refusalOf}
+use Rattle.rules.specs.Traversal.{setting}
+use Rattle.rules.proofs.Lists.Members.{and-true}
+use Rattle.rules.proofs.Demand.{graph}
+use Rattle.rules.proofs.Stage.Depth.{Ready}
+use Rattle.graph.proofs.Laws.Passed.{Passed, passed}
+use Rattle.columns.specs.Fields.{LEVEL, CELLS, STARTS, ENDS, REVERSE, LISTED, MARK, SPARE}
+use Rattle.columns.specs.Lists.{Clear}
+use Rattle.columns.proofs.Area.Lent.{length-laid, at-laid}
+use Rattle.columns.proofs.Lists.Entries.{holds-below}
+use Rattle.walk.specs.Stands.{Context, Begun}
+use Rattle.walk.specs.Prepared.{Fresh}
+use Rattle.walk.proofs.Contexts.{context}
+use Rattle.start.specs.Waiting.{Readable}
+use Rattle.start.specs.Opening.{BeginAt, First}
+
+-- ---- before `begin`
+
+module _ {K : ℕ} {sized : Bool} {gates given records : List ℕ} (P : Passed K sized gates given records) where
+  pub readable : Readable (pinCount gates) records
+  readable = record { short = P .short; readable = P .readable; named = P .named }
+
+  -- the area was v, and its first numbers were cleared
+  pub begin-at : (v : List ℕ) {w : List ℕ} → workSize gates records ≤ length v → w ≡ laidOver (replicate (workSize gates records) 0) v → BeginAt (pinCount gates) given records w
+  unfolding workSize
+  begin-at v {w} h e =
+      let l : length w ≡ length v = ap length e ∙ length-laid (workSize gates records) 0 v h in
+      record {
+        area = record { small = P .few; room = omega arith };
+        room = omega arith;
+        zeros = λ j k. rw e (at-laid (workSize gates records) 0 v j (omega arith));
+        right = readable;
+        given-named = P .given-named;
+      }
+
+-- areas of a right size have room for it
+work-sized : (K need plan words counts work : ℕ) → areasSized K need plan words counts work ≡ true → need ≤ work
+unfolding areasSized
+work-sized K need plan words counts work e = leb-true need work (and-true (planSized K plan && leb (wordLimit K) words && leb (rooms K plan) counts) (leb need work) e .1)
+
+-- what `graph::check` answers, and what `columns::clear` leaves
+pub checked-begin : (K : ℕ) (gates given records : List ℕ) (plan words counts : ℕ) (v : List ℕ) {w : List ℕ} → refusalOf K (areasSized K (workSize gates records) plan words counts (length v)) gates given records ≡ 0
+    → w ≡ laidOver (replicate (workSize gates records) 0) v → BeginAt (pinCount gates) given records w
+checked-begin K gates given records plan words counts v e ew =
+    let P = passed K (areasSized K (workSize gates records) plan words counts (length v)) gates given records e in
+    begin-at P v (work-sized K (workSize gates records) plan words counts (length v) (P .areas)) ew
+
+-- ---- after it
+
+module _ {K : ℕ} {sized : Bool} {gates given records : List ℕ} (P : Passed K sized gates given records) {n : ℕ} {w : List ℕ} (F : First (pinCount gates) n given records w) where
+  pub first-ready : Ready (graphOf gates) (λ p. p) (waitingOf (groupsOf records) [])
+  first-ready = record { once = F .waiting .once; bounded = λ x i. let h = holds-below (F .waiting .held) x i in (rw (P .pins) h, rw (P .pins) h) }
+
+  pub first-low : 6 ≤ K
+  unfolding isHeight
+  first-low = leb-true 6 K (and-true (leb 6 K) (leb K 13) (P .height) .0)
+
+  pub first-high : K ≤ 13
+  unfolding isHeight
+  first-high = leb-true K 13 (and-true (leb 6 K) (leb K 13) (P .height) .1)
+
+  unfoldable pub firstContext : Context
+  firstContext = context K (graphOf gates) (λ p. p) (graph (graphOf gates) (P .valid)) first-low first-high (rw (P .pins) (P .few)) given (waitingOf (groupsOf records) []) first-ready
+
+  pub first-setting : firstContext .X ≡ setting K (graphOf gates) given (waitingOf (groupsOf records) [])
+  unfolding firstContext context
+  first-setting = refl
+
+  pub first-begun : Begun firstContext (pinCount gates) n gates w
+  unfolding firstContext context setting
+  first-begun = record { base = record { area = F .area; size = P .pins; graph = refl; pair = P .even }; done = F .done; waiting = F .waiting }
+
+  -- nothing is listed, placed or marked
+  pub first-fresh : Fresh (pinCount gates) w
+  first-fresh = record {
+    listed = F .clear LISTED refl (omega arith);
+    levels = F .clear LEVEL refl (omega arith);
+    reverse = F .clear REVERSE refl (omega arith);
+    starts = F .clear STARTS refl (omega arith);
+    ends = F .clear ENDS refl (omega arith);
+    spare = F .clear SPARE refl (omega arith);
+  }
+
+  pub first-cells : Clear CELLS (pinCount gates) w
+  first-cells = F .clear CELLS refl (omega arith)
+
+  pub first-marks : Clear MARK (pinCount gates) w
+  first-marks = F .clear MARK refl (omega arith)
