@@ -48,7 +48,10 @@ fn output(l: Literal) -> Added
 fn flip_flop(enable: Literal, input: Literal) -> Added
     ensures { λ r. ⌜ AddsGroup (flipFlop (enable .0) (input .0)) r ⌝ }
 {
-    Added::Code(wide(pin_of(input).0), 2 * wide(enable.0) + wide(inversion_of(input)))
+    Added::Code(
+        wide(pin_of(input).0),
+        2 * wide(enable.0) + wide(inversion_of(input)),
+    )
 }
 
 // What the whole record at an index adds.
