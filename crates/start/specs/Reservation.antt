@@ -48,7 +48,7 @@ pub record AddsGroup (x : Group) (r : Added) : Type 0 where
 
 -- ---- chains
 
--- the activation of the record at index i, and one more than the index of the next in its pin's chain, 0 for none
+-- the activation with index i, and one more than the index of the next in its pin's chain, 0 for none
 abbrev pub codeOf : ℕ → List ℕ → ℕ → ℕ
 codeOf m w i = getD w (16 * m + (RECORDS + 2 * i)) 0
 

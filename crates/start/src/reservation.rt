@@ -19,7 +19,7 @@ ghost use Rattle.rules.specs.Records as rules;
 ghost use Rattle.rules.specs.Records.{flipFlop, groupAt};
 ghost use Rattle.start.specs.Reservation.{Some, Every, WholeAt, AddsGroup, ChainAt, Knows, LinkAt, Linked, CodeAt, Coded, CountAt, Counted, Few, Judged, SetAside, ReserveAt, Reserved};
 
-// What a record adds: a memory, or an activation at a pin.
+// What a record adds: a memory, or at a pin an activation's number.
 pub enum Added {
     Memory,
     Code(usize, usize),
@@ -60,11 +60,13 @@ fn adds(records: &[u32], at: usize) -> Added
     ensures { λ r. ⌜ AddsGroup (groupAt (drop at (now (records .entry)))) r ⌝ }
 {
     let kind = kind_of(records[at]);
+    let first = records[at + 1];
     match kind {
         Kind::Memory => Added::Memory,
-        Kind::Output => output(Literal(records[at + 1])),
-        Kind::FlipFlop => flip_flop(Literal(records[at + 1]), Literal(records[at + 2])),
-        Kind::StagedPin => Added::Code(wide(records[at + 1]), 2),
+        Kind::Output => output(Literal(first)),
+        Kind::FlipFlop => flip_flop(Literal(first), Literal(records[at + 2])),
+        Kind::StagedPin => Added::Code(wide(first), 2),
+        // A whole record has a known kind.
         Kind::Unknown => Added::Memory,
     }
 }
@@ -85,7 +87,7 @@ fn has_code(work: &[u32], m: usize, head: usize, code: usize) -> bool
     false
 }
 
-// An activation with index k goes before pin p's chain from `head`. It fits: a literal of one of the m pins is below 131,072.
+// An activation with index k goes before pin p's chain from `head`. It fits, since a literal of one of the m pins is below 131,072.
 fn link(work: &mut [u32], m: usize, k: usize, p: usize, head: usize, code: usize)
     requires { ⌜ LinkAt m k p head code (now work) ⌝ }
     ensures { λ _. ⌜ Linked m k p head code (now (work .entry)) (now (work .exit)) ⌝ }

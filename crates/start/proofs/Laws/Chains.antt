@@ -8,8 +8,7 @@ use lib.ListN.{length, getD, set, length-set}
 use lib.Seq.{getD-set-same, getD-set-other}
 use Rattle.rules.specs.Lists.{mem}
 use Rattle.rules.proofs.Lists.Members.{In, in-here, in-append-right}
-use Rattle.columns.specs.Fields.{RANKED, TAIL, RECORDS}
-use Rattle.columns.specs.Area.{Frame}
+use Rattle.columns.specs.Fields.{RANKED, RECORDS}
 use Rattle.columns.proofs.Area.Frames.{frame-none, frame-then, frame-set, frame-set-tail}
 use Rattle.start.specs.Reservation.{Some, Every, codeOf, nextOf, Chain, none, link, ChainAt, Knows, Touched, LinkAt, Linked}
 use Rattle.start.proofs.Laws.Given.{mem-snoc}

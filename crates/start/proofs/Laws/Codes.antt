@@ -1,21 +1,20 @@
 -- One more activation: the chains, and what it adds to the duplicates. Assumes nothing.
-use mathlib.Core.Path.{_≡_, refl, sym, ap, _∙_}
+use mathlib.Core.Path.{_≡_, refl, sym, _∙_}
 use mathlib.Core.Logic.{inl, inr}
-use mathlib.Core.Bool.{Bool, true, false}
 use mathlib.Core.List.{List, [], _∷_, _++_, map}
-use Prim.Native.Nat.{ℕ, suc, _+_, _*_, _<_, _≤_}
+use Prim.Native.Nat.{ℕ, _+_, _*_, _<_, _≤_}
 use native.Mathlib.Omega.{arith}
 use native.Mathlib.Decide.{ℕ-discrete}
 use borrow.Author.Tests.{ne-eqb}
 use lib.Dec.{eqb}
 use lib.ListN.{length, getD}
-use Rattle.rules.specs.Lists.{mem, insert, distinct}
+use Rattle.rules.specs.Lists.{mem, insert}
 use Rattle.rules.specs.Reservation.{Activation, codesAt}
-use Rattle.rules.proofs.Lists.Members.{In, Out, split, true-false, eqb-false, in-cons, in-nil, in-insert, in-insert-old, in-distinct, distinct-in}
-use Rattle.rules.proofs.Reservation.Counting.{codes-same, codes-other, codes-none, pinsMet, repeats, repeats-first, repeats-old, repeats-more}
-use Rattle.columns.specs.Fields.{RANKED, RECORDS}
+use Rattle.rules.proofs.Lists.Members.{In, Out, split, eqb-false, in-cons, in-nil, in-insert, in-insert-old, in-distinct, distinct-in}
+use Rattle.rules.proofs.Reservation.Counting.{codes-same, codes-other, codes-none, pinsMet, repeats-first, repeats-old, repeats-more}
+use Rattle.columns.specs.Fields.{RANKED}
 use Rattle.columns.proofs.Lists.Swap.{insert-old, insert-new}
-use Rattle.start.specs.Reservation.{Some, Every, Chain, ChainAt, Knows, LinkAt, Linked, Chains, CodeAt, Coded}
+use Rattle.start.specs.Reservation.{Chain, ChainAt, LinkAt, Linked, Chains, CodeAt, Coded}
 use Rattle.start.proofs.Laws.Chains.{chain-none, chain-some, touched-none, link-touched, link-head, link-heads, chain-kept, chain-longer}
 
 -- ---- a pin is met if it has an activation

@@ -1,6 +1,6 @@
 -- What a record adds, and the limits. Assumes nothing.
 use mathlib.Core.Path.{_≡_, refl, sym, ap, _∙_}
-use mathlib.Core.Bool.{Bool, true, false, not}
+use mathlib.Core.Bool.{Bool, true, not}
 use mathlib.Core.List.{List, [], _∷_, _++_, append-nil}
 use Prim.Native.Nat.{ℕ, suc, _+_, _*_, _/_, _%_, _<_, _≤_}
 use native.Mathlib.Omega.{arith}
@@ -23,7 +23,7 @@ use Rattle.graph.proofs.Laws.Reading.{Stands, standing, known-is}
 use Rattle.start.specs.declared.reservation.Added.{Added}
 use Rattle.start.specs.declared.reservation.Added.the-variants.{Memory, Code}
 use Rattle.start.specs.declared.reservation.Count.{Count}
-use Rattle.start.specs.Reservation.{codesOf, memoriesOf, WholeAt, AddsGroup, Chains, CodeAt, Coded, Counts, CountAt, Counted, SetAside, Judged}
+use Rattle.start.specs.Reservation.{codesOf, memoriesOf, WholeAt, AddsGroup, CodeAt, Coded, CountAt, Counted, SetAside, Judged}
 use Rattle.start.proofs.Laws.Chains.{touched-none}
 
 -- ---- what a group adds

@@ -1,5 +1,5 @@
 -- The given pins, one after the other. Assumes nothing.
-use mathlib.Core.Path.{_≡_, refl, sym, _∙_}
+use mathlib.Core.Path.{_≡_, refl}
 use mathlib.Core.Logic.{_≢_}
 use mathlib.Core.List.{List, [], _∷_, _++_}
 use Prim.Native.Nat.{ℕ, _+_, _*_, _<_, _≤_}
@@ -10,7 +10,7 @@ use lib.ListN.{length, getD, set, take}
 use lib.Seq.{take-suc, take-all}
 use borrow.Author.Tests.{ne-eqb}
 use Rattle.rules.specs.Lists.{mem}
-use Rattle.rules.proofs.Lists.Members.{In, split, in-getD, in-here, in-append-right}
+use Rattle.rules.proofs.Lists.Members.{split, in-getD, in-here, in-append-right}
 use Rattle.columns.specs.Fields.{DONE}
 use Rattle.columns.specs.Area.{Frame}
 use Rattle.columns.specs.Lists.{Marks}

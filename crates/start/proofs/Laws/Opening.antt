@@ -1,23 +1,21 @@
 -- The reservation, the marks and the waiting list, one after the other. Assumes nothing.
-use mathlib.Core.Path.{_≡_, refl, sym, ap, _∙_}
-use mathlib.Core.Bool.{false}
-use mathlib.Core.List.{List, [], _∷_}
+use mathlib.Core.Path.{_≡_, refl, sym, _∙_}
+use mathlib.Core.List.{List}
 use Prim.Native.Nat.{ℕ, _+_, _*_, _<_, _≤_}
 use native.Mathlib.Omega.{arith}
 use lib.ListN.{length, getD}
-use Rattle.columns.specs.Fields.{DONE, WAITING, RANKED, PLACE, RECORDS}
-use Rattle.columns.specs.Area.{Room, Frame, among}
+use Rattle.columns.specs.Fields.{DONE, RANKED, PLACE, RECORDS}
+use Rattle.columns.specs.Area.{Frame}
 use Rattle.columns.specs.Lists.{Clear}
 use Rattle.columns.proofs.Area.Columns.{inside}
 use Rattle.columns.proofs.Area.Frames.{frame-then, frame-more, frame-room}
 use Rattle.columns.proofs.Lists.Marks.{marks-frame}
-use Rattle.start.specs.declared.Opening.{Opening}
 use Rattle.start.specs.declared.Opening.the-variants.{Over, Ready}
 use Rattle.start.specs.declared.reservation.Reservation.{Reservation}
 use Rattle.start.specs.declared.reservation.Reservation.the-variants as reservation
 use Rattle.start.specs.Given.{GivenAt, Given}
 use Rattle.start.specs.Waiting.{WaitAllAt, AllWait}
-use Rattle.start.specs.Reservation.{reservationOf, ReserveAt, Reserved}
+use Rattle.start.specs.Reservation.{ReserveAt, Reserved}
 use Rattle.start.specs.Opening.{BeginAt, reservationFor, opened, First, Begins}
 
 module _ {m : ℕ} {given records w : List ℕ} (A : BeginAt m given records w) where

@@ -6,7 +6,7 @@ use Prim.Native.Nat.{ℕ, _+_, _-_, _*_, _^_, _<_, _≤_}
 use native.Mathlib.Omega.{arith}
 use borrow.Author.Tests.{lt-ltb, le-leb, ltb-true, leb-true}
 use lib.Dec.{leb, ltb}
-use lib.ListN.{length, getD, drop}
+use lib.ListN.{length, drop}
 use lib.Pow.{pow-pos}
 use Rattle.rules.specs.Cells.{wordLimit}
 use Rattle.rules.specs.Records.{Group, groups, read, groupAt, groupsOf}
@@ -20,7 +20,6 @@ use Rattle.graph.proofs.Laws.Reading.{Stands, standing}
 use Rattle.graph.proofs.Laws.Passed.{Next, read-next, read-last, rest-below}
 use Rattle.columns.proofs.Area.Frames.{frame-room}
 use Rattle.start.specs.declared.reservation.Count.{Count}
-use Rattle.start.specs.declared.reservation.Reservation.{Reservation}
 use Rattle.start.specs.declared.reservation.Reservation.the-variants.{Over, Words}
 use Rattle.start.specs.Reservation.{Some, Every, none, Touched, Chains, Counts, CountAt, Counted, Few, SetAside, Judged, reservationOf, ReserveAt, Reserved}
 use Rattle.start.proofs.Laws.Chains.{touched-none, touched-then}

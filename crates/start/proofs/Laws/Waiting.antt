@@ -1,6 +1,5 @@
 -- The waiting list, pin after pin and record after record. Assumes nothing.
-use mathlib.Core.Path.{_≡_, refl, sym, ap, _∙_}
-use mathlib.Core.Bool.{true, false}
+use mathlib.Core.Path.{_≡_, refl, sym, _∙_}
 use mathlib.Core.List.{List, [], _∷_}
 use Prim.Native.Nat.{ℕ, _+_, _<_, _≤_}
 use native.Mathlib.Omega.{arith}
@@ -8,9 +7,9 @@ use native.Mathlib.Numerals.{add-one}
 use lib.Dec.{ltb}
 use lib.ListN.{length, getD, drop, drop-of-length-le}
 use lib.Seq.{drop-cons}
-use borrow.Author.Tests.{lt-ltb, le-ltb}
+use borrow.Author.Tests.{lt-ltb}
 use Rattle.rules.specs.Lists.{keep, insertAll}
-use Rattle.rules.specs.Records.{Group, groups, sizeOf, read, groupAt, endpointsOf, waitingOf, groupsOf}
+use Rattle.rules.specs.Records.{Group, groups, read, groupAt, endpointsOf, waitingOf, groupsOf}
 use Rattle.rules.proofs.Lists.Members.{split}
 use Rattle.rules.proofs.Demand.{Ends}
 use Rattle.graph.specs.Values.{sizeAt, endpointAt}

@@ -1,5 +1,5 @@
-use Rattle.start.proofs.Laws.Opening.{reserve-at, begins-over, given-at, wait-all-at, begins-ready}
 -- `start::begin` meets its contract: the reservation, the marks and the waiting list, one after the other. Assumes nothing.
+use Rattle.start.proofs.Laws.Opening.{reserve-at, begins-over, given-at, wait-all-at, begins-ready}
 use borrow.Author.Needs.{needs}
 use Rattle.start.proofs.begin.Statement.{statement}
 use Rattle.start.proofs.begin.Tie as tie

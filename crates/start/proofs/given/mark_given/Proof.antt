@@ -1,8 +1,7 @@
-use lib.ListN.{length}
-use native.Mathlib.Omega.{arith}
-use Prim.Native.Nat.{_-_}
-use Rattle.start.proofs.Laws.Given.{Marking, marking-none, given-pin, marking-more, marking-done}
 -- `start::given::mark_given` meets its contract: it marks the pins one after the other. Assumes nothing.
+use Prim.Native.Nat.{_-_}
+use lib.ListN.{length}
+use Rattle.start.proofs.Laws.Given.{Marking, marking-none, given-pin, marking-more, marking-done}
 use borrow.Author.Needs.{needs}
 use Rattle.start.proofs.given.mark_given.Statement.{statement}
 use Rattle.start.proofs.given.mark_given.Tie as tie

@@ -1,7 +1,6 @@
-use mathlib.Core.Path.{sym, _∙_}
-use native.Mathlib.Omega.{arith}
-use Rattle.start.proofs.Laws.Codes.{head-at, link-at, coded-old, coded-first, coded-more}
 -- `start::reservation::add_code` meets its contract: the chain tells whether the activation is new, and its head whether it is the first. Assumes nothing.
+use mathlib.Core.Path.{sym, _∙_}
+use Rattle.start.proofs.Laws.Codes.{head-at, link-at, coded-old, coded-first, coded-more}
 use borrow.Author.Needs.{needs}
 use Rattle.start.proofs.reservation.add_code.Statement.{statement}
 use Rattle.start.proofs.reservation.add_code.Tie as tie

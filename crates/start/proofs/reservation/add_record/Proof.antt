@@ -1,6 +1,6 @@
+-- `start::reservation::add_record` meets its contract: a memory or an activation more. Assumes nothing.
 use native.Mathlib.Omega.{arith}
 use Rattle.start.proofs.Laws.Counts.{count-whole, count-code, counted-memory, counted-code}
--- `start::reservation::add_record` meets its contract: a memory or an activation more. Assumes nothing.
 use borrow.Author.Needs.{needs}
 use Rattle.start.proofs.reservation.add_record.Statement.{statement}
 use Rattle.start.proofs.reservation.add_record.Tie as tie

@@ -1,6 +1,6 @@
+-- `start::reservation::adds` meets its contract, kind by kind. Assumes nothing.
 use native.Mathlib.Omega.{arith}
 use Rattle.start.proofs.Laws.Counts.{record-inside, flip-inside, record-known, record-memory, record-output, record-flip, record-staged}
--- `start::reservation::adds` meets its contract, kind by kind. Assumes nothing.
 use borrow.Author.Needs.{needs}
 use Rattle.start.proofs.reservation.adds.Statement.{statement}
 use Rattle.start.proofs.reservation.adds.Tie as tie
@@ -14,20 +14,20 @@ shared-slice-read-kind-of c = omega (arith, record-inside (c .before .before .pr
 kind-of-requires : tie.Need-kind-of-requires
 kind-of-requires c κs = search needs
 
+add-first : tie.Need-add-first
+add-first c = omega (arith, record-inside (c .before .before .before .pre))
+
+mul-first : tie.Need-mul-first
+mul-first c = omega (arith, record-inside (c .before .before .before .pre))
+
+shared-slice-read-first : tie.Need-shared-slice-read-first
+shared-slice-read-first c = omega (arith, record-inside (c .before .before .before .before .pre))
+
 enum-told : tie.Need-enum-told
 enum-told c = search needs
 
 enum-told-2 : tie.Need-enum-told-2
 enum-told-2 c = search needs
-
-add-t8 : tie.Need-add-t8
-add-t8 c = omega (arith, record-inside (c .before .before .before .before .before .pre))
-
-mul-t9 : tie.Need-mul-t9
-mul-t9 c = omega (arith, record-inside (c .before .before .before .before .before .pre))
-
-shared-slice-read-t11 : tie.Need-shared-slice-read-t11
-shared-slice-read-t11 c = omega (arith, record-inside (c .before .before .before .before .before .before .pre))
 
 output-requires : tie.Need-output-requires
 output-requires c κs = search needs
@@ -36,37 +36,19 @@ enum-told-3 : tie.Need-enum-told-3
 enum-told-3 c = search needs
 
 add-t13 : tie.Need-add-t13
-add-t13 c = omega (arith, record-inside (c .before .before .before .before .before .pre))
+add-t13 c = omega (arith, flip-inside (c .before .before .before .before .before .before .pre) (c .before .before .before .kind-of .ensures) (c .enum-told3 .given .1))
 
 mul-t14 : tie.Need-mul-t14
-mul-t14 c = omega (arith, record-inside (c .before .before .before .before .before .pre))
+mul-t14 c = omega (arith, flip-inside (c .before .before .before .before .before .before .pre) (c .before .before .before .kind-of .ensures) (c .enum-told3 .given .1))
 
 shared-slice-read-t16 : tie.Need-shared-slice-read-t16
-shared-slice-read-t16 c = omega (arith, record-inside (c .before .before .before .before .before .before .pre))
-
-add-t18 : tie.Need-add-t18
-add-t18 c = omega (arith, flip-inside (c .before .before .before .before .before .before .pre) (c .before .before .before .kind-of .ensures) (c .before .enum-told3 .given .1))
-
-mul-t19 : tie.Need-mul-t19
-mul-t19 c = omega (arith, flip-inside (c .before .before .before .before .before .before .pre) (c .before .before .before .kind-of .ensures) (c .before .enum-told3 .given .1))
-
-shared-slice-read-t21 : tie.Need-shared-slice-read-t21
-shared-slice-read-t21 c = omega (arith, flip-inside (c .before .before .before .before .before .before .before .pre) (c .before .before .before .before .kind-of .ensures) (c .before .before .enum-told3 .given .1))
+shared-slice-read-t16 c = omega (arith, flip-inside (c .before .before .before .before .before .before .before .pre) (c .before .before .before .before .kind-of .ensures) (c .before .enum-told3 .given .1))
 
 flip-flop-requires : tie.Need-flip-flop-requires
 flip-flop-requires c κs = search needs
 
 enum-told-4 : tie.Need-enum-told-4
 enum-told-4 c = search needs
-
-add-wide : tie.Need-add-wide
-add-wide c = omega (arith, record-inside (c .before .before .before .before .before .pre))
-
-mul-wide : tie.Need-mul-wide
-mul-wide c = omega (arith, record-inside (c .before .before .before .before .before .pre))
-
-shared-slice-read-wide : tie.Need-shared-slice-read-wide
-shared-slice-read-wide c = omega (arith, record-inside (c .before .before .before .before .before .before .pre))
 
 wide-requires : tie.Need-wide-requires
 wide-requires c κs = search needs
@@ -75,19 +57,19 @@ enum-told-5 : tie.Need-enum-told-5
 enum-told-5 c = search needs
 
 returns : tie.Need-returns
-returns c = record-memory (c .before .before .before .before .before .pre) (c .before .before .kind-of .ensures) (c .enum-told .given .1)
+returns c = record-memory (c .before .before .before .before .before .before .pre) (c .before .before .before .kind-of .ensures) (c .enum-told .given .1)
 
 returns-2 : tie.Need-returns-2
-returns-2 c = record-output (c .before .before .before .before .before .before .before .pre) (c .before .before .before .before .kind-of .ensures) (c .before .before .enum-told2 .given .1) (c .output .ensures)
+returns-2 c = record-output (c .before .before .before .before .before .before .before .pre) (c .before .before .before .before .kind-of .ensures) (c .before .enum-told2 .given .1) (c .output .ensures)
 
 returns-3 : tie.Need-returns-3
-returns-3 c = record-flip (c .before .before .before .before .before .before .before .before .pre) (c .before .before .before .before .before .kind-of .ensures) (c .before .before .before .enum-told3 .given .1) (c .flip-flop .ensures)
+returns-3 c = record-flip (c .before .before .before .before .before .before .before .before .pre) (c .before .before .before .before .before .kind-of .ensures) (c .before .before .enum-told3 .given .1) (c .flip-flop .ensures)
 
 returns-4 : tie.Need-returns-4
-returns-4 c = record-staged (c .before .before .before .before .before .before .before .pre) (c .before .before .before .before .kind-of .ensures) (c .before .before .enum-told4 .given .1) _ (c .wide .ensures)
+returns-4 c = record-staged (c .before .before .before .before .before .before .before .pre) (c .before .before .before .before .kind-of .ensures) (c .before .enum-told4 .given .1) _ (c .wide .ensures)
 
 returns-5 : tie.Need-returns-5
-returns-5 c = record-known (c .before .before .before .before .before .pre) (c .before .before .kind-of .ensures) (c .enum-told5 .given .1)
+returns-5 c = record-known (c .before .before .before .before .before .before .pre) (c .before .before .before .kind-of .ensures) (c .enum-told5 .given .1)
 
 pub adds-spec : {M : Type 1} → statement M
 adds-spec =
@@ -96,24 +78,18 @@ adds-spec =
     mul-kind-of
     shared-slice-read-kind-of
     kind-of-requires
+    add-first
+    mul-first
+    shared-slice-read-first
     enum-told
     enum-told-2
-    add-t8
-    mul-t9
-    shared-slice-read-t11
     output-requires
     enum-told-3
     add-t13
     mul-t14
     shared-slice-read-t16
-    add-t18
-    mul-t19
-    shared-slice-read-t21
     flip-flop-requires
     enum-told-4
-    add-wide
-    mul-wide
-    shared-slice-read-wide
     wide-requires
     enum-told-5
     returns

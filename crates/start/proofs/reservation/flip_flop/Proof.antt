@@ -1,6 +1,6 @@
+-- `start::reservation::flip_flop` meets its contract: two 32-bit numbers have room in a sum of 64 bits. Assumes nothing.
 use mathlib.Core.Path.{_∙_}
 use Rattle.start.proofs.Laws.Counts.{adds-flip-flop}
--- `start::reservation::flip_flop` meets its contract: two 32-bit numbers have room in a sum of 64 bits. Assumes nothing.
 use borrow.Author.Needs.{needs}
 use Rattle.start.proofs.reservation.flip_flop.Statement.{statement}
 use Rattle.start.proofs.reservation.flip_flop.Tie as tie

@@ -1,7 +1,7 @@
+-- `start::reservation::has_code` meets its contract: what it has not walked of the chain decides. Assumes nothing.
 use mathlib.Core.Path.{sym, _∙_}
 use native.Mathlib.Omega.{arith}
 use Rattle.start.proofs.Laws.Chains.{Walking, walking-none, walking-found, walking-more, walking-less, walking-done}
--- `start::reservation::has_code` meets its contract: what it has not walked of the chain decides. Assumes nothing.
 use borrow.Author.Needs.{needs}
 use Rattle.start.proofs.reservation.has_code.Statement.{statement}
 use Rattle.start.proofs.reservation.has_code.Tie as tie

@@ -1,6 +1,6 @@
+-- `start::reservation::output` meets its contract. Assumes nothing.
 use mathlib.Core.Path.{_∙_}
 use Rattle.start.proofs.Laws.Counts.{adds-output}
--- `start::reservation::output` meets its contract. Assumes nothing.
 use borrow.Author.Needs.{needs}
 use Rattle.start.proofs.reservation.output.Statement.{statement}
 use Rattle.start.proofs.reservation.output.Tie as tie

@@ -1,6 +1,6 @@
+-- `start::reservation::over` meets its contract: either limit is passed, or none. Assumes nothing.
 use mathlib.Core.Path.{refl}
 use Rattle.start.proofs.Laws.Counts.{judged-words, judged-rest}
--- `start::reservation::over` meets its contract: either limit is passed, or none. Assumes nothing.
 use borrow.Author.Needs.{needs}
 use Rattle.start.proofs.reservation.over.Statement.{statement}
 use Rattle.start.proofs.reservation.over.Tie as tie

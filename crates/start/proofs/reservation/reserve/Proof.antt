@@ -1,8 +1,10 @@
-use native.Mathlib.Omega.{arith}
-use Prim.Native.Nat.{_-_}
-use lib.ListN.{length}
-use Rattle.start.proofs.Laws.Reserving.{Reserving, reserving-none, reserving-at, reserving-small, reserving-stands, counted-small, reserving-over, reserving-more, reserving-done}
 -- `start::reservation::reserve` meets its contract: the records before an index are counted, and pass no limit. Assumes nothing.
+use Prim.Native.Nat.{_-_}
+use native.Mathlib.Omega.{arith}
+use denote.Ref.{now}
+use lib.ListN.{length}
+use Rattle.graph.proofs.Laws.Reading.{Stands}
+use Rattle.start.proofs.Laws.Reserving.{Reserving, reserving-none, reserving-at, reserving-small, reserving-stands, counted-small, reserving-over, reserving-more, reserving-done}
 use borrow.Author.Needs.{needs}
 use Rattle.start.proofs.reservation.reserve.Statement.{statement}
 use Rattle.start.proofs.reservation.reserve.Tie as tie
@@ -31,14 +33,17 @@ returns c = reserving-over (c .before .before .before .before .before .before .b
 size-at-requires : tie.Need-size-at-requires Inv-loop μ-loop
 size-at-requires c κs = search needs
 
+stands : (c : tie.After-size-at Inv-loop μ-loop) → Stands (now (c .before .before .before .before .before .before .before .before .before .before .before .args .records)) (c .before .before .before .before .before .before .before .before .loop .at)
+stands c = reserving-stands (c .before .before .before .before .before .before .before .before .before .before .before .pre) (c .before .before .before .before .before .before .before .before .loop .inv) (c .before .before .before .before .before .before .before .loop-test .taken)
+
 add-at : tie.Need-add-at Inv-loop μ-loop
-add-at c = omega (arith, c .size-at .ensures, reserving-stands (c .before .before .before .before .before .before .before .before .before .before .before .pre) (c .before .before .before .before .before .before .before .before .loop .inv) (c .before .before .before .before .before .before .before .loop-test .taken) .inside)
+add-at c = omega (arith, c .size-at .ensures, stands c .inside)
 
 add-at-2 : tie.Need-add-at-2 Inv-loop μ-loop
-add-at-2 c = omega (arith, c .size-at .ensures, reserving-stands (c .before .before .before .before .before .before .before .before .before .before .before .pre) (c .before .before .before .before .before .before .before .before .loop .inv) (c .before .before .before .before .before .before .before .loop-test .taken) .inside)
+add-at-2 c = omega (arith, c .size-at .ensures, stands c .inside)
 
 loop-less : tie.Need-loop-less Inv-loop μ-loop
-loop-less c = omega (arith, c .size-at .ensures, reserving-stands (c .before .before .before .before .before .before .before .before .before .before .before .pre) (c .before .before .before .before .before .before .before .before .loop .inv) (c .before .before .before .before .before .before .before .loop-test .taken) .inside)
+loop-less c = omega (arith, c .size-at .ensures, stands c .inside)
 
 loop-again : tie.Need-loop-again Inv-loop μ-loop
 loop-again c = reserving-more (c .before .before .before .before .before .before .before .before .before .before .before .pre) (c .before .before .before .before .before .before .before .before .loop .inv) (c .before .before .before .before .before .before .before .loop-test .taken) (c .before .before .before .before .before .add-record .ensures) _ (c .before .before .over .ensures) (c .before .if1 .left) _ (c .size-at .ensures)

@@ -1,6 +1,6 @@
+-- `start::reservation::set_aside` meets its contract. Assumes nothing.
 use mathlib.Core.Path.{refl}
 use Rattle.start.proofs.Laws.Counts.{aside}
--- `start::reservation::set_aside` meets its contract. Assumes nothing.
 use borrow.Author.Needs.{needs}
 use Rattle.start.proofs.reservation.set_aside.Statement.{statement}
 use Rattle.start.proofs.reservation.set_aside.Tie as tie

@@ -1,8 +1,10 @@
-use native.Mathlib.Omega.{arith}
-use Prim.Native.Nat.{_-_}
-use lib.ListN.{length}
-use Rattle.start.proofs.Laws.Waiting.{Gathering, gathering-none, gathering-at, gathering-stands, gathering-more, gathering-done}
 -- `start::waiting::wait_all` meets its contract: the records before an index wait. Assumes nothing.
+use Prim.Native.Nat.{_-_}
+use native.Mathlib.Omega.{arith}
+use denote.Ref.{now}
+use lib.ListN.{length}
+use Rattle.graph.proofs.Laws.Reading.{Stands}
+use Rattle.start.proofs.Laws.Waiting.{Gathering, gathering-none, gathering-at, gathering-stands, gathering-more, gathering-done}
 use borrow.Author.Needs.{needs}
 use Rattle.start.proofs.waiting.wait_all.Statement.{statement}
 use Rattle.start.proofs.waiting.wait_all.Tie as tie
@@ -22,14 +24,17 @@ wait-record-requires c κs = gathering-at (c .before .before .before .before .be
 size-at-requires : tie.Need-size-at-requires Inv-loop μ-loop
 size-at-requires c κs = search needs
 
+stands : (c : tie.After-size-at Inv-loop μ-loop) → Stands (now (c .before .before .before .before .before .before .before .before .before .args .records)) (c .before .before .before .before .before .before .loop .at)
+stands c = gathering-stands (c .before .before .before .before .before .before .before .before .before .pre) (c .before .before .before .before .before .before .loop .inv) (c .before .before .before .before .before .loop-test .taken)
+
 add-at : tie.Need-add-at Inv-loop μ-loop
-add-at c = omega (arith, c .size-at .ensures, gathering-stands (c .before .before .before .before .before .before .before .before .before .pre) (c .before .before .before .before .before .before .loop .inv) (c .before .before .before .before .before .loop-test .taken) .inside)
+add-at c = omega (arith, c .size-at .ensures, stands c .inside)
 
 add-at-2 : tie.Need-add-at-2 Inv-loop μ-loop
-add-at-2 c = omega (arith, c .size-at .ensures, gathering-stands (c .before .before .before .before .before .before .before .before .before .pre) (c .before .before .before .before .before .before .loop .inv) (c .before .before .before .before .before .loop-test .taken) .inside)
+add-at-2 c = omega (arith, c .size-at .ensures, stands c .inside)
 
 loop-less : tie.Need-loop-less Inv-loop μ-loop
-loop-less c = omega (arith, c .size-at .ensures, gathering-stands (c .before .before .before .before .before .before .before .before .before .pre) (c .before .before .before .before .before .before .loop .inv) (c .before .before .before .before .before .loop-test .taken) .inside)
+loop-less c = omega (arith, c .size-at .ensures, stands c .inside)
 
 loop-again : tie.Need-loop-again Inv-loop μ-loop
 loop-again c = gathering-more (c .before .before .before .before .before .before .before .before .before .pre) (c .before .before .before .before .before .before .loop .inv) (c .before .before .before .before .before .loop-test .taken) (c .before .before .before .wait-record .ensures) _ (c .size-at .ensures)

@@ -1,5 +1,5 @@
-use Rattle.start.proofs.Laws.Waiting.{pin-zero, pin-waits}
 -- `start::waiting::wait_pin` meets its contract: pin 0 is passed over. Assumes nothing.
+use Rattle.start.proofs.Laws.Waiting.{pin-zero, pin-waits}
 use borrow.Author.Needs.{needs}
 use Rattle.start.proofs.waiting.wait_pin.Statement.{statement}
 use Rattle.start.proofs.waiting.wait_pin.Tie as tie

@@ -1,8 +1,7 @@
+-- `start::waiting::wait_record` meets its contract: the record's pins wait one after the other. Assumes nothing.
 use mathlib.Core.Path.{_∙_}
-use native.Mathlib.Omega.{arith}
 use Prim.Native.Nat.{_-_}
 use Rattle.start.proofs.Laws.Waiting.{Listing, listing-none, listing-at, listing-more, listing-done}
--- `start::waiting::wait_record` meets its contract: the record's pins wait one after the other. Assumes nothing.
 use borrow.Author.Needs.{needs}
 use Rattle.start.proofs.waiting.wait_record.Statement.{statement}
 use Rattle.start.proofs.waiting.wait_record.Tie as tie
