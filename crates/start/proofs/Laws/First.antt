@@ -1,6 +1,6 @@
 -- For the placer: from passed checks and a cleared area to `begin`, and from there to the first stage's context. Assumes nothing.
 use mathlib.Core.Path.{_≡_, refl, ap, _∙_}
-use mathlib.Core.Bool.{Bool, true, _&&_}
+use mathlib.Core.Bool.{Bool, true, false, _&&_}
 use mathlib.Core.List.{List, []}
 use Prim.Native.Nat.{ℕ, _≤_}
 use native.Mathlib.Omega.{arith}
@@ -10,12 +10,13 @@ use lib.ListN.{length, replicate}
 use Rattle.rules.specs.Lists.{laidOver}
 use Rattle.rules.specs.Cells.{isHeight, wordLimit, rooms}
 use Rattle.rules.specs.Graph.{graphOf, pinCount}
-use Rattle.rules.specs.Records.{waitingOf, groupsOf}
+use Rattle.rules.specs.Records.{Group, waitingOf, groupsOf}
+use Rattle.rules.specs.Reservation.{reserved, reservable}
 use Rattle.rules.specs.Checks.{planSized, workSize, areasSized, refusalOf}
 use Rattle.rules.specs.Traversal.{setting}
-use Rattle.rules.proofs.Lists.Members.{and-true}
+use Rattle.rules.proofs.Lists.Members.{split, and-true}
 use Rattle.rules.proofs.Demand.{graph}
-use Rattle.rules.proofs.Stage.Depth.{Ready}
+use Rattle.rules.proofs.Stage.Depth as depth
 use Rattle.graph.proofs.Laws.Passed.{Passed, passed}
 use Rattle.columns.specs.Fields.{LEVEL, CELLS, STARTS, ENDS, REVERSE, LISTED, MARK, SPARE}
 use Rattle.columns.specs.Lists.{Clear}
@@ -24,8 +25,12 @@ use Rattle.columns.proofs.Lists.Entries.{holds-below}
 use Rattle.walk.specs.Stands.{Context, Begun}
 use Rattle.walk.specs.Prepared.{Fresh}
 use Rattle.walk.proofs.Contexts.{context}
+use Rattle.start.specs.declared.Opening.{Opening}
+use Rattle.start.specs.declared.Opening.the-variants.{Over, Ready}
+use Rattle.start.specs.declared.reservation.Reservation.the-variants as reservation
 use Rattle.start.specs.Waiting.{Readable}
-use Rattle.start.specs.Opening.{BeginAt, First}
+use Rattle.start.specs.Reservation.{reservationOf}
+use Rattle.start.specs.Opening.{BeginAt, reservationFor, First, Begins}
 
 -- ---- before `begin`
 
@@ -61,7 +66,7 @@ checked-begin K gates given records plan words counts v e ew =
 -- ---- after it
 
 module _ {K : ℕ} {sized : Bool} {gates given records : List ℕ} (P : Passed K sized gates given records) {n : ℕ} {w : List ℕ} (F : First (pinCount gates) n given records w) where
-  pub first-ready : Ready (graphOf gates) (λ p. p) (waitingOf (groupsOf records) [])
+  pub first-ready : depth.Ready (graphOf gates) (λ p. p) (waitingOf (groupsOf records) [])
   first-ready = record { once = F .waiting .once; bounded = λ x i. let h = holds-below (F .waiting .held) x i in (rw (P .pins) h, rw (P .pins) h) }
 
   pub first-low : 6 ≤ K
@@ -99,3 +104,24 @@ module _ {K : ℕ} {sized : Bool} {gates given records : List ℕ} (P : Passed K
 
   pub first-marks : Clear MARK (pinCount gates) w
   first-marks = F .clear MARK refl (omega arith)
+
+-- ---- what the answer says of refusal 6
+
+over-means : (K : ℕ) (xs : List Group) → reservation.Over ≡ reservationOf K xs → reservable K xs ≡ false
+unfolding reservationOf
+over-means K xs e = split (reservable K xs) (λ t. absurd (let d : reservation.Over ≡ reservation.Words (reserved xs) = rw (t, reservationOf) at e in let z : _≡_ {A = ℕ} 0 1 = cc in omega arith)) (λ t. t)
+
+words-mean : (K : ℕ) (xs : List Group) (r : ℕ) → reservation.Words r ≡ reservationOf K xs → (reservable K xs ≡ true) × (r ≡ reserved xs)
+unfolding reservationOf
+words-mean K xs r e = split (reservable K xs)
+    (λ t. let d : reservation.Words r ≡ reservation.Words (reserved xs) = rw (t, reservationOf) at e in (t, cc))
+    (λ t. absurd (let d : reservation.Words r ≡ reservation.Over = rw (t, reservationOf) at e in let z : _≡_ {A = ℕ} 0 1 = cc in omega arith))
+
+module _ {m limit : ℕ} {given records w w′ : List ℕ} {r : Opening} (B : Begins m limit given records w r w′) (K : ℕ) (l : limit ≡ wordLimit K) where
+  pub begins-six : r ≡ Over → reservable K (groupsOf records) ≡ false
+  unfolding reservationFor
+  begins-six e = over-means K (groupsOf records) (rw e at (B .answer K l))
+
+  pub begins-first : {words n : ℕ} → r ≡ Ready words n → (reservable K (groupsOf records) ≡ true) × (words ≡ reserved (groupsOf records)) × First m n given records w′
+  unfolding reservationFor
+  begins-first {words} {n} e = let a = words-mean K (groupsOf records) words (rw e at (B .answer K l)) in (a .0, a .1, B .first words n e)
