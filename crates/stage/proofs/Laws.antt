@@ -2,3 +2,4 @@ pub mod Midway
 pub mod Lasting
 pub mod Ended
 pub mod Finish
+pub mod Stage

@@ -3,6 +3,7 @@ use mathlib.Core.Path.{_≡_}
 use mathlib.Core.List.{List, [], _∷_}
 use Prim.Native.Nat.{ℕ, _+_, _*_, _^_, _<_, _≤_}
 use lib.ListN.{length, getD}
+use Rattle.rules.specs.Cells.{rowAt}
 use Rattle.rules.specs.Lean as lean
 use Rattle.rules.specs.Ending.{Stage?, refused, oneStage}
 use Rattle.columns.specs.Fields.{ORDER, DONE, LEVEL, WAITING, CELLS, RANKED, STARTS, ENDS, REVERSE, NEEDED, LISTED, STACK, PHASE, PLACE, MARK, SPARE, TAIL}
@@ -13,13 +14,14 @@ use Rattle.stage.specs.declared.finish.Outcome.{Outcome}
 use Rattle.stage.specs.Finish.{Changed, Whole}
 
 -- n pins wait; the stage is empty, and so is every column but those of given and realised pins and of the waiting list
-pub record StageAt (C : Context) (m K n at room : ℕ) (gates pl w words : List ℕ) : Type 0 where
+pub record StageAt (C : Context) (m K half n at room : ℕ) (gates pl w words : List ℕ) : Type 0 where
   pub begun : Begun C m n gates w
   pub fresh : Fresh m w
   pub cells : Clear CELLS m w
   pub marks : Clear MARK m w
   pub tail : (j : ℕ) → j < 258 → getD w (16 * m + j) 0 ≡ 0
   pub height : K ≡ C .X .K
+  pub row : half ≡ rowAt K 1
   pub blank : pl ≡ lean.blank (C .X)
   pub fits : at + room ≤ length words
   pub small : length words < 2 ^ 63

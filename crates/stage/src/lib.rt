@@ -1,2 +1,49 @@
 // One stage: rules 1 to 11.
+use finish::finish;
+use lean::filling::fill_tree;
+use walk::forget;
+use walk::prepare;
+ghost use Rattle.walk.specs.Stands.{Some, Every};
+ghost use Rattle.stage.specs.Stage.{StageAt, Staged};
+
 mod finish;
+
+pub use finish::Outcome;
+
+// Builds a stage for n waiting pins in `stage`, which is empty; its words go behind `at`, where there is room for so many. m = N + 1, and
+// level 1 has `half` cells.
+pub fn build_one_stage(
+    gates: &[u32],
+    stage: &mut [u32],
+    work: &mut [u32],
+    words: &mut [u32],
+    m: usize,
+    height: usize,
+    half: usize,
+    n: usize,
+    at: usize,
+    room: usize,
+) -> Outcome
+    requires { ⌜ Some (λ C. StageAt C m height half n at room (now gates) (now stage) (now work) (now words)) ⌝ }
+    ensures { λ r. ⌜ Every (λ C. StageAt C m height half n at room (now (gates .entry)) (now (stage .entry)) (now (work .entry)) (now (words .entry))) (λ C. Staged C m at room (now (stage .entry)) (now (work .entry)) (now (words .entry)) r (now (stage .exit)) (now (work .exit)) (now (words .exit))) ⌝ }
+{
+    let walk = prepare(gates, work, m, n);
+    let listed = walk.listed;
+    let q = fill_tree(gates, stage, work, m, n, listed, walk.top, height, half);
+    let r = finish(
+        gates,
+        stage,
+        work,
+        words,
+        m,
+        height,
+        half,
+        listed,
+        n,
+        q,
+        at,
+        room,
+    );
+    forget(work, m, listed);
+    r
+}

@@ -8,7 +8,7 @@ use lib.ListN.{length, drop}
 use Rattle.rules.specs.Lists.{keep, insertAll}
 use Rattle.rules.specs.Records.{groups, read, groupAt, wholeAt, endpointsOf, waitingOf, groupsOf}
 use Rattle.rules.proofs.Demand.{Ends}
-use Rattle.graph.specs.Values.{sizeAt, endpointAt}
+use Rattle.records.specs.Values.{sizeAt, endpointAt}
 use Rattle.columns.specs.Fields.{WAITING, PLACE}
 use Rattle.columns.specs.Area.{Room, Frame}
 use Rattle.columns.specs.Lists.{list, Clear, Placed}

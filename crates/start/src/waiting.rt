@@ -1,8 +1,8 @@
 // The waiting list: the records' pins in their order.
 use columns::wait;
 use columns::wide;
-use graph::endpoint;
-use graph::size_at;
+use records::endpoint;
+use records::size_at;
 ghost use Rattle.columns.specs.Lists.{WaitAt};
 ghost use Rattle.start.specs.Waiting.{PinWaits, RecordAt, RecordWaits, WaitAllAt, AllWait};
 

@@ -15,11 +15,11 @@ use Rattle.rules.specs.Records.{Group, output, flipFlop, memory, stagedPin, siz
 use Rattle.rules.specs.Reservation.{Activation, activations, duplicates, memories, reserved, reservable}
 use Rattle.rules.proofs.Lists.Members.{In, in-here, in-there}
 use Rattle.rules.proofs.Reservation.Counting.{repeats, memories-snoc, duplicates-repeats, activations-append}
-use Rattle.graph.specs.declared.records.Kind.{Kind}
-use Rattle.graph.specs.declared.records.Kind.the-variants as kinds
-use Rattle.graph.specs.declared.records.Kind.the-variants.{Output, FlipFlop, StagedPin, Unknown}
-use Rattle.graph.specs.Values.{numberOf, known, sizeAt}
-use Rattle.graph.proofs.Laws.Reading.{Stands, standing, known-is}
+use Rattle.records.specs.declared.Kind.{Kind}
+use Rattle.records.specs.declared.Kind.the-variants as kinds
+use Rattle.records.specs.declared.Kind.the-variants.{Output, FlipFlop, StagedPin, Unknown}
+use Rattle.records.specs.Values.{numberOf, known, sizeAt}
+use Rattle.records.proofs.Reading.{Stands, standing, known-is}
 use Rattle.start.specs.declared.reservation.Added.{Added}
 use Rattle.start.specs.declared.reservation.Added.the-variants.{Memory, Code}
 use Rattle.start.specs.declared.reservation.Count.{Count}

@@ -17,7 +17,7 @@ use Rattle.rules.specs.Traversal.{setting}
 use Rattle.rules.proofs.Lists.Members.{split, and-true}
 use Rattle.rules.proofs.Demand.{graph}
 use Rattle.rules.proofs.Stage.Depth as depth
-use Rattle.graph.proofs.Laws.Passed.{Passed, passed}
+use Rattle.checks.proofs.Laws.Passed.{Passed, passed}
 use Rattle.columns.specs.Fields.{LEVEL, CELLS, STARTS, ENDS, REVERSE, LISTED, MARK, SPARE}
 use Rattle.columns.specs.Lists.{Clear}
 use Rattle.columns.proofs.Area.Lent.{length-laid, at-laid}
@@ -56,7 +56,7 @@ work-sized : (K need plan words counts work : ℕ) → areasSized K need plan wo
 unfolding areasSized
 work-sized K need plan words counts work e = leb-true need work (and-true (planSized K plan && leb (wordLimit K) words && leb (rooms K plan) counts) (leb need work) e .1)
 
--- what `graph::check` answers, and what `columns::clear` leaves
+-- what `checks::check` answers, and what `columns::clear` leaves
 pub checked-begin : (K : ℕ) (gates given records : List ℕ) (plan words counts : ℕ) (v : List ℕ) {w : List ℕ} → refusalOf K (areasSized K (workSize gates records) plan words counts (length v)) gates given records ≡ 0
     → w ≡ laidOver (replicate (workSize gates records) 0) v → BeginAt (pinCount gates) given records w
 checked-begin K gates given records plan words counts v e ew =

@@ -15,9 +15,9 @@ use Rattle.rules.specs.Reservation.{activations, codesAt, extraAt, duplicates, 
 use Rattle.rules.proofs.Lists.Members.{split, and-true, true-false}
 use Rattle.rules.proofs.Demand.{Ends, first}
 use Rattle.rules.proofs.Reservation.Counting.{duplicates-grow, memories-grow}
-use Rattle.graph.specs.Values.{sizeAt}
-use Rattle.graph.proofs.Laws.Reading.{Stands, standing}
-use Rattle.graph.proofs.Laws.Passed.{Next, read-next, read-last, rest-below}
+use Rattle.records.specs.Values.{sizeAt}
+use Rattle.records.proofs.Reading.{Stands, standing}
+use Rattle.checks.proofs.Laws.Passed.{Next, read-next, read-last, rest-below}
 use Rattle.columns.proofs.Area.Frames.{frame-room}
 use Rattle.start.specs.declared.reservation.Count.{Count}
 use Rattle.start.specs.declared.reservation.Reservation.the-variants.{Over, Words}

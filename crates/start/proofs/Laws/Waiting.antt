@@ -12,9 +12,9 @@ use Rattle.rules.specs.Lists.{keep, insertAll}
 use Rattle.rules.specs.Records.{Group, groups, read, groupAt, endpointsOf, waitingOf, groupsOf}
 use Rattle.rules.proofs.Lists.Members.{split}
 use Rattle.rules.proofs.Demand.{Ends}
-use Rattle.graph.specs.Values.{sizeAt, endpointAt}
-use Rattle.graph.proofs.Laws.Reading.{Stands, standing, size-endpoints, endpoint-is}
-use Rattle.graph.proofs.Laws.Passed.{Next, read-next, read-last, endpoint-below, rest-below}
+use Rattle.records.specs.Values.{sizeAt, endpointAt}
+use Rattle.records.proofs.Reading.{Stands, standing, size-endpoints, endpoint-is}
+use Rattle.checks.proofs.Laws.Passed.{Next, read-next, read-last, endpoint-below, rest-below}
 use Rattle.columns.specs.Fields.{WAITING, PLACE}
 use Rattle.columns.specs.Area.{Frame}
 use Rattle.columns.specs.Lists.{list, WaitAt, Waits, Placed}

@@ -3,7 +3,7 @@ use Prim.Native.Nat.{_-_}
 use native.Mathlib.Omega.{arith}
 use denote.Ref.{now}
 use lib.ListN.{length}
-use Rattle.graph.proofs.Laws.Reading.{Stands}
+use Rattle.records.proofs.Reading.{Stands}
 use Rattle.start.proofs.Laws.Reserving.{Reserving, reserving-none, reserving-at, reserving-small, reserving-stands, counted-small, reserving-over, reserving-more, reserving-done}
 use borrow.Author.Needs.{needs}
 use Rattle.start.proofs.reservation.reserve.Statement.{statement}

@@ -3,7 +3,7 @@ use Prim.Native.Nat.{_-_}
 use native.Mathlib.Omega.{arith}
 use denote.Ref.{now}
 use lib.ListN.{length}
-use Rattle.graph.proofs.Laws.Reading.{Stands}
+use Rattle.records.proofs.Reading.{Stands}
 use Rattle.start.proofs.Laws.Waiting.{Gathering, gathering-none, gathering-at, gathering-stands, gathering-more, gathering-done}
 use borrow.Author.Needs.{needs}
 use Rattle.start.proofs.waiting.wait_all.Statement.{statement}

@@ -1,0 +1,5 @@
+pub mod Laying
+pub mod Course
+pub mod Next
+pub mod Build
+pub mod Outcome

@@ -1,0 +1,126 @@
+-- A build stage by stage. Assumes nothing.
+use Prim.Native.Nat.{ℕ, zero, suc, _+_, _-_, _*_, _^_, _≤_, _<_}
+use mathlib.Core.List.{List, [], _∷_, _++_, append-assoc, append-nil}
+use mathlib.Core.Path.{_≡_, refl, sym, ap, _∙_}
+use mathlib.Core.Logic.{_≢_}
+use native.Mathlib.Numerals.{add-one}
+use native.Mathlib.Omega.{arith}
+use lib.Pow.{pow-mono}
+use lib.ListN.{length, length-append}
+use Rattle.rules.specs.Graph.{Node}
+use Rattle.rules.specs.Ending.{refused, stage, oneStage}
+use Rattle.rules.specs.Cells.{wordLimit}
+use Rattle.rules.specs.Build.{Stage, Answer, refusal, whole, more, stages, cellsOf, wordsOf, countsOf, refuse, reply, stagesOf}
+use Rattle.placer.specs.Answers.{told}
+use Rattle.placer.specs.Stages.{Course, before, answer, OneAt, One, StagesAt, Whole}
+
+-- ---- stages behind stages
+
+pub cells-more : (ss : List Stage) (s : Stage) → cellsOf (ss ++ (s ∷ [])) ≡ cellsOf ss ++ s .plan
+unfolding cellsOf
+cells-more [] s = append-nil (s .plan)
+cells-more (t ∷ ss) s = ap (λ (r : List ℕ). t .plan ++ r) (cells-more ss s) ∙ sym (append-assoc (t .plan) (cellsOf ss) (s .plan))
+
+pub words-more : (ss : List Stage) (s : Stage) → wordsOf (ss ++ (s ∷ [])) ≡ wordsOf ss ++ s .words
+unfolding wordsOf
+words-more [] s = append-nil (s .words)
+words-more (t ∷ ss) s = ap (λ (r : List ℕ). t .words ++ r) (words-more ss s) ∙ sym (append-assoc (t .words) (wordsOf ss) (s .words))
+
+pub counts-more : (ss : List Stage) (s : Stage) → countsOf (ss ++ (s ∷ [])) ≡ countsOf ss ++ (length (s .words) ∷ [])
+unfolding countsOf
+counts-more [] s = refl
+counts-more (t ∷ ss) s = ap (λ (r : List ℕ). length (t .words) ∷ r) (counts-more ss s)
+
+pub before-more : (ss : List Stage) (s : Stage) (a : Answer) → before ss (more s a) ≡ before (ss ++ (s ∷ [])) a
+unfolding before
+before-more [] s a = refl
+before-more (t ∷ ss) s a = ap (λ (r : Answer). more t r) (before-more ss s a)
+
+pub before-refusal : (ss : List Stage) (n k : ℕ) → before ss (refusal n k) ≡ refusal n k
+unfolding before more
+before-refusal [] n k = refl
+before-refusal (t ∷ ss) n k = rw (before-refusal ss n k)
+
+pub before-whole : (ss ts : List Stage) → before ss (whole ts) ≡ whole (ss ++ ts)
+unfolding before more
+before-whole [] ts = refl
+before-whole (t ∷ ss) ts = rw (before-whole ss ts)
+
+-- ---- one more, by what it answers
+
+module _ (K : ℕ) (g : List Node) (k : ℕ) (done waiting : List ℕ) (room : ℕ) where
+  pub none-waits : (r : ℕ) → waiting ≡ [] → stages K g r k done waiting room ≡ whole []
+  unfolding stages
+  none-waits zero e = rw (e, stages)
+  none-waits (suc r) e = rw (e, stages)
+
+  pub no-room : 0 < length waiting → stages K g 0 k done waiting room ≡ refusal 9 k
+  unfolding stages
+  no-room h = elim waiting as (λ ws. 0 < length ws → stages K g 0 k done ws room ≡ refusal 9 k) [ [] ↦ λ z. absurd (omega arith) | w ∷ ws ↦ λ z. refl ] h
+
+  nonempty : (P : List ℕ → Type 0) → ((w : ℕ) (ws : List ℕ) → P (w ∷ ws)) → 0 < length waiting → P waiting
+  nonempty P f h = elim waiting as (λ xs. 0 < length xs → P xs) [ [] ↦ λ z. absurd (omega arith) | w ∷ ws ↦ λ z. f w ws ] h
+
+  pub stage-refused : 0 < length waiting → (r n : ℕ) → oneStage K g done waiting room ≡ refused n → stages K g (suc r) k done waiting room ≡ refusal n k
+  unfolding stages
+  stage-refused h r n = nonempty (λ xs. oneStage K g done xs room ≡ refused n → stages K g (suc r) k done xs room ≡ refusal n k) (λ w ws e. rw (e, stages)) h
+
+  pub stage-more : 0 < length waiting → (r : ℕ) (pl ws re left : List ℕ) → oneStage K g done waiting room ≡ stage pl ws re left →
+      stages K g (suc r) k done waiting room ≡ more (record { plan = pl; words = ws }) (stages K g r (suc k) (re ++ done) left (room - length ws))
+  unfolding stages
+  stage-more h r pl ws re left =
+      nonempty (λ xs. oneStage K g done xs room ≡ stage pl ws re left → stages K g (suc r) k done xs room ≡ more (record { plan = pl; words = ws }) (stages K g r (suc k) (re ++ done) left (room - length ws))) (λ w zs e. rw (e, stages)) h
+
+-- ---- the loop over the stages
+
+empty-list : (xs : List ℕ) → length xs ≡ 0 → xs ≡ []
+empty-list [] e = refl
+empty-list (x ∷ xs) e = absurd (omega arith)
+
+pub limit-small : (K : ℕ) → K ≤ 13 → 2 ^ (K - 5) ≤ 256
+limit-small K h = pow-mono {i = K - 5} {j = 8} (omega arith)
+
+module _ {C : Course} {m K half rooms k at n room : ℕ} {gates pl ws cs w : List ℕ} (A : StagesAt C m K half rooms k at n room gates pl ws cs w) where
+  pub next-at : 0 < n → k ≢ rooms → OneAt C m K half k n at (room - at) gates pl ws cs w
+  next-at h r = record { known = A .known; now = A .now; left = ap (λ (i : ℕ). i - at) (A .left); waits = h; more = omega (arith, A .now .few, A .all) }
+
+  pub spent-within : at ≤ room
+  spent-within = omega (arith, A .now .fits, A .left)
+
+  pub room-small : room ≤ 256
+  unfolding wordLimit
+  room-small = omega (arith, A .left, C .limit, limit-small (C .K) (C .high))
+
+  pub rooms-nine : 0 < n → k ≡ rooms → answer C ≡ refusal 9 (suc k)
+  rooms-nine h e =
+      let z : C .rooms - k ≡ 0 = omega (arith, A .all) in
+      let s = A .now .same in
+      let r = rw z at s in
+      r ∙ ap (before (A .now .ss)) (no-room (C .K) (C .g) (suc k) (A .now .done) (A .now .waiting) (C .room - at) (omega (arith, A .now .work .waiting .held .count))) ∙ before-refusal (A .now .ss) 9 (suc k)
+
+  pub all-whole : n ≡ 0 → answer C ≡ whole (A .now .ss)
+  all-whole e =
+      A .now .same
+      ∙ ap (before (A .now .ss)) (none-waits (C .K) (C .g) (suc k) (A .now .done) (A .now .waiting) (C .room - at) (C .rooms - k) (empty-list (A .now .waiting) (omega (arith, A .now .work .waiting .held .count))))
+      ∙ before-whole (A .now .ss) []
+      ∙ ap whole (append-nil (A .now .ss))
+
+  pub still-rooms : 0 < n → k ≢ rooms → k < rooms
+  still-rooms h r = omega (arith, A .now .few, A .all)
+
+  pub one-on : {number written left : ℕ} {pl′ ws′ cs′ w′ : List ℕ} → One C m k at pl ws cs w number written left pl′ ws′ cs′ w′ → number ≡ 0 → StagesAt C m K half rooms (k + 1) (at + written) left room gates pl′ ws′ cs′ w′
+  one-on O z = rw (add-one k) (record { known = A .known; now = O .on z; all = A .all; short = A .short; left = A .left })
+
+-- what the answers tell
+pub refused-told : (C : Course) (number k : ℕ) → answer C ≡ refusal number (suc k) → told (record { number = number; stages = 0; words = 0; stage = k + 1 }) ≡ reply (answer C)
+unfolding told reply refuse
+refused-told C number k e = rw (e, add-one k, reply)
+
+module _ {C : Course} {m K half rooms k at n room : ℕ} {gates pl ws cs w : List ℕ} (A : StagesAt C m K half rooms k at n room gates pl ws cs w) (z : n ≡ 0) where
+  pub whole-told : told (record { number = 0; stages = k; words = at; stage = 0 }) ≡ reply (answer C)
+  unfolding told reply
+  whole-told = rw (all-whole A z, A .now .count, A .now .spent, reply)
+
+  pub whole-stands : Whole C (stagesOf (answer C)) pl ws cs
+  unfolding stagesOf
+  whole-stands = rw (all-whole A z, stagesOf) (record { plan = A .now .plan; words = A .now .words; counts = A .now .counts })

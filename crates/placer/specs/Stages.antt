@@ -1,0 +1,125 @@
+-- The stages of a build, and what the lent areas hold between two of them. Assumes nothing.
+use mathlib.Core.Path.{_≡_}
+use mathlib.Core.List.{List, [], _∷_}
+use Prim.Native.Nat.{ℕ, suc, _+_, _-_, _*_, _^_, _<_, _≤_}
+use lib.ListN.{length, getD}
+use Rattle.rules.specs.Lists.{padded}
+use Rattle.rules.specs.Cells.{empty, wordLimit, rowAt, stageSize}
+use Rattle.rules.specs.Graph.{Node, graphOf}
+use Rattle.rules.specs.Build as rules
+use Rattle.rules.proofs.Demand.{Valid}
+use Rattle.rules.proofs.Stage.Depth.{Ready}
+use Rattle.columns.specs.Fields.{DONE, WAITING, CELLS, PLACE, MARK}
+use Rattle.columns.specs.Area.{Room}
+use Rattle.columns.specs.Lists.{Marks, Clear, Placed}
+use Rattle.walk.specs.Prepared.{Fresh}
+use Rattle.placer.specs.declared.Answer.{Answer}
+use Rattle.placer.specs.Answers.{told}
+
+-- what the stages start from: no value of the program
+pub record Course : Type 0 where
+  pub K : ℕ
+  pub g : List Node
+  pub given : List ℕ
+  pub waiting : List ℕ
+  pub rooms : ℕ
+  pub room : ℕ
+  pub low : 6 ≤ K
+  pub high : K ≤ 13
+  pub valid : Valid g
+  pub small : length g ≤ 65536
+  pub ready : Ready g (λ p. p) waiting
+  pub limit : room ≤ wordLimit K
+
+pub record Some (P : Course → Type 0) : Type 0 where
+  pub C : Course
+  pub at : P C
+
+pub record Every (P Q : Course → Type 0) : Type 0 where
+  pub all : (C : Course) → P C → Q C
+
+-- the answer that the stages give
+unfoldable pub answer : Course → rules.Answer
+answer C = rules.stages (C .K) (C .g) (C .rooms) 1 (C .given) (C .waiting) (C .room)
+
+-- some stages in front of an answer
+unfoldable pub before : List rules.Stage → rules.Answer → rules.Answer
+before [] a = a
+before (s ∷ ss) a = rules.more s (before ss a)
+
+-- the work area between two stages: the pins done are marked, n pins wait, and what a stage finds empty is empty
+pub record Between (m n : ℕ) (ds ps w : List ℕ) : Type 0 where
+  pub area : Room m w
+  pub done : Marks DONE m ds w
+  pub waiting : Placed WAITING PLACE m n ps w
+  pub fresh : Fresh m w
+  pub cells : Clear CELLS m w
+  pub marks : Clear MARK m w
+  pub tail : (j : ℕ) → j < 258 → getD w (16 * m + j) 0 ≡ 0
+
+-- what the program has of the course
+pub record Known (C : Course) (m K half : ℕ) (gates : List ℕ) : Type 0 where
+  pub height : K ≡ C .K
+  pub row : half ≡ rowAt K 1
+  pub graph : C .g ≡ graphOf gates
+  pub size : length (C .g) ≡ m
+  pub pair : length gates ≡ 2 * m
+
+-- k stages are complete, `at` words written, n pins wait
+pub record Underway (C : Course) (m k at n : ℕ) (pl ws cs w : List ℕ) : Type 0 where
+  pub ss : List rules.Stage
+  pub done : List ℕ
+  pub waiting : List ℕ
+  pub same : answer C ≡ before ss (rules.stages (C .K) (C .g) (C .rooms - k) (suc k) done waiting (C .room - at))
+  pub ready : Ready (C .g) (λ p. p) waiting
+  pub count : length ss ≡ k
+  pub few : k ≤ C .rooms
+  pub cells : length (rules.cellsOf ss) ≡ k * stageSize (C .K)
+  pub counted : length (rules.countsOf ss) ≡ k
+  pub spent : length (rules.wordsOf ss) ≡ at
+  pub fits : at ≤ C .room
+  pub plan : pl ≡ padded (C .rooms * stageSize (C .K)) empty (rules.cellsOf ss)
+  pub words : ws ≡ padded (wordLimit (C .K)) empty (rules.wordsOf ss)
+  pub counts : cs ≡ padded (C .rooms) 0 (rules.countsOf ss)
+  pub work : Between m n done waiting w
+
+-- the lengths stay
+pub record Kept (pl ws cs w pl′ ws′ cs′ w′ : List ℕ) : Type 0 where
+  pub plan : length pl′ ≡ length pl
+  pub words : length ws′ ≡ length ws
+  pub counts : length cs′ ≡ length cs
+  pub work : length w′ ≡ length w
+
+-- ---- one stage: the next one, for which there is room
+
+pub record OneAt (C : Course) (m K half k n at room : ℕ) (gates pl ws cs w : List ℕ) : Type 0 where
+  pub known : Known C m K half gates
+  pub now : Underway C m k at n pl ws cs w
+  pub left : room ≡ C .room - at
+  pub waits : 0 < n
+  pub more : k < C .rooms
+
+pub record One (C : Course) (m k at : ℕ) (pl ws cs w : List ℕ) (number written n : ℕ) (pl′ ws′ cs′ w′ : List ℕ) : Type 0 where
+  pub kept : Kept pl ws cs w pl′ ws′ cs′ w′
+  pub refused : 0 < number → answer C ≡ rules.refusal number (suc k)
+  pub on : number ≡ 0 → Underway C m (suc k) (at + written) n pl′ ws′ cs′ w′
+
+-- ---- from stage k + 1 on
+
+pub record StagesAt (C : Course) (m K half rooms k at n room : ℕ) (gates pl ws cs w : List ℕ) : Type 0 where
+  pub known : Known C m K half gates
+  pub now : Underway C m k at n pl ws cs w
+  pub all : rooms ≡ C .rooms
+  pub short : rooms < 2 ^ 63
+  pub left : room ≡ C .room
+
+-- a whole plan stands in the areas
+pub record Whole (C : Course) (ss : List rules.Stage) (pl ws cs : List ℕ) : Type 0 where
+  pub plan : pl ≡ padded (C .rooms * stageSize (C .K)) empty (rules.cellsOf ss)
+  pub words : ws ≡ padded (wordLimit (C .K)) empty (rules.wordsOf ss)
+  pub counts : cs ≡ padded (C .rooms) 0 (rules.countsOf ss)
+
+pub record Ran (C : Course) (pl ws cs w : List ℕ) (a : Answer) (pl′ ws′ cs′ w′ : List ℕ) : Type 0 where
+  pub kept : Kept pl ws cs w pl′ ws′ cs′ w′
+  pub reply : told a ≡ rules.reply (answer C)
+  pub whole : a .number ≡ 0 → Whole C (rules.stagesOf (answer C)) pl′ ws′ cs′

@@ -1,0 +1,138 @@
+// The placer: the checks 1 to 5, the reservation, then stage after stage until no pin waits.
+use areas::empty_all;
+use areas::tidy;
+use cells::Height;
+use checks::check;
+use columns::wide;
+use graph::pin_count;
+use stages::stages;
+use start::Opening;
+use start::begin;
+ghost use mathlib.Core.Path.{_≡_};
+ghost use lib.ListN.{length};
+ghost use Rattle.rules.specs.Build.{placer, answerOf};
+ghost use Rattle.placer.specs.Answers.{areas, outcome};
+ghost use Rattle.placer.specs.Build.{PlaceAt, TryAt, Tried, Placed};
+
+mod areas;
+mod stages;
+
+// Document 01's number, the stages and words of a whole plan, the refused stage.
+pub struct Answer {
+    pub number: u32,
+    pub stages: usize,
+    pub words: usize,
+    pub stage: usize,
+}
+
+// The reservation and the stages, in empty areas.
+fn attempt(
+    height: u32,
+    gates: &[u32],
+    given: &[u32],
+    records: &[u32],
+    plan: &mut [u32],
+    words: &mut [u32],
+    counts: &mut [u32],
+    work: &mut [u32],
+) -> Answer
+    requires { ⌜ TryAt height (now gates) (now given) (now records) (now plan) (now words) (now counts) (now work) ⌝ }
+    ensures { λ r. ⌜ Tried (answerOf height (now (gates .entry)) (now (given .entry)) (now (records .entry)) (length (now (plan .entry)))) (now (plan .entry)) (now (words .entry)) (now (counts .entry)) (now (work .entry)) r (now (plan .exit)) (now (words .exit)) (now (counts .exit)) (now (work .exit)) ⌝ }
+{
+    let m = pin_count(gates);
+    let half = Height(height).level_one_size();
+    let rooms = counts.len();
+    let limit = words.len();
+    let opening = begin(given, records, work, m, limit);
+    match opening {
+        Opening::Over => Answer {
+            number: 6,
+            stages: 0,
+            words: 0,
+            stage: 0,
+        },
+        Opening::Ready(reserved, n) => {
+            let room = limit - reserved;
+            stages(
+                gates,
+                plan,
+                words,
+                counts,
+                work,
+                m,
+                wide(height),
+                half,
+                rooms,
+                n,
+                room,
+            )
+        }
+    }
+}
+
+// The build of records that passed the checks, in areas of exactly their counted sizes.
+fn place(
+    height: u32,
+    gates: &[u32],
+    given: &[u32],
+    records: &[u32],
+    plan: &mut [u32],
+    words: &mut [u32],
+    counts: &mut [u32],
+    work: &mut [u32],
+) -> Answer
+    requires { ⌜ PlaceAt height (now gates) (now given) (now records) (now plan) (now words) (now counts) (now work) ⌝ }
+    ensures { λ r. ⌜ Placed (answerOf height (now (gates .entry)) (now (given .entry)) (now (records .entry)) (length (now (plan .entry)))) (now (plan .entry)) (now (words .entry)) (now (counts .entry)) (now (work .entry)) r (now (plan .exit)) (now (words .exit)) (now (counts .exit)) (now (work .exit)) ⌝ }
+{
+    empty_all(plan, words, counts, work);
+    let a = attempt(height, gates, given, records, plan, words, counts, work);
+    tidy(a.number, plan, words, counts, work);
+    a
+}
+
+// Lays the gates under the records' endpoints into stages of a tree of this height. Plan, words and counts hold what was built, and
+// work is scratch.
+pub fn build(
+    height: u32,
+    gates: &[u32],
+    given: &[u32],
+    records: &[u32],
+    plan: &mut [u32],
+    words: &mut [u32],
+    counts: &mut [u32],
+    work: &mut [u32],
+) -> Answer
+    ensures { λ r. ⌜ outcome r (now (plan .exit)) (now (words .exit)) (now (counts .exit)) (now (work .exit)) ≡ placer height (now (gates .entry)) (now (given .entry)) (now (records .entry)) (areas (now (plan .entry)) (now (words .entry)) (now (counts .entry)) (now (work .entry))) ⌝ }
+{
+    let number = check(
+        height,
+        gates,
+        given,
+        records,
+        plan.len(),
+        words.len(),
+        counts.len(),
+        work.len(),
+    );
+    if number != 0 {
+        return Answer {
+            number: number,
+            stages: 0,
+            words: 0,
+            stage: 0,
+        };
+    }
+    let limit = Height(height).word_limit();
+    let rooms = Height(height).rooms(plan.len());
+    let need = 16 * pin_count(gates) + 8 * records.len() + 512;
+    place(
+        height,
+        gates,
+        given,
+        records,
+        plan,
+        &mut words[0..limit],
+        &mut counts[0..rooms],
+        &mut work[0..need],
+    )
+}

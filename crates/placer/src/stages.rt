@@ -1,0 +1,110 @@
+// Stage after stage, until no pin waits or one is refused.
+use crate::Answer;
+use stage::Outcome;
+use stage::build_one_stage;
+ghost use mathlib.Core.Path.{_≡_};
+ghost use Rattle.placer.specs.Stages.{Some, Every, OneAt, One, StagesAt, Ran};
+
+// Stage k + 1, in its own part of the plan, for n waiting pins and `room` words behind `at`.
+fn next_stage(
+    gates: &[u32],
+    plan: &mut [u32],
+    words: &mut [u32],
+    counts: &mut [u32],
+    work: &mut [u32],
+    m: usize,
+    height: usize,
+    half: usize,
+    k: usize,
+    n: usize,
+    at: usize,
+    room: usize,
+) -> Outcome
+    requires { ⌜ Some (λ C. OneAt C m height half k n at room (now gates) (now plan) (now words) (now counts) (now work)) ⌝ }
+    ensures { λ r. ⌜ Every (λ C. OneAt C m height half k n at room (now (gates .entry)) (now (plan .entry)) (now (words .entry)) (now (counts .entry)) (now (work .entry))) (λ C. One C m k at (now (plan .entry)) (now (words .entry)) (now (counts .entry)) (now (work .entry)) (r .number) (r .words) (r .waiting) (now (plan .exit)) (now (words .exit)) (now (counts .exit)) (now (work .exit))) ⌝ }
+{
+    let size = 4 * half;
+    let a = k * size;
+    let e = a + size;
+    let s = build_one_stage(
+        gates,
+        &mut plan[a..e],
+        work,
+        words,
+        m,
+        height,
+        half,
+        n,
+        at,
+        room,
+    );
+    if s.number != 0 {
+        return s;
+    }
+    counts[k] = s.words as u32;
+    s
+}
+
+// The stages from the first on, for n waiting pins.
+pub fn stages(
+    gates: &[u32],
+    plan: &mut [u32],
+    words: &mut [u32],
+    counts: &mut [u32],
+    work: &mut [u32],
+    m: usize,
+    height: usize,
+    half: usize,
+    rooms: usize,
+    n: usize,
+    room: usize,
+) -> Answer
+    requires { ⌜ Some (λ C. StagesAt C m height half rooms 0 0 n room (now gates) (now plan) (now words) (now counts) (now work)) ⌝ }
+    ensures { λ r. ⌜ Every (λ C. StagesAt C m height half rooms 0 0 n room (now (gates .entry)) (now (plan .entry)) (now (words .entry)) (now (counts .entry)) (now (work .entry))) (λ C. Ran C (now (plan .entry)) (now (words .entry)) (now (counts .entry)) (now (work .entry)) r (now (plan .exit)) (now (words .exit)) (now (counts .exit)) (now (work .exit))) ⌝ }
+{
+    let mut k = 0;
+    let mut at = 0;
+    let mut left = n;
+    while left > 0 {
+        if k == rooms {
+            return Answer {
+                number: 9,
+                stages: 0,
+                words: 0,
+                stage: k + 1,
+            };
+        }
+        let s = next_stage(
+            gates,
+            plan,
+            words,
+            counts,
+            work,
+            m,
+            height,
+            half,
+            k,
+            left,
+            at,
+            room - at,
+        );
+        let number = s.number;
+        if number != 0 {
+            return Answer {
+                number: number,
+                stages: 0,
+                words: 0,
+                stage: k + 1,
+            };
+        }
+        at = at + s.words;
+        left = s.waiting;
+        k += 1;
+    }
+    Answer {
+        number: 0,
+        stages: k,
+        words: at,
+        stage: 0,
+    }
+}

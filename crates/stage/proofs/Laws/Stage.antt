@@ -1,0 +1,108 @@
+-- Rules 1 to 11 in order: what each part leaves is what the next one finds. Assumes nothing.
+use Prim.Native.Nat.{ℕ, _+_, _*_, _<_, _≤_}
+use mathlib.Core.List.{List, _∷_, [], _++_}
+use mathlib.Core.Path.{_≡_, refl, sym, ap, _∙_}
+use native.Mathlib.Omega.{arith}
+use lib.ListN.{length, getD}
+use Rattle.rules.specs.Traversal.{Setting, setting}
+use Rattle.rules.specs.Placing.{filledPlan}
+use Rattle.rules.specs.Ending.{Stage?, finish, oneStage}
+use Rattle.columns.specs.Fields.{DONE, WAITING, CELLS, PLACE, MARK, SPARE}
+use Rattle.columns.specs.Area.{Frame}
+use Rattle.columns.proofs.Area.Frames.{frame-then, frame-more}
+use Rattle.columns.proofs.Lists.Marks.{marks-frame}
+use Rattle.columns.proofs.Lists.Places.{placed-frame}
+use Rattle.columns.proofs.Lists.Clears.{clear-frame}
+use Rattle.walk.specs.Stands.{Context}
+use Rattle.walk.specs.Prepared.{PrepareAt, Prepared, ForgetAt, Forgot}
+use Rattle.walk.proofs.Forgets.{forget-at, forget-frame}
+use Rattle.stage.specs.declared.finish.Outcome.{Outcome}
+use Rattle.lean.specs.Filling.{FillAt, FilledTree}
+use Rattle.stage.specs.Finish.{FinishAt, Changed, Whole, Finished}
+use Rattle.stage.specs.Stage.{StageAt, columns, built, Staged}
+use Rattle.lean.proofs.Laws.Loop.{set-kept}
+
+-- the stage of a context is what rules 8 to 11 make of rules 2 to 7's plan
+built-is : (C : Context) (room : ℕ) → finish (C .X) room (filledPlan (C .X)) ≡ built C room
+unfolding built oneStage
+built-is C room = ap (λ (X : Setting). finish X room (filledPlan X)) (C .is)
+
+module _ {C : Context} {m K half n at room : ℕ} {gates pl w words : List ℕ} (A : StageAt C m K half n at room gates pl w words) where
+  pub stage-prepare : PrepareAt C m n gates w
+  stage-prepare = record { begun = A .begun; fresh = A .fresh }
+
+  module _ {k top : ℕ} {w₁ : List ℕ} (P : Prepared C m n gates w w₁ k top) where
+    tail-prepared : (j : ℕ) → getD w₁ (16 * m + j) 0 ≡ getD w (16 * m + j) 0
+    tail-prepared j = P .frame .past refl (16 * m + j) (omega arith)
+
+    pub stage-fill : FillAt C m n k top K half gates pl w₁
+    stage-fill = record {
+      set = P .set;
+      clear = clear-frame (A .marks) (P .frame) refl (omega arith);
+      first = A .blank;
+      cells = clear-frame (A .cells) (P .frame) refl (omega arith);
+      ones = tail-prepared 256 ∙ A .tail 256 (omega arith);
+      pins = tail-prepared 257 ∙ A .tail 257 (omega arith);
+      most = P .most;
+      height = A .height;
+      row = A .row;
+    }
+
+    module _ {q : ℕ} {pl₁ w₂ : List ℕ} (F : FilledTree C m gates pl w₁ q pl₁ w₂) where
+      pub stage-finish : FinishAt C m K half k n q at room gates pl₁ w₂ words
+      stage-finish = record {
+        stands = F .stands;
+        set = set-kept (F .kept) (P .set);
+        needed = F .needed;
+        marks = clear-frame (clear-frame (A .marks) (P .frame) refl (omega arith)) (F .kept .frame) refl (omega arith);
+        spare = clear-frame (clear-frame (A .fresh .spare) (P .frame) refl (omega arith)) (F .kept .frame) refl (omega arith);
+        tail = λ j h. F .kept .rest (16 * m + j) (omega arith) (λ e. omega arith) (λ e. omega arith) ∙ tail-prepared j ∙ A .tail j (omega arith);
+        height = A .height;
+        row = A .row;
+        fits = A .fits;
+        small = A .small;
+      }
+
+      module _ {e : Outcome} {pl₂ w₃ words₁ : List ℕ} (E : Finished C m at room (finish (C .X) room pl₁) pl₁ w₂ words e pl₂ w₃ words₁) where
+        pub stage-forget : ForgetAt m k w₃
+        stage-forget = forget-frame (forget-frame (forget-at (P .set) (P .reversed) (P .marks) (P .beyond)) (F .kept .frame) refl refl refl refl refl refl) (E .changed .frame) refl refl refl refl refl refl
+
+        module _ {w₄ : List ℕ} (G : Forgot m w₃ w₄) where
+          is-built : finish (C .X) room pl₁ ≡ built C room
+          is-built = rw (F .is) (built-is C room)
+
+          changes : Changed columns m at room pl w words pl₂ w₄ words₁
+          changes = record {
+            frame = frame-then (frame-more refl (P .frame)) (frame-then (frame-more refl (F .kept .frame)) (frame-then (frame-more refl (E .changed .frame)) (frame-more refl (G .frame))));
+            past = λ j h. G .frame .past refl (16 * m + j) (omega arith) ∙ E .changed .past j h ∙ F .kept .rest (16 * m + j) (omega arith) (λ z. omega arith) (λ z. omega arith) ∙ tail-prepared j;
+            size = E .changed .size ∙ F .size;
+            len = E .changed .len;
+            before = E .changed .before;
+            behind = E .changed .behind;
+          }
+
+          stands : e .number ≡ 0 → Whole C m at room (built C room) words e pl₂ w₄ words₁
+          stands z =
+              let W = E .whole z in
+              record {
+                ws = W .ws;
+                left = W .left;
+                is = sym is-built ∙ W .is;
+                count = W .count;
+                fit = W .fit;
+                wrote = W .wrote;
+                done = marks-frame (W .done) (G .frame) refl (omega arith);
+                waiting = placed-frame (W .waiting) (G .frame) refl refl (omega arith) (omega arith);
+                cells = clear-frame (W .cells) (G .frame) refl (omega arith);
+                marks = clear-frame (W .marks) (G .frame) refl (omega arith);
+                spare = clear-frame (W .spare) (G .frame) refl (omega arith);
+                tail = λ j h. G .frame .past refl (16 * m + j) (omega arith) ∙ W .tail j h;
+              }
+
+          pub staged : Staged C m at room pl w words e pl₂ w₄ words₁
+          staged = record {
+            changed = changes;
+            refuses = λ h. sym is-built ∙ E .refuses h;
+            whole = stands;
+            fresh = λ z. record { listed = G .listed; levels = G .levels; reverse = G .reverse; starts = G .starts; ends = G .ends; spare = clear-frame (E .whole z .spare) (G .frame) refl (omega arith) };
+          }
