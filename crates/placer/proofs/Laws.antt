@@ -3,3 +3,4 @@ pub mod Course
 pub mod Next
 pub mod Build
 pub mod Outcome
+pub mod Entry

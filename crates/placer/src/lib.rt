@@ -15,6 +15,7 @@ ghost use Rattle.placer.specs.Answers.{areas, outcome};
 ghost use Rattle.placer.specs.Build.{PlaceAt, TryAt, Tried, Placed};
 
 mod areas;
+mod entry;
 mod stages;
 
 // Document 01's number, the stages and words of a whole plan, the refused stage.

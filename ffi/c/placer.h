@@ -1,0 +1,36 @@
+/* The placer, for C. Link libplacer.a, which `rt staticlib placer` writes.
+ *
+ * Every call returns, whatever it is handed; the caller checks nothing beforehand. Each area is a pointer and a number of
+ * elements. An area of no elements may have any pointer that is not null and is aligned. No two areas may overlap. */
+#ifndef PLACER_H
+#define PLACER_H
+
+#include <stddef.h>
+#include <stdint.h>
+
+#ifdef __cplusplus
+extern "C" {
+#endif
+
+#define PLACER_EMPTY 4294967295u
+
+/* gates:   two literals a pin from pin 0 on, both PLACER_EMPTY for a leaf
+ * given:   pins whose value is given
+ * records: endpoint records, each a kind (1 output, 2 flip-flop, 3 memory, 4 staged pin) and its numbers
+ * plan:    a multiple of 2^(height + 1) numbers, one multiple a room
+ * words:   at least 2^(height - 5) numbers
+ * counts:  at least a number a room
+ * work:    at least 16 * (pins + 1) + 8 * records_len + 512 numbers
+ * answer:  at least 4 numbers: the number, the stages, the words, the refused stage
+ *
+ * Returns the number: 0 for a whole plan, else what refuses it; 2 also where `answer` is too short, and then nothing is changed. */
+uint32_t placer_build(uint32_t height, const uint32_t *gates, size_t gates_len, const uint32_t *given, size_t given_len,
+                      const uint32_t *records, size_t records_len, uint32_t *plan, size_t plan_len, uint32_t *words,
+                      size_t words_len, uint32_t *counts, size_t counts_len, uint32_t *work, size_t work_len, size_t *answer,
+                      size_t answer_len);
+
+#ifdef __cplusplus
+}
+#endif
+
+#endif
