@@ -1,0 +1,96 @@
+// Folding: a plan, the graph and a bit a pin to one bit a position. It takes any numbers and slices.
+mod bits;
+mod loads;
+mod stages;
+
+use checks::refusal;
+use graph::pin_count;
+use sizes::plan_sized;
+use stages::fold_plan;
+ghost use mathlib.Core.Path.{_≡_};
+ghost use mathlib.Core.Bool.{_&&_};
+ghost use mathlib.Core.List.{[]};
+ghost use Rattle.rules.specs.Cells.{isHeight};
+ghost use Rattle.rules.specs.Checks.{refusalOf};
+ghost use Rattle.rules.specs.Fold.{foldSized, foldRefusal, foldResult};
+ghost use Rattle.fold.specs.Answers.{numberFor};
+
+pub enum Answer {
+    Folded,
+    NoHeight,
+    WrongSize,
+    WrongGraph,
+    WrongGiven,
+}
+
+impl Answer {
+    pub fn number(self) -> u32
+        ensures { λ r. ⌜ r ≡ numberFor self ⌝ }
+    {
+        match self {
+            Answer::Folded => 0,
+            Answer::NoHeight => 1,
+            Answer::WrongSize => 2,
+            Answer::WrongGraph => 3,
+            Answer::WrongGiven => 5,
+        }
+    }
+}
+
+// Have plan, bits and result a right size? The result holds a bit a position, and behind them a number a pin.
+fn areas_sized(height: u32, plan: &[u32], gates: &[u32], bits: usize, result: usize) -> bool
+    ensures { λ r. ⌜ r ≡ (isHeight height && foldSized height (now (plan .entry)) (now (gates .entry)) bits result) ⌝ }
+{
+    let pins = pin_count(gates);
+    if !plan_sized(height, plan.len()) {
+        return false;
+    }
+    if bits < pins {
+        return false;
+    }
+    if result < plan.len() {
+        return false;
+    }
+    pins <= result - plan.len()
+}
+
+// The first of 1, 2, 3 and 5 that applies, else 0. There are no records.
+fn check(
+    height: u32,
+    plan: &[u32],
+    gates: &[u32],
+    given: &[u32],
+    bits: &[u32],
+    result: &[u32],
+) -> Answer
+    ensures { λ r. ⌜ numberFor r ≡ foldRefusal height (now (plan .entry)) (now (gates .entry)) (now (given .entry)) (now (bits .entry)) (now (result .entry)) ⌝ }
+{
+    let sized = areas_sized(height, plan, gates, bits.len(), result.len());
+    let number = refusal(height, sized, gates, given, &given[0..0]);
+    match number {
+        0 => Answer::Folded,
+        1 => Answer::NoHeight,
+        2 => Answer::WrongSize,
+        3 => Answer::WrongGraph,
+        _ => Answer::WrongGiven,
+    }
+}
+
+// One bit a position for every stage of a plan. After a refusal the result is as it was.
+pub fn fold(
+    height: u32,
+    plan: &[u32],
+    gates: &[u32],
+    given: &[u32],
+    bits: &[u32],
+    result: &mut [u32],
+) -> Answer
+    ensures answer { λ r. ⌜ numberFor r ≡ foldRefusal height (now (plan .entry)) (now (gates .entry)) (now (given .entry)) (now (bits .entry)) (now (result .entry)) ⌝ }
+    ensures areas { λ _. ⌜ now (result .exit) ≡ foldResult height (now (plan .entry)) (now (gates .entry)) (now (given .entry)) (now (bits .entry)) (now (result .entry)) ⌝ }
+{
+    let answer = check(height, plan, gates, given, bits, result);
+    if answer.number() == 0 {
+        fold_plan(height, plan, gates, given, bits, result);
+    }
+    answer
+}
