@@ -3,3 +3,4 @@ pub mod Loads
 pub mod Parts
 pub mod Stages
 pub mod Checks
+pub mod Numbers

@@ -12,7 +12,10 @@ use borrow.Author.Tests.{lt-ltb, le-ltb, eq-eqb, ne-eqb}
 use Rattle.rules.specs.Cells.{empty}
 use Rattle.rules.specs.Graph.{Node, leaf, gate, pinOf, inversionOf, literalOf, nodeOf, graphOf, pinCount}
 use Rattle.graph.specs.declared.MaybeLiteral.the-variants.{Made, Refused}
-use Rattle.graph.specs.Values.{madeLiteral}
+use Rattle.graph.specs.declared.Literal.{Literal}
+use Rattle.graph.specs.declared.Node.the-variants.{Leaf, Gate}
+use Rattle.graph.specs.declared.Node as code
+use Rattle.graph.specs.Values.{madeLiteral, nodeFor}
 use Rattle.rules.proofs.Bools.{and-none}
 
 pub literal-made : (p i : ℕ) → p ≤ 2147483647 → i ≤ 1 → Made (record { 0 = 2 * p + i }) ≡ madeLiteral p i
@@ -74,3 +77,16 @@ module _ (gates : List ℕ) (p q m : ℕ) (ep : q ≡ p) (em : m ≡ pinCount ga
 
   pub node-there : q < m → nodeOf (getD gates (2 * q) 0) (getD gates (2 * q + 1) 0) ≡ getD (graphOf gates) p leaf
   node-there h = rw ep (sym (graph-at gates p (omega arith)))
+
+-- no two nodes are told alike
+pub node-one : (x y : code.Node) → nodeFor x ≡ nodeFor y → x ≡ y
+unfolding nodeFor
+node-one Leaf Leaf e = refl
+node-one Leaf (Gate a b) e = absurd (let z : _≡_ {A = ℕ} 0 1 = cc in omega arith)
+node-one (Gate a b) Leaf e = absurd (let z : _≡_ {A = ℕ} 0 1 = cc in omega arith)
+node-one (Gate a b) (Gate c d) e =
+    let p : a .0 ≡ c .0 = cc in
+    let q : b .0 ≡ d .0 = cc in
+    let r : a ≡ c = ap {B = Literal} (λ (i : ℕ). record { 0 = i }) p in
+    let s : b ≡ d = ap {B = Literal} (λ (i : ℕ). record { 0 = i }) q in
+    rw (r, s)

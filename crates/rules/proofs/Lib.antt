@@ -1,5 +1,6 @@
 pub mod Bench
 pub mod Bools
+pub mod Outcomes
 pub mod Cells
 pub mod Lists
 pub mod Walk
