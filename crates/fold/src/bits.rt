@@ -1,7 +1,6 @@
 // The bits of one stage, from level 0 up.
 use cells::Height;
-use cells::first_lower;
-use cells::second_lower;
+use cells::row_start;
 use columns::wide;
 use graph::EMPTY;
 use graph::Literal;
@@ -49,15 +48,17 @@ fn fold_cell(cells: &[u32], gates: &[u32], bits: &[u32], p: u32) -> bool
     requires { ⌜ CellAt p (now cells) (now bits) ⌝ }
     ensures { λ r. ⌜ CellFolds (graphOf (now (gates .entry))) (now (cells .entry)) (now (bits .entry)) p r ⌝ }
 {
-    let n = cells[wide(p)];
+    let q = wide(p);
+    let n = cells[q];
     if n == EMPTY {
         return false;
     }
-    let a = first_lower(p);
+    let w = wide(row_start(p));
+    let a = q + w;
     if cells[a] == n {
         return bits[a] != 0;
     }
-    let b = second_lower(p);
+    let b = q + 2 * w;
     if cells[a] == EMPTY {
         return false;
     }

@@ -119,7 +119,7 @@ pub fn load_row(
     }
 }
 
-// What the next stage loads: of each pin above level 0 the bit at its lowest position, which is written last.
+// What the next stage loads: each pin above level 0 the bit at its lowest position, which is written last.
 pub fn remember(
     height: u32,
     cells: &[u32],
@@ -131,9 +131,11 @@ pub fn remember(
     requires { ⌜ AreaAt height (now cells) at looks pins (now result) ⌝ }
     ensures { λ _. ⌜ Spread height (now (cells .entry)) looks pins (λ (p : ℕ). getD (now (result .entry)) (at + p) 0) (now (result .entry)) (now (result .exit)) ⌝ }
 {
-    let mut p = Height(height).width();
-    while 1 < p {
-        p -= 1;
+    let width = Height(height).width();
+    let mut i = 1;
+    while i < width {
+        let p = width - i;
+        i += 1;
         let n = wide(cells[p]);
         if n < pins {
             result[looks + n] = result[at + p];

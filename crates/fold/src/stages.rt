@@ -142,5 +142,6 @@ pub fn fold_plan(
     ensures { λ _. ⌜ now (result .exit) ≡ laidOver (foldBits height (now (plan .entry)) (now (gates .entry)) (now (given .entry)) (now (bits .entry)) ++ replicate (pinCount (now (gates .entry))) 0) (now (result .entry)) ⌝ }
 {
     fold_stages(height, plan, gates, given, bits, result);
-    no_loads(result, plan.len(), pin_count(gates));
+    let pins = pin_count(gates);
+    no_loads(result, plan.len(), pins);
 }

@@ -9,7 +9,7 @@ use lib.Dec.{eqb, ltb}
 use lib.ListN.{length, getD, set, length-set}
 use lib.Seq.{getD-set-same, getD-set-other, ext-getD}
 use borrow.Author.Tests.{eq-eqb, ne-eqb}
-use Rattle.rules.specs.Cells.{isHeight, empty, filled, firstLower, secondLower}
+use Rattle.rules.specs.Cells.{isHeight, empty, filled, rowStart, firstLower, secondLower}
 use Rattle.rules.specs.Graph.{Node, leaf, gateBit}
 use Rattle.rules.specs.Fold.{bitAt, asNumber, stageBits}
 use Rattle.rules.proofs.Lists.Members.{split}
@@ -143,6 +143,16 @@ module _ (K : ℕ) (g : List Node) (cells bits : List ℕ) (U : UpAt K cells bit
         let c : i < 2 ^ (K + 1) = omega (arith, len, length-stageBits K g cells load) in
         M .bit i (omega arith) c ∙ sym (getD-stageBits K g cells load i c));
   }
+
+-- the lower cells, as the code computes them
+module _ (p q w s : ℕ) (eq : q ≡ p) (ew : w ≡ s) (es : s ≡ rowStart p) where
+  pub lower-first : q + w ≡ firstLower p
+  unfolding firstLower
+  lower-first = omega arith
+
+  pub lower-second : q + 2 * w ≡ secondLower p
+  unfolding secondLower
+  lower-second = omega arith
 
 -- the width, as the code reads it
 pub width-there : {K w : ℕ} {cells : List ℕ} → StageAt K cells → w ≡ orZero (isHeight K) (2 ^ K) → w ≡ 2 ^ K

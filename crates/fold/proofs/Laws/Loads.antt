@@ -177,39 +177,41 @@ module _ (K : ℕ) (cells : List ℕ) (S : StageAt K cells) (L m : ℕ) (f : ℕ
       let z : 2 ^ K - p ≡ 0 = omega arith in
       record { len = refl; low = omega (arith, S .low); high = omega arith; each = λ n h. rw z; same = λ i s. refl }
 
-  module _ (p : ℕ) (now : List ℕ) (r : SpreadFrom K cells L m f w p now) (h : 1 < p) (c : ℕ) (ec : c ≡ getD cells (p - 1) 0) where
-    cells-back : take (2 ^ K - (p - 1)) (drop (p - 1) cells) ≡ c ∷ take (2 ^ K - p) (drop p cells)
+  -- the next position down
+  module _ (p : ℕ) (now : List ℕ) (r : SpreadFrom K cells L m f w p now) (q : ℕ) (eq : p ≡ q + 1) (h : 1 ≤ q) (c : ℕ) (ec : c ≡ getD cells q 0) where
+    cells-back : take (2 ^ K - q) (drop q cells) ≡ c ∷ take (2 ^ K - p) (drop p cells)
     cells-back =
-        let e : 2 ^ K - (p - 1) ≡ suc (2 ^ K - p) = omega (arith, r .high) in
-        rw (e, drop-back cells p (omega arith) (omega (arith, r .high, S .size, S .double)), ec)
+        let e : 2 ^ K - q ≡ suc (2 ^ K - p) = omega (arith, r .high) in
+        let s : suc q ≡ p = omega arith in
+        rw (e, drop-cons cells q 0 (omega (arith, r .high, S .size, S .double)), ec, s)
 
-    first-here : (n : ℕ) → n ≡ c → firstAt n (p - 1) (take (2 ^ K - (p - 1)) (drop (p - 1) cells)) ≡ found (p - 1)
+    first-here : (n : ℕ) → n ≡ c → firstAt n q (take (2 ^ K - q) (drop q cells)) ≡ found q
     unfolding firstAt
     first-here n e = rw (cells-back, firstAt, eq-eqb c n (sym e))
 
-    first-later : (n : ℕ) → (n ≡ c → ⊥) → firstAt n (p - 1) (take (2 ^ K - (p - 1)) (drop (p - 1) cells)) ≡ firstAt n p (take (2 ^ K - p) (drop p cells))
+    first-later : (n : ℕ) → (n ≡ c → ⊥) → firstAt n q (take (2 ^ K - q) (drop q cells)) ≡ firstAt n p (take (2 ^ K - p) (drop p cells))
     unfolding firstAt
-    first-later n e = let s : suc (p - 1) ≡ p = omega arith in rw (cells-back, firstAt, ne-eqb c n (λ d. e (sym d)), s)
+    first-later n e = let s : suc q ≡ p = omega arith in rw (cells-back, firstAt, ne-eqb c n (λ d. e (sym d)), s)
 
-    pub spread-pass : m ≤ c → SpreadFrom K cells L m f w (p - 1) now
+    pub spread-pass : m ≤ c → SpreadFrom K cells L m f w q now
     spread-pass b = record {
       len = r .len;
-      low = omega arith;
+      low = h;
       high = omega (arith, r .high);
       each = λ n k. r .each n k ∙ rw (first-later n (λ e. omega arith));
       same = r .same;
     }
 
-    pub spread-more : c < m → L + m ≤ length w → (j v : ℕ) → j ≡ L + c → v ≡ f (p - 1) → SpreadFrom K cells L m f w (p - 1) (set now j v)
+    pub spread-more : c < m → L + m ≤ length w → (v : ℕ) → v ≡ f q → SpreadFrom K cells L m f w q (set now (L + c) v)
     unfolding seen
-    spread-more b room j v ej ev = record {
-      len = length-set now j v ∙ r .len;
-      low = omega arith;
+    spread-more b room v ev = record {
+      len = length-set now (L + c) v ∙ r .len;
+      low = h;
       high = omega (arith, r .high);
       each = λ n k. split (eqb n c)
-          (λ t. let e = eqb-true n c t in let d : L + n ≡ j = omega arith in rw (first-here n e, d, getD-set-same now j v 0 (omega (arith, r .len))) ev)
-          (λ t. let e = eqb-false n c t in rw (first-later n e, getD-set-other now j (L + n) v 0 (λ d. e (omega arith))) (r .each n k));
-      same = λ i s. getD-set-other now j i v 0 (λ d. elim s [ inl a ↦ omega arith | inr a ↦ omega arith ]) ∙ r .same i s;
+          (λ t. let e = eqb-true n c t in rw (first-here n e, e, getD-set-same now (L + c) v 0 (omega (arith, r .len))) ev)
+          (λ t. let e = eqb-false n c t in rw (first-later n e, getD-set-other now (L + c) (L + n) v 0 (λ d. e (omega arith))) (r .each n k));
+      same = λ i s. getD-set-other now (L + c) i v 0 (λ d. elim s [ inl a ↦ omega arith | inr a ↦ omega arith ]) ∙ r .same i s;
     }
 
   pub spread-done : (p : ℕ) (now : List ℕ) → SpreadFrom K cells L m f w p now → p ≤ 1 → Spread K cells L m f w now

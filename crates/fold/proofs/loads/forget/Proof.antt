@@ -45,13 +45,13 @@ loop-less : tie.Need-loop-less Inv-loop μ-loop
 loop-less c = search needs
 
 loop-again : tie.Need-loop-again Inv-loop μ-loop
-loop-again c = spread-more _ _ (c .before .before .before .before .before .before .before .before .pre .stage) _ _ _ _ _ _ (c .before .before .before .before .loop .inv) (c .before .before .before .loop-test .taken) _ (c .before .wide .ensures) (c .if1 .taken) (c .before .before .before .before .before .before .before .before .pre .room) _ _ refl refl
+loop-again c = spread-more _ _ (c .before .before .before .before .before .before .before .before .pre .stage) _ _ _ _ _ _ (c .before .before .before .before .loop .inv) _ (omega arith) (omega arith) _ (c .before .wide .ensures) (c .if1 .taken) (c .before .before .before .before .before .before .before .before .pre .room) _ refl
 
 loop-less-2 : tie.Need-loop-less-2 Inv-loop μ-loop
 loop-less-2 c = search needs
 
 loop-again-2 : tie.Need-loop-again-2 Inv-loop μ-loop
-loop-again-2 c = spread-pass _ _ (c .before .before .before .before .before .before .before .before .pre .stage) _ _ _ _ _ _ (c .before .before .before .before .loop .inv) (c .before .before .before .loop-test .taken) _ (c .before .wide .ensures) (c .if1 .left)
+loop-again-2 c = spread-pass _ _ (c .before .before .before .before .before .before .before .before .pre .stage) _ _ _ _ _ _ (c .before .before .before .before .loop .inv) _ (omega arith) (omega arith) _ (c .before .wide .ensures) (c .if1 .left)
 
 same-length : tie.Need-same-length Inv-loop μ-loop
 same-length c = search needs

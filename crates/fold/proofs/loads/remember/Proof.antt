@@ -1,7 +1,7 @@
--- `fold::loads::remember` meets its contract: the pins that stand from position p on have their bits. Assumes nothing.
-use mathlib.Core.Path.{refl}
+-- `fold::loads::remember` meets its contract: the pins that stand above position width - i have their bits. Assumes nothing.
+use mathlib.Core.Path.{_≡_, refl}
 use mathlib.Core.Logic.{inl}
-use Prim.Native.Nat.{ℕ, _+_}
+use Prim.Native.Nat.{ℕ, _+_, _-_, _≤_}
 use native.Mathlib.Omega.{arith}
 use lib.ListN.{getD}
 use Rattle.fold.proofs.Laws.Cells.{width-there}
@@ -11,19 +11,22 @@ use Rattle.fold.proofs.loads.remember.Statement.{statement}
 use Rattle.fold.proofs.loads.remember.Tie as tie
 
 abbrev Inv-loop : tie.InvT-loop
-Inv-loop height cells result₀ at looks pins p₀ result p = SpreadFrom height cells looks pins (λ (q : ℕ). getD result₀ (at + q) 0) result₀ p result
+Inv-loop height cells result₀ at looks pins width i₀ result i = (1 ≤ i) × (i ≤ width) × SpreadFrom height cells looks pins (λ (q : ℕ). getD result₀ (at + q) 0) result₀ (width + 1 - i) result
 
 abbrev μ-loop : tie.MeasureT-loop
-μ-loop height cells result₀ at looks pins p₀ result p = p
+μ-loop height cells result₀ at looks pins width i₀ result i = width - i
 
 width-requires : tie.Need-width-requires Inv-loop μ-loop
 width-requires c κs = search needs
 
 loop-holds : tie.Need-loop-holds Inv-loop μ-loop
-loop-holds c = spread-none _ _ (c .before .before .before .pre .stage) _ _ _ _ _ (width-there (c .before .before .before .pre .stage) (c .width .ensures))
+loop-holds c = let e = width-there (c .before .before .before .pre .stage) (c .width .ensures) in (omega arith, omega (arith, c .before .before .before .pre .stage .low), spread-none _ _ (c .before .before .before .pre .stage) _ _ _ _ _ (omega arith))
 
 sub-p : tie.Need-sub-p Inv-loop μ-loop
 sub-p c = search needs
+
+add-i : tie.Need-add-i Inv-loop μ-loop
+add-i c = search needs
 
 mul-wide : tie.Need-mul-wide Inv-loop μ-loop
 mul-wide c = search needs
@@ -56,19 +59,19 @@ loop-less : tie.Need-loop-less Inv-loop μ-loop
 loop-less c = search needs
 
 loop-again : tie.Need-loop-again Inv-loop μ-loop
-loop-again c = spread-more _ _ (c .before .before .before .before .before .before .before .before .before .pre .stage) _ _ _ _ _ _ (c .before .before .before .before .before .loop .inv) (c .before .before .before .before .loop-test .taken) _ (c .before .before .wide .ensures) (c .before .if1 .taken) (c .before .before .before .before .before .before .before .before .before .pre .room) _ _ refl (c .before .before .before .before .before .loop .inv .same _ (inl (omega (arith, c .before .before .before .before .before .loop .inv .high, c .before .before .before .before .before .before .before .before .before .pre .inside, c .before .before .before .before .before .before .before .before .before .pre .stage .double))))
+loop-again c = let s = c .before .before .before .before .before .before .before .before .before .pre in let v = c .before .before .before .before .before .loop .inv in let w = c .before .before .before .before .before .before .width .result in let i = c .before .before .before .before .before .loop .i in let z : w + 1 - (i + 1) ≡ w - i = omega arith in let q : ℕ = w - i in (omega arith, omega arith, rw z (spread-more _ _ (s .stage) _ _ _ _ _ _ (v .2) q (omega arith) (omega arith) _ (c .before .before .wide .ensures) (c .before .if1 .taken) (s .room) _ (v .2 .same _ (inl (omega (arith, v .2 .high, s .inside, s .stage .double))))))
 
 loop-less-2 : tie.Need-loop-less-2 Inv-loop μ-loop
 loop-less-2 c = search needs
 
 loop-again-2 : tie.Need-loop-again-2 Inv-loop μ-loop
-loop-again-2 c = spread-pass _ _ (c .before .before .before .before .before .before .before .before .pre .stage) _ _ _ _ _ _ (c .before .before .before .before .loop .inv) (c .before .before .before .loop-test .taken) _ (c .before .wide .ensures) (c .if1 .left)
+loop-again-2 c = let s = c .before .before .before .before .before .before .before .before .pre in let v = c .before .before .before .before .loop .inv in let w = c .before .before .before .before .before .width .result in let i = c .before .before .before .before .loop .i in let z : w + 1 - (i + 1) ≡ w - i = omega arith in let q : ℕ = w - i in (omega arith, omega arith, rw z (spread-pass _ _ (s .stage) _ _ _ _ _ _ (v .2) q (omega arith) (omega arith) _ (c .before .wide .ensures) (c .if1 .left)))
 
 same-length : tie.Need-same-length Inv-loop μ-loop
 same-length c = search needs
 
 returns : tie.Need-returns Inv-loop μ-loop
-returns c = spread-done _ _ (c .before .before .before .before .before .pre .stage) _ _ _ _ _ _ (c .before .loop .inv) (c .loop-test .left)
+returns c = spread-done _ _ (c .before .before .before .before .before .pre .stage) _ _ _ _ _ _ (c .before .loop .inv .2) (omega arith)
 
 pub remember-spec : {M : Type 1} → statement M
 remember-spec =
@@ -79,6 +82,7 @@ remember-spec =
     width-requires
     loop-holds
     sub-p
+    add-i
     mul-wide
     shared-slice-read-wide
     wide-requires
