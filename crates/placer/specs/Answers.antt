@@ -4,7 +4,7 @@ use Prim.Native.Nat.{ℕ}
 use Rattle.rules.specs.Build as rules
 use Rattle.placer.specs.declared.Answer.{Answer}
 
--- an answer as document 01 has it
+-- an answer as the scope document has it
 unfoldable pub told : Answer → rules.Reply
 told a = record { number = a .number; stages = a .stages; words = a .words; stage = a .stage }
 

@@ -18,7 +18,7 @@ mod areas;
 mod entry;
 mod stages;
 
-// Document 01's number, the stages and words of a whole plan, the refused stage.
+// The scope document's number, the stages and words of a whole plan, the refused stage.
 pub struct Answer {
     pub number: u32,
     pub stages: usize,
