@@ -3,4 +3,3 @@ pub mod Loads
 pub mod Parts
 pub mod Stages
 pub mod Checks
-pub mod Numbers

@@ -1,4 +1,4 @@
-// Folds the bench examples for all leaf bits, and compares every filled cell with the graph's own value. Then plans that no placer
+// Folds the bench examples for all leaf bits (31 leaves: 64 patterns), and compares every filled cell with the graph's own value. Then plans that no placer
 // makes, and refusals. A plan is written as its filled cells, position and pin in turn.
 mod values;
 
