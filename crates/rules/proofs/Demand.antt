@@ -2,7 +2,7 @@
 use Prim.Native.Nat.{ℕ, zero, suc, _+_, _-_, _^_, _≤_, _<_}
 use mathlib.Core.Path.{_≡_, refl, sym, _∙_}
 use mathlib.Core.Logic.{_⊎_, inl, inr, _≢_}
-use mathlib.Core.Bool.{Bool, true}
+use mathlib.Core.Bool.{Bool, true, false}
 use mathlib.Core.List.{List, [], _∷_, _++_}
 use native.Mathlib.Omega.{arith}
 use lib.Dec.{ltb, lt→ltb}
@@ -16,6 +16,7 @@ use Rattle.rules.specs.Traversal.{over, Setting, setting, levelAt}
 use Rattle.rules.specs.Placing.{filledPlan, tree}
 use Rattle.rules.specs.Ending.{stage, oneStage}
 use Rattle.rules.specs.Build.{Stage, refusal, whole, more, stages, build}
+use Rattle.rules.specs.States.{state, after}
 use Rattle.rules.specs.Depth.{depth, remaining}
 use Rattle.rules.specs.Fold.{bitAt, isLeaf, firstLoad, loadFrom}
 use Rattle.rules.proofs.Lists.Members.{In, split, T→true, in-cons, in-nil, in-append-right, in-insertAll, in-insertAll-old, insertAll-in, keep-in, in-keep}
@@ -23,12 +24,14 @@ use Rattle.rules.proofs.Walk.Levels.{over-least, over-above}
 use Rattle.rules.proofs.Walk.Reverse.{Sub, below-in, below-sub}
 use Rattle.rules.proofs.Needed.Needs.{Sound, Graph, setting-sound}
 use Rattle.rules.proofs.Stage.Last.{Once, nobody}
+use Rattle.rules.proofs.Stage.Flat.{blank-replicate}
 use Rattle.rules.proofs.Stage.Staged.{Ended, the-end, stage-holds, remaining-least, remaining-above}
-use Rattle.rules.proofs.Stage.Depth.{Ready, still-ready, stage-cases, After, after, rooms-suffice}
+use Rattle.rules.proofs.Stage.Depth.{Ready, still-ready, stage-cases, shallow, rooms-suffice}
+use Rattle.rules.proofs.Build.Lengths.{Sizes, sizes}
 use Rattle.rules.proofs.Tree.Invariant.{final}
 use Rattle.rules.proofs.Tree.Loads.{Fine, fine-kept, fine-first, ltb-true, ltb-false}
 use Rattle.rules.proofs.Fold.Folds.{value-own}
-use Rattle.rules.proofs.Fold.Whole.{Folded, folded, level-zero}
+use Rattle.rules.proofs.Fold.Whole.{Folded, folded, level-zero, zero-kept}
 use Rattle.rules.proofs.Written.Words.{once-insertAll}
 use Rattle.rules.proofs.Written.Writes.{Written, all-written, more-whole}
 
@@ -99,9 +102,16 @@ module _ (K : ℕ) (g : List Node) (given bits : List ℕ) where
   abbrev pub LoadsRight : (ℕ → Type 0) → List ℕ → Type 0
   LoadsRight held pl = (q : ℕ) → 2 ^ K ≤ q → filled (getD pl q empty) ≡ true → held (getD pl q empty)
 
+  pub record StageRight (load : ℕ → Bool) (held : ℕ → Type 0) (pl : List ℕ) : Type 0 where
+    pub size : length pl ≡ 2 ^ (K + 1)
+    pub zeroth : filled (getD pl 0 empty) ≡ false
+    pub names : (q : ℕ) → filled (getD pl q empty) ≡ true → getD pl q empty < length g
+    pub folds : FoldsRight load pl
+    pub loads : LoadsRight held pl
+
   abbrev pub Right : (ℕ → Bool) → (ℕ → Type 0) → List Stage → Type 0
   Right load held [] = Unit {0}
-  Right load held (s ∷ ss) = FoldsRight load (s .plan) × LoadsRight held (s .plan) × Right (loadFrom K g (s .plan) load) (λ n. In n (tree K (s .plan))) ss
+  Right load held (s ∷ ss) = StageRight load held (s .plan) × Right (loadFrom K g (s .plan) load) (λ n. In n (tree K (s .plan))) ss
 
 module _ (K : ℕ) (g : List Node) (ok : Valid g) (tall : 6 ≤ K) (small : length g ≤ empty) (given bits : List ℕ) where
   abbrev pub r : ℕ → ℕ
@@ -121,7 +131,7 @@ module _ (K : ℕ) (g : List Node) (ok : Valid g) (tall : 6 ≤ K) (small : leng
   one-right : (done waiting : List ℕ) → Ready g r waiting → Sub given done → (load : ℕ → Bool) (held : ℕ → Type 0) →
       ((n : ℕ) → In n (setting K g done waiting .seen) → levelAt (setting K g done waiting) n ≡ 0 → (load n ≡ value (length g) g given bits n) × held n) →
       (room : ℕ) (plan2 words realised waiting2 : List ℕ) → oneStage K g done waiting room ≡ stage plan2 words realised waiting2 →
-      FoldsRight K g given bits load plan2 × LoadsRight K g given bits held plan2 × Ready g r waiting2
+      StageRight K g given bits load held plan2 × Ready g r waiting2
       × ((n : ℕ) → In n (setting K g (realised ++ done) waiting2 .seen) → levelAt (setting K g (realised ++ done) waiting2) n ≡ 0 → (loadFrom K g plan2 load n ≡ value (length g) g given bits n) × In n (tree K plan2))
   unfolding setting
   one-right done waiting R some load held right room plan2 words realised waiting2 d =
@@ -132,8 +142,13 @@ module _ (K : ℕ) (g : List Node) (ok : Valid g) (tall : 6 ≤ K) (small : leng
       let S2 : Sound (setting K g (realised ++ done) waiting2) r (length g) = setting-sound K g r G (realised ++ done) waiting2 (R2 .bounded) in
       let fine = final X r (length g) S low (Fine X r (length g) S) (fine-kept X r (length g) S) (fine-first X r (length g) S (2 ^ (K + 1))) plan2 (E .rested) in
       let F : Folded K g r G tall small given bits plan2 realised load = folded K g r G tall small given bits done waiting R some room plan2 words realised waiting2 d load (λ n i z. right n i z .0) in (
-        F .cells,
-        λ q b k. right (getD plan2 q empty) (fine .1 q k .0) (fine .1 q k .1 b) .1,
+        record {
+          size = fine .0;
+          zeroth = final X r (length g) S low (λ pl. filled (getD pl 0 empty) ≡ false) (zero-kept X) (blank-replicate (2 ^ (K + 1)) 0) plan2 (E .rested) .1;
+          names = λ q k. S .bound (getD plan2 q empty) (fine .1 q k .0);
+          folds = F .cells;
+          loads = λ q b k. right (getD plan2 q empty) (fine .1 q k .0) (fine .1 q k .1 b) .1;
+        },
         R2,
         λ n i z.
             let h : In n realised = stage-holds K g r G low small done waiting (R .bounded) room plan2 words realised waiting2 d n (elim (S2 .visited .new n i) [ inl a ↦ in-nil n a | inr a ↦ a ]) (sym (S2 .level n i) ∙ z) in
@@ -147,12 +162,12 @@ module _ (K : ℕ) (g : List Node) (ok : Valid g) (tall : 6 ≤ K) (small : leng
   rights zero k done [] R some load held right room ss e = let z : ss ≡ [] = cc in rw z tt
   rights zero k done (w ∷ ws) R some load held right room ss e = absurd (let z : _≡_ {A = ℕ} 0 1 = cc in omega arith)
   rights (suc rooms) k done [] R some load held right room ss e = let z : ss ≡ [] = cc in rw z tt
-  rights (suc rooms) k done (w ∷ ws) R some load held right room ss e = stage-cases K g r G tall small (oneStage K g done (w ∷ ws) room)
+  rights (suc rooms) k done (w ∷ ws) R some load held right room ss e = stage-cases (oneStage K g done (w ∷ ws) room)
       (λ n d. absurd (let c : refusal n k ≡ whole ss = rw (d, stages) at e in let z : _≡_ {A = ℕ} 0 1 = cc in omega arith))
       (λ plan2 words realised waiting2 d.
       let m = more-whole K g r G tall small (record { plan = plan2; words = words }) (stages K g rooms (suc k) (realised ++ done) waiting2 (room - length words)) ss (rw (d, stages) at e) in
       let t = one-right done (w ∷ ws) R some load held right room plan2 words realised waiting2 d in
-      rw (m .2) (t .0, t .1, rights rooms (suc k) (realised ++ done) waiting2 (t .2) (λ q i. in-append-right q realised done (some q i)) (loadFrom K g plan2 load) (λ n. In n (tree K plan2)) (t .3) (room - length words) (m .0) (m .1)))
+      rw (m .2) (t .0, rights rooms (suc k) (realised ++ done) waiting2 (t .1) (λ q i. in-append-right q realised done (some q i)) (loadFrom K g plan2 load) (λ n. In n (tree K plan2)) (t .2) (room - length words) (m .0) (m .1)))
 
   -- the build
   module _ (groups : List Group) (named : (q : ℕ) → Ends q groups → q < length g) where
@@ -173,8 +188,11 @@ module _ (K : ℕ) (g : List Node) (ok : Valid g) (tall : 6 ≤ K) (small : leng
     given-less = remaining-least (length g) g given waiting D (λ x i. omega (arith, depth-sub g [] given (λ q e. in-nil q e) (length g) x, remaining-above (length g) g [] waiting x i))
 
     -- if pins still wait after s stages, s is at most D and what remains is at most D - s deep
-    pub depth-falls : (room : ℕ) {s : ℕ} {done2 waiting2 : List ℕ} {room2 : ℕ} → After K g r G tall small given waiting room s done2 waiting2 room2 → waiting2 ≢ [] → (s ≤ D) × (remaining (length g) g done2 waiting2 ≤ D - s)
-    depth-falls room a n = let h = after K g r G tall small given waiting ready room a in (omega (arith, h .2 n, given-less), omega (arith, h .1, given-less))
+    pub depth-falls : (s : ℕ) (done2 waiting2 : List ℕ) (room2 : ℕ) → after K g given groups s ≡ state done2 waiting2 room2 → waiting2 ≢ [] → (s ≤ D) × (remaining (length g) g done2 waiting2 ≤ D - s)
+    unfolding after
+    depth-falls s done2 waiting2 room2 e n = split (reservable K groups)
+        (λ c. let h = shallow K g r G tall small s given waiting ready (wordLimit K - reserved groups) (rw (c, after) at e) in (omega (arith, h .few n, given-less), omega (arith, h .depth, given-less)))
+        (λ c. absurd (let d = rw (c, after) at e in let z : _≡_ {A = ℕ} 0 1 = cc in omega arith))
 
     -- with D + 1 rooms a build ends in a whole plan, or in 6, 7 or 8
     pub rooms-enough : (rooms n j : ℕ) → D < rooms → build K g given groups rooms ≡ refusal n j → (n ≡ 6) ⊎ ((n ≡ 7) ⊎ (n ≡ 8))
@@ -186,6 +204,9 @@ module _ (K : ℕ) (g : List Node) (ok : Valid g) (tall : 6 ≤ K) (small : leng
     whole-stages : (rooms : ℕ) (ss : List Stage) → build K g given groups rooms ≡ whole ss → stages K g rooms 1 given waiting (wordLimit K - reserved groups) ≡ whole ss
     unfolding build
     whole-stages rooms ss e = split (reservable K groups) (λ c. rw (c, build) at e) (λ c. absurd (let d : refusal 6 0 ≡ whole ss = rw (c, build) at e in let z : _≡_ {A = ℕ} 0 1 = cc in omega arith))
+
+    pub whole-sizes : (rooms : ℕ) (ss : List Stage) → build K g given groups rooms ≡ whole ss → Sizes K g r G tall small rooms (wordLimit K - reserved groups) ss
+    whole-sizes rooms ss e = sizes K g r G tall small rooms 1 given waiting ready (wordLimit K - reserved groups) ss (whole-stages rooms ss e)
 
     -- a whole plan folds right, and loads right: first leaves and given pins, then pins held above level 0 one stage before
     pub whole-right : (rooms : ℕ) (ss : List Stage) → build K g given groups rooms ≡ whole ss → Right K g given bits (firstLoad g given bits) (λ n. In n given ⊎ (getD g n leaf ≡ leaf)) ss

@@ -1,3 +1,4 @@
 pub mod Folds
 pub mod Whole
 pub mod Bits
+pub mod Flat

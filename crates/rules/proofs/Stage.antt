@@ -4,5 +4,7 @@ pub mod Staged
 pub mod Last
 pub mod Flat
 pub mod Fuel
+pub mod Over
 pub mod Depth
 pub mod Branches
+pub mod Refusals

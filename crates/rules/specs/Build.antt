@@ -2,7 +2,7 @@
 use Prim.Native.Nat.{ℕ, zero, suc, _-_}
 use mathlib.Core.Bool.{Bool, true, false}
 use mathlib.Core.List.{List, [], _∷_, _++_}
-use lib.ListN.{length, replicate}
+use lib.ListN.{length, getD, replicate}
 use Rattle.rules.specs.Lists.{padded, laidOver}
 use Rattle.rules.specs.Cells.{empty, wordLimit, rooms}
 use Rattle.rules.specs.Graph.{Node, graphOf}
@@ -25,6 +25,11 @@ unfoldable pub more : Stage → Answer → Answer
 more s (refusal n k) = refusal n k
 more s (whole ss) = whole (s ∷ ss)
 
+-- some stages in front of an answer
+unfoldable pub before : List Stage → Answer → Answer
+before [] a = a
+before (s ∷ ss) a = more s (before ss a)
+
 -- stage k and what follows it, with r rooms left and `room` words that may still be written
 unfoldable pub stages : ℕ → List Node → ℕ → ℕ → List ℕ → List ℕ → ℕ → Answer
 stages K g zero k done [] room = whole []
@@ -44,6 +49,10 @@ build K g given groups rooms =
       | true ↦ stages K g rooms 1 given (waitingOf groups []) (wordLimit K - reserved groups)
       | false ↦ refusal 6 0
     ]
+
+-- stage i of a plan, from 0; past its end a stage of nothing
+unfoldable pub stageOf : List Stage → ℕ → Stage
+stageOf ss i = getD ss i (record { plan = []; words = [] })
 
 -- the cells, the words and the counts of words, stage after stage
 unfoldable pub cellsOf : List Stage → List ℕ

@@ -8,6 +8,8 @@ pub mod Traversal
 pub mod Placing
 pub mod Ending
 pub mod Build
+pub mod States
+pub mod Capacity
 pub mod Depth
 pub mod Fold
 pub mod Merge

@@ -89,7 +89,7 @@ module _ (K : ℕ) (g : List Node) (r : ℕ → ℕ) (G : Graph g r) (tall : 6 �
   sizes zero k done [] R room ss e = none 0 room ss (cc)
   sizes zero k done (w ∷ ws) R room ss e = absurd (let z : _≡_ {A = ℕ} 0 1 = cc in omega arith)
   sizes (suc rooms) k done [] R room ss e = none (suc rooms) room ss (cc)
-  sizes (suc rooms) k done (w ∷ ws) R room ss e = stage-cases K g r G tall small (oneStage K g done (w ∷ ws) room)
+  sizes (suc rooms) k done (w ∷ ws) R room ss e = stage-cases (oneStage K g done (w ∷ ws) room)
       (λ n d. absurd (let c : refusal n k ≡ whole ss = rw (d, stages) at e in let z : _≡_ {A = ℕ} 0 1 = cc in omega arith))
       (λ plan2 words realised waiting2 d.
       let m = more-whole K g r G tall small (record { plan = plan2; words = words }) (stages K g rooms (suc k) (realised ++ done) waiting2 (room - length words)) ss (rw (d, stages) at e) in

@@ -1,43 +1,39 @@
 -- Demand 3, depth: after s stages what is left is at most D - s deep, and D + 1 rooms are enough. Assumes nothing.
 use Prim.Native.Nat.{ℕ, zero, suc, pred, _+_, _-_, _*_, _/_, _≤_, _<_, zero-le}
-use mathlib.Core.Path.{_≡_, refl}
+use mathlib.Core.Path.{_≡_, refl, sym, _∙_}
 use mathlib.Core.Logic.{_⊎_, inl, inr, _≢_}
-use mathlib.Core.Bool.{_&&_}
 use mathlib.Core.List.{List, [], _∷_, _++_}
 use native.Mathlib.Omega.{arith}
-use lib.Dec.{eqb, ltb, leb}
+use lib.Dec.{eqb}
 use lib.ListN.{length}
 use Rattle.rules.specs.Lists.{nothing}
-use Rattle.rules.specs.Cells.{empty, rowAt, row, firstEmpty}
+use Rattle.rules.specs.Cells.{empty, rowAt}
 use Rattle.rules.specs.Graph.{Node}
-use Rattle.rules.specs.Traversal.{Setting, setting}
+use Rattle.rules.specs.Traversal.{setting}
 use Rattle.rules.specs.Placing.{filledPlan}
-use Rattle.rules.specs.Ending.{rest, written, lastStage, moreWords, Stage?, refused, stage, close, ending, finish, oneStage}
+use Rattle.rules.specs.Ending.{Stage?, refused, stage, oneStage}
 use Rattle.rules.specs.Build.{Stage, Answer, refusal, whole, more, stages}
-use Rattle.rules.specs.Depth.{depth, remaining}
+use Rattle.rules.specs.States.{state, afterFrom}
+use Rattle.rules.specs.Depth.{remaining}
 use Rattle.rules.proofs.Lists.Members.{In, split, eqb-true, eqb-false}
 use Rattle.rules.proofs.Needed.Needs.{Graph, setting-sound}
-use Rattle.rules.proofs.Stage.Puts.{cell}
-use Rattle.rules.proofs.Stage.Staged.{rest-cases, half-height, remaining-above, remaining-falls, waits-less, the-end}
-use Rattle.rules.proofs.Stage.Last.{Once, one, once-swapOutAll}
+use Rattle.rules.proofs.Stage.Staged.{half-height, remaining-above, remaining-falls, waits-less, the-end}
+use Rattle.rules.proofs.Stage.Over.{stage-over, seven-or-eight}
+use Rattle.rules.proofs.Stage.Last.{Once, once-swapOutAll}
 use Rattle.rules.proofs.Stage.Flat.{none-wait}
 
--- a stage is refused with 7 or 8 only
-pub seven-or-eight : (X : Setting) (room : ℕ) (pl : List ℕ) (n : ℕ) → finish X room pl ≡ refused n → (n ≡ 7) ⊎ (n ≡ 8)
-unfolding finish ending close
-seven-or-eight X room pl n e = split (ltb room (length (written X pl .words)))
-    (λ b. let d : refused 7 ≡ refused n = rw (b, finish) at e in inl (cc))
-    (λ b. rest-cases (rest X pl)
-    (λ r. let d : refused 8 ≡ refused n = rw (b, r, finish) at e in inr (cc))
-    (λ pl2 r. cell (firstEmpty 0 (row (X .K) 1 pl2))
-    (λ c. let d : refused 8 ≡ refused n = rw (b, r, c, finish) at e in inr (cc))
-    (λ k c. split (lastStage X pl && leb (length (written X pl .words) + length (moreWords X pl pl2)) room)
-    (λ a. absurd (let d : ending X room pl pl2 ≡ refused n = rw (b, r, c, finish) at e in let z = rw (a, ending) at d in let y : _≡_ {A = ℕ} 0 1 = cc z in omega arith))
-    (λ a. absurd (let d : ending X room pl pl2 ≡ refused n = rw (b, r, c, finish) at e in let z = rw (a, ending) at d in let y : _≡_ {A = ℕ} 0 1 = cc z in omega arith)))))
+pub stage-cases : {P : Type 0} (x : Stage?) → ((n : ℕ) → x ≡ refused n → P) → ((plan2 words realised waiting2 : List ℕ) → x ≡ stage plan2 words realised waiting2 → P) → P
+stage-cases (refused n) f h = f n refl
+stage-cases (stage a b c d) f h = h a b c d refl
 
 pub multiple : (K : ℕ) → 6 ≤ K → rowAt K 1 ≡ 32 * (rowAt K 1 / 32)
 unfolding rowAt
 multiple K h = let e : K - 1 ≡ suc (suc (suc (suc (suc (K - 6))))) = omega arith in rw e (omega arith)
+
+pub more-refused : (s : Stage) (a : Answer) (n k : ℕ) → more s a ≡ refusal n k → a ≡ refusal n k
+unfolding more
+more-refused s (refusal m j) n k e = e
+more-refused s (whole ss) n k e = absurd (let z : _≡_ {A = ℕ} 0 1 = cc in omega arith)
 
 -- a state between stages
 pub record Ready (g : List Node) (r : ℕ → ℕ) (waiting : List ℕ) : Type 0 where
@@ -64,34 +60,42 @@ module _ (K : ℕ) (g : List Node) (r : ℕ → ℕ) (G : Graph g r) (tall : 6 �
     ends z = none-wait (setting K g done waiting) r (length g) (setting-sound K g r G done waiting (R .bounded)) (half-height K low) small (multiple K tall) (R .once)
         (λ x i. omega (arith, remaining-above (length g) g done waiting x i)) plan2 realised waiting2 (the-end K g r G low small done waiting (R .bounded) room plan2 words realised waiting2 e)
 
-  -- s stages completed, one after the other
-  pub data After (done waiting : List ℕ) (room : ℕ) : ℕ → List ℕ → List ℕ → ℕ → Type 0 where
-    at-first : After done waiting room 0 done waiting room
-    then : {s : ℕ} {done1 waiting1 : List ℕ} {room1 : ℕ} {plan2 words realised waiting2 : List ℕ} → After done waiting room s done1 waiting1 room1 →
-        oneStage K g done1 waiting1 room1 ≡ stage plan2 words realised waiting2 → After done waiting room (suc s) (realised ++ done1) waiting2 (room1 - length words)
+  -- what is left after s completed stages is s less deep
+  pub record Shallow (s : ℕ) (done waiting done2 waiting2 : List ℕ) : Type 0 where
+    pub ready : Ready g r waiting2
+    pub depth : remaining (length g) g done2 waiting2 ≤ remaining (length g) g done waiting - s
+    pub few : waiting2 ≢ [] → s ≤ remaining (length g) g done waiting
 
-  module _ (done waiting : List ℕ) (R : Ready g r waiting) (room : ℕ) where
-    pub after : {s : ℕ} {done2 waiting2 : List ℕ} {room2 : ℕ} → After done waiting room s done2 waiting2 room2 →
-        Ready g r waiting2 × (remaining (length g) g done2 waiting2 ≤ remaining (length g) g done waiting - s) × (waiting2 ≢ [] → s ≤ remaining (length g) g done waiting)
-    after at-first = (R, omega arith, λ n. zero-le)
-    after (then {s = s} {done1 = done1} {waiting1 = waiting1} {room1 = room1} {plan2 = plan2} {words = words} {realised = realised} {waiting2 = waiting2} a e) =
-        let h = after a in
-        let f : remaining (length g) g (realised ++ done1) waiting2 ≤ pred (remaining (length g) g done1 waiting1) = falls done1 waiting1 (h .0) room1 plan2 words realised waiting2 e in (
-          still-ready done1 waiting1 (h .0) room1 plan2 words realised waiting2 e,
-          omega (arith, h .1),
-          λ n. split (eqb (remaining (length g) g done1 waiting1) 0)
-              (λ b. absurd (n (ends done1 waiting1 (h .0) room1 plan2 words realised waiting2 e (eqb-true _ 0 b))))
-              (λ b. omega (arith, h .1, eqb-false (remaining (length g) g done1 waiting1) 0 b)),
-        )
+  shallow-step : {s : ℕ} {done waiting done2 waiting2 done3 waiting3 : List ℕ} → remaining (length g) g done2 waiting2 ≤ pred (remaining (length g) g done waiting) →
+      (remaining (length g) g done waiting ≡ 0 → waiting3 ≡ []) → Shallow s done2 waiting2 done3 waiting3 → Shallow (suc s) done waiting done3 waiting3
+  shallow-step {done = done} {waiting = waiting} f z h = record {
+    ready = h .ready;
+    depth = omega (arith, h .depth);
+    few = λ n. split (eqb (remaining (length g) g done waiting) 0)
+        (λ b. absurd (n (z (eqb-true _ 0 b))))
+        (λ b. omega (arith, h .few n, eqb-false (remaining (length g) g done waiting) 0 b));
+  }
 
-  more-refused : (s : Stage) (a : Answer) (n k : ℕ) → more s a ≡ refusal n k → a ≡ refusal n k
-  unfolding more
-  more-refused s (refusal m j) n k e = e
-  more-refused s (whole ss) n k e = absurd (let z : _≡_ {A = ℕ} 0 1 = cc in omega arith)
+  -- where no pin waits no stage follows
+  none-after : (s : ℕ) (done waiting : List ℕ) (room : ℕ) {done2 waiting2 : List ℕ} {room2 : ℕ} → waiting ≡ [] → afterFrom K g s done waiting room ≡ state done2 waiting2 room2 → waiting2 ≡ []
+  unfolding afterFrom
+  none-after zero done waiting room {waiting2 = v} z e = let d : waiting ≡ v = cc in sym d ∙ z
+  none-after (suc s) done [] room z e = absurd (let y : _≡_ {A = ℕ} 0 1 = cc in omega arith)
+  none-after (suc s) done (w ∷ ws) room z e = absurd (let y : _≡_ {A = ℕ} 0 1 = cc in omega arith)
 
-  pub stage-cases : {P : Type 0} (x : Stage?) → ((n : ℕ) → x ≡ refused n → P) → ((plan2 words realised waiting2 : List ℕ) → x ≡ stage plan2 words realised waiting2 → P) → P
-  stage-cases (refused n) f h = f n refl
-  stage-cases (stage a b c d) f h = h a b c d refl
+  pub shallow : (s : ℕ) (done waiting : List ℕ) → Ready g r waiting → (room : ℕ) {done2 waiting2 : List ℕ} {room2 : ℕ} → afterFrom K g s done waiting room ≡ state done2 waiting2 room2 → Shallow s done waiting done2 waiting2
+  unfolding afterFrom
+  shallow zero done waiting R room {done2} {waiting2} e =
+      let d : done ≡ done2 = cc in
+      let w : waiting ≡ waiting2 = cc in
+      rw (← d, ← w) (record { ready = R; depth = omega arith; few = λ n. zero-le })
+  shallow (suc s) done [] R room e = absurd (let z : _≡_ {A = ℕ} 0 1 = cc in omega arith)
+  shallow (suc s) done (w ∷ ws) R room e = stage-cases (oneStage K g done (w ∷ ws) room)
+      (λ n d. absurd (let c = rw (d, afterFrom) at e in let z : _≡_ {A = ℕ} 0 1 = cc in omega arith))
+      (λ plan2 words realised waiting2 d.
+      let c = rw (d, afterFrom) at e in
+      shallow-step (falls done (w ∷ ws) R room plan2 words realised waiting2 d) (λ z. none-after s (realised ++ done) waiting2 (room - length words) (ends done (w ∷ ws) R room plan2 words realised waiting2 d z) c)
+      (shallow s (realised ++ done) waiting2 (still-ready done (w ∷ ws) R room plan2 words realised waiting2 d) (room - length words) c))
 
   -- with more rooms than the depth that is left, the rooms are enough
   pub rooms-suffice : (rooms k : ℕ) (done waiting : List ℕ) → Ready g r waiting → (room : ℕ) → (waiting ≡ []) ⊎ (remaining (length g) g done waiting < rooms) →
@@ -103,7 +107,7 @@ module _ (K : ℕ) (g : List Node) (r : ℕ → ℕ) (G : Graph g r) (tall : 6 �
   rooms-suffice (suc rooms) k done [] R room h n j e = absurd (let z : _≡_ {A = ℕ} 0 1 = cc in omega arith)
   rooms-suffice (suc rooms) k done (w ∷ ws) R room (inl a) n j e = absurd (let z : _≡_ {A = ℕ} 0 1 = cc in omega arith)
   rooms-suffice (suc rooms) k done (w ∷ ws) R room (inr a) n j e = stage-cases (oneStage K g done (w ∷ ws) room)
-      (λ m d. let c : refusal m k ≡ refusal n j = rw (d, stages) at e in let b : n ≡ m = cc in rw b (seven-or-eight (setting K g done (w ∷ ws)) room (filledPlan (setting K g done (w ∷ ws))) m d))
+      (λ m d. let c : refusal m k ≡ refusal n j = rw (d, stages) at e in let b : n ≡ m = cc in rw b (seven-or-eight (setting K g done (w ∷ ws)) room (filledPlan (setting K g done (w ∷ ws))) (stage-over (setting K g done (w ∷ ws)) room (filledPlan (setting K g done (w ∷ ws))) m d)))
       (λ plan2 words realised waiting2 d.
       let f : remaining (length g) g (realised ++ done) waiting2 ≤ pred (remaining (length g) g done (w ∷ ws)) = falls done (w ∷ ws) R room plan2 words realised waiting2 d in
       rooms-suffice rooms (suc k) (realised ++ done) waiting2 (still-ready done (w ∷ ws) R room plan2 words realised waiting2 d) (room - length words)

@@ -99,7 +99,7 @@ module _ (K : ℕ) (g : List Node) (r : ℕ → ℕ) (G : Graph g r) (tall : 6 �
   all-written zero k done [] R room ss e q i = in-nil q i
   all-written zero k done (w ∷ ws) R room ss e q i = absurd (let z : _≡_ {A = ℕ} 0 1 = cc in omega arith)
   all-written (suc rooms) k done [] R room ss e q i = in-nil q i
-  all-written (suc rooms) k done (w ∷ ws) R room ss e q i = stage-cases K g r G tall small (oneStage K g done (w ∷ ws) room)
+  all-written (suc rooms) k done (w ∷ ws) R room ss e q i = stage-cases (oneStage K g done (w ∷ ws) room)
       (λ n d. absurd (let c : refusal n k ≡ whole ss = rw (d, stages) at e in let z : _≡_ {A = ℕ} 0 1 = cc in omega arith))
       (λ plan2 words realised waiting2 d.
       let s : Stage = record { plan = plan2; words = words } in

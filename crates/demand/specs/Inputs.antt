@@ -1,0 +1,47 @@
+-- What the theorems of demand 3 are about: an input that passes the checks 1 to 5, and what the rules make of it. Assumes nothing.
+use Prim.Native.Nat.{ℕ}
+use mathlib.Core.Path.{_≡_}
+use mathlib.Core.Bool.{Bool}
+use mathlib.Core.List.{List}
+use lib.ListN.{length}
+use Rattle.rules.specs.Graph.{Node, graphOf, value}
+use Rattle.rules.specs.Records.{Group, groupsOf}
+use Rattle.rules.specs.Checks.{refusalOf}
+use Rattle.rules.specs.Build as build
+use Rattle.rules.specs.States as states
+use Rattle.rules.specs.Depth as depth
+
+-- `sized` says whether every lent area has a right size
+pub record Input : Type 0 where
+  pub K : ℕ
+  pub sized : Bool
+  pub gates : List ℕ
+  pub given : List ℕ
+  pub records : List ℕ
+  pub passes : refusalOf K sized gates given records ≡ 0
+
+abbrev pub graph : Input → List Node
+graph I = graphOf (I .gates)
+
+abbrev pub groups : Input → List Group
+groups I = groupsOf (I .records)
+
+-- the longest chain of gates under any endpoint pin
+abbrev pub D : Input → ℕ
+D I = depth.deepest (graph I) (groups I)
+
+-- how many gates deep some pins are, down to leaves and to pins that are done
+abbrev pub remaining : Input → (done waiting : List ℕ) → ℕ
+remaining I done waiting = depth.remaining (length (graph I)) (graph I) done waiting
+
+-- the build with so many rooms
+abbrev pub built : Input → ℕ → build.Answer
+built I rooms = build.build (I .K) (graph I) (I .given) (groups I) rooms
+
+-- where it stands after s completed stages
+abbrev pub after : Input → ℕ → states.State
+after I s = states.after (I .K) (graph I) (I .given) (groups I) s
+
+-- the graph value of a pin, for any leaf and given bits
+abbrev pub graphValue : Input → List ℕ → ℕ → Bool
+graphValue I bits p = value (length (graph I)) (graph I) (I .given) bits p
