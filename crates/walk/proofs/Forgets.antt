@@ -11,13 +11,13 @@ use lib.Dec.{eqb}
 use lib.ListN.{length, getD, set, drop, replicate, length-set, drop-of-length-le}
 use lib.Seq.{drop-cons}
 use Rattle.rules.specs.Lists.{mem}
-use Rattle.rules.proofs.Lists.Members.{Out, true-false, eqb-true, in-reverse}
+use Rattle.rules.proofs.Lists.Members.{Out, true-false, eqb-true, in-reverse, or-true}
 use Rattle.rules.proofs.Walk.Reverse.{out-sub}
 use Rattle.columns.specs.Area.{Frame, among, col, put}
 use Rattle.columns.specs.Fields.{ORDER, LEVEL, STARTS, ENDS, REVERSE, LISTED, SPARE}
 use Rattle.columns.specs.Lists.{list, bit, Holds, Marks, Clear}
 use Rattle.columns.proofs.Area.Columns.{getD-col, at-set}
-use Rattle.columns.proofs.Area.Frames.{or-true, frame-none, frame-then, frame-more, frame-set, frame-front, frame-room}
+use Rattle.columns.proofs.Area.Frames.{frame-none, frame-then, frame-more, frame-set, frame-front, frame-room}
 use Rattle.columns.proofs.Lists.Entries.{frame-list, holds-at, holds-pin, holds-self, holds-frame}
 use Rattle.columns.proofs.Lists.Clears.{zero-stays, clear-frame, front-clear}
 use Rattle.walk.specs.Stands.{Context, Reversed, Set}

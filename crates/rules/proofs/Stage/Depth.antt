@@ -7,19 +7,18 @@ use mathlib.Core.List.{List, [], _∷_, _++_}
 use native.Mathlib.Omega.{arith}
 use lib.Dec.{eqb, ltb, leb}
 use lib.ListN.{length}
-use Rattle.rules.specs.Lists.{nothing}
 use Rattle.rules.specs.Cells.{empty, rowAt, row, firstEmpty}
 use Rattle.rules.specs.Graph.{Node}
 use Rattle.rules.specs.Traversal.{Setting, setting}
 use Rattle.rules.specs.Placing.{filledPlan}
 use Rattle.rules.specs.Ending.{rest, written, lastStage, moreWords, Stage?, refused, stage, close, ending, finish, oneStage}
 use Rattle.rules.specs.Build.{Stage, Answer, refusal, whole, more, stages}
-use Rattle.rules.specs.Depth.{depth, remaining}
+use Rattle.rules.specs.Depth.{remaining}
 use Rattle.rules.proofs.Lists.Members.{In, split, eqb-true, eqb-false}
 use Rattle.rules.proofs.Needed.Needs.{Graph, setting-sound}
 use Rattle.rules.proofs.Stage.Puts.{cell}
 use Rattle.rules.proofs.Stage.Staged.{rest-cases, half-height, remaining-above, remaining-falls, waits-less, the-end}
-use Rattle.rules.proofs.Stage.Last.{Once, one, once-swapOutAll}
+use Rattle.rules.proofs.Stage.Last.{Once, once-swapOutAll}
 use Rattle.rules.proofs.Stage.Flat.{none-wait}
 
 -- a stage is refused with 7 or 8 only
