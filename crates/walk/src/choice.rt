@@ -2,7 +2,6 @@
 use columns::CELLS;
 use columns::RANKED;
 use columns::get;
-ghost use mathlib.Core.Path.{_≡_};
 ghost use Rattle.walk.specs.Needed.{SomePlan, EveryPlan};
 ghost use Rattle.walk.specs.Choice.{ChooseAt, Chosen};
 
