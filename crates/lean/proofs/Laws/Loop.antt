@@ -27,7 +27,7 @@ use Rattle.rules.proofs.Lean.Lean.{Going, going-skip, going-placed, going-first
 use Rattle.rules.proofs.Lean.Turns.{recount-bound, recount-count, recount-full, onward-end, onward-skip, onward-no-cell, onward-no-room, onward-placed, onward-level}
 use Rattle.columns.specs.Fields.{CELLS, RANKED, STARTS, ENDS, MARK, ONES, PINS}
 use Rattle.columns.specs.Lists.{Marks}
-use Rattle.walk.specs.Needed.{NeededAt, Needed}
+use Rattle.needed.specs.Needed.{NeededAt, Needed}
 use Rattle.columns.proofs.Area.Frames.{frame-none, frame-then, frame-more, frame-col, frame-room}
 use Rattle.columns.proofs.Lists.Entries.{holds-frame}
 use Rattle.columns.proofs.Lists.Marks.{marks-frame}

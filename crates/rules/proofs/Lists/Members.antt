@@ -71,6 +71,10 @@ out-head p x xs e d = true-false (subst (λ (y : ℕ). In p (y ∷ xs)) d (in-he
 pub out-tail : (p x : ℕ) (xs : List ℕ) → Out p (x ∷ xs) → Out p xs
 out-tail p x xs e = split (mem p xs) (λ d. true-false (in-there p x xs d) e) (λ d. d)
 
+pub mem-other : (q p : ℕ) (xs : List ℕ) → q ≢ p → mem q (p ∷ xs) ≡ mem q xs
+unfolding mem
+mem-other q p xs n = split (eqb q p) (λ e. absurd (n (eqb-true q p e))) (λ e. rw (e, mem))
+
 pub in-append-left : (p : ℕ) (xs ys : List ℕ) → In p xs → In p (xs ++ ys)
 in-append-left p [] ys e = in-nil p e
 in-append-left p (x ∷ xs) ys e = elim (in-cons p x xs e) [ inl d ↦ rw d (in-here x (xs ++ ys)) | inr d ↦ in-there p x (xs ++ ys) (in-append-left p xs ys d) ]

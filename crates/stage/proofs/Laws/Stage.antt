@@ -12,8 +12,8 @@ use Rattle.columns.proofs.Lists.Marks.{marks-frame}
 use Rattle.columns.proofs.Lists.Places.{placed-frame}
 use Rattle.columns.proofs.Lists.Clears.{clear-frame}
 use Rattle.walk.specs.Stands.{Context}
-use Rattle.walk.specs.Prepared.{PrepareAt, Prepared, ForgetAt, Forgot}
-use Rattle.walk.proofs.Forgets.{forget-at, forget-frame}
+use Rattle.prepare.specs.Prepared.{PrepareAt, Prepared, ForgetAt, Forgot}
+use Rattle.prepare.proofs.Forgets.{forget-at, forget-frame}
 use Rattle.stage.specs.declared.finish.Outcome.{Outcome}
 use Rattle.lean.specs.Filling.{FillAt, FilledTree}
 use Rattle.stage.specs.Finish.{FinishAt, Changed, Whole, Finished}

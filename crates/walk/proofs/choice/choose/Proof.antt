@@ -3,7 +3,7 @@ use borrow.Author.Needs.{needs}
 use Prim.Native.Nat.{_-_}
 use mathlib.Core.Path.{sym, _∙_}
 use native.Mathlib.Omega.{arith}
-use Rattle.walk.specs.Needed.{EveryPlan}
+use Rattle.walk.specs.Stands.{EveryPlan}
 use Rattle.walk.specs.Choice.{ChooseAt}
 use Rattle.walk.proofs.choice.Choosing.{Choosing, choosing-none, head-below, chosen-none, chosen-here, choosing-more}
 use Rattle.walk.proofs.choice.choose.Statement.{statement}
