@@ -1,6 +1,6 @@
 -- One level's row of a plan. Assumes nothing.
 use Prim.Native.Nat.{ℕ, zero, suc, _+_, _-_, _*_, _/_, _^_, _≤_}
-use mathlib.Core.Bool.{Bool, true, false, _&&_}
+use mathlib.Core.Bool.{true, false, _&&_}
 use mathlib.Core.List.{List, [], _∷_}
 use mathlib.Core.Path.{_≡_, refl, sym}
 use mathlib.Core.Logic.{_⊎_, inl, inr}
@@ -14,14 +14,10 @@ use lib.Seq.{take-take, drop-drop, take-nil}
 use borrow.Author.Tests.{leb-true, le-leb}
 use Rattle.rules.specs.Cells.{isHeight, stageSize, rowAt, rooms, stageOf, hasRow, row, rowOf}
 use Rattle.rules.proofs.Lists.Members.{and-true, split, true-false}
+use Rattle.rules.proofs.Needed.Lacks.{same-truth}
 use Rattle.cells.specs.declared.Span.{Span}
 use Rattle.cells.specs.Answers.{orZero, hasLevel, rowFrom, spanOf}
 use Rattle.cells.proofs.Heights.{has-level, orZero-true}
-
-same : (a b : Bool) → (a ≡ true → b ≡ true) → (b ≡ true → a ≡ true) → a ≡ b
-same true b f g = sym (f refl)
-same false true f g = g refl
-same false false f g = refl
 
 -- such a row stands in a plan of n numbers
 pub record Rowed (K s h n : ℕ) : Type 0 where
@@ -57,7 +53,7 @@ row-roomed K s h n r a e d =
     let q : r ≡ n / stageSize K = rw (l .height, orZero-true (n / stageSize K)) at d in
     let i = le-div-iff-mul-le {k = stageSize K} {x = s} {y = n} (pow-pos (K + 1)) in
     rw (row-tested K s h n a (l .height) (l .upto), q)
-    (same (leb s (n / stageSize K)) (leb (s * stageSize K) n) (λ t. le-leb _ _ (i .0 (leb-true _ _ t))) (λ t. le-leb _ _ (i .1 (leb-true _ _ t))))
+    (same-truth (leb s (n / stageSize K)) (leb (s * stageSize K) n) (λ t. le-leb _ _ (i .0 (leb-true _ _ t))) (λ t. le-leb _ _ (i .1 (leb-true _ _ t))))
 
 pub row-none : (K s h n : ℕ) → (s ≡ 0) ⊎ (hasLevel K h ≡ false) → false ≡ hasRow K s h n
 row-none K s h n d = split (hasRow K s h n)

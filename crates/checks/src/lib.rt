@@ -2,7 +2,6 @@
 use cells::is_height;
 use graph::Literal;
 use graph::Node;
-use graph::Pin;
 use graph::node_of;
 use graph::pin_count;
 use graph::pin_of;
@@ -14,7 +13,7 @@ ghost use mathlib.Core.Path.{_≡_};
 ghost use mathlib.Core.Bool.{true};
 ghost use mathlib.Core.List.{[], _∷_};
 ghost use lib.ListN.{drop};
-ghost use Rattle.rules.specs.Graph.{graphOf, pinCount};
+ghost use Rattle.rules.specs.Graph.{graphOf};
 ghost use Rattle.rules.specs.Records.{wholeAt};
 ghost use Rattle.rules.specs.Checks.{workSize, areasSized, nodesRight, graphRight, recordsRight, givenRight, refusalOf};
 ghost use Rattle.graph.specs.Values.{nodeFor};

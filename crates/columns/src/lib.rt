@@ -6,7 +6,7 @@ ghost use Prim.Native.Nat.{_+_, _*_, _<_, _≤_};
 ghost use lib.Dec.{eqb};
 ghost use lib.ListN.{length, getD, set, replicate};
 ghost use Rattle.rules.specs.Lists.{laidOver};
-ghost use Rattle.columns.specs.Area.{put, tail, putTail, Room};
+ghost use Rattle.columns.specs.Area.{put, tail, putTail};
 ghost use Rattle.columns.specs.Lists.{EnlistAt, Enlisted, WaitAt, Waits, SwapAt, Swapped};
 
 // The traversal's order (a list).
@@ -119,17 +119,6 @@ pub fn fill_part(s: &mut [u32], v: u32)
         s[i] = v;
         i += 1;
     }
-}
-
-// Column f becomes v throughout.
-pub fn fill(work: &mut [u32], m: usize, f: usize, v: u32)
-    requires { ⌜ Room m (now work) ⌝ }
-    requires { ⌜ f < 16 ⌝ }
-    ensures { λ _. ⌜ now (work .exit) ≡ put f m (now (work .entry)) (replicate m v) ⌝ }
-{
-    let a = f * m;
-    let e = a + m;
-    fill_part(&mut work[a..e], v);
 }
 
 // The first n numbers of column f become 0.

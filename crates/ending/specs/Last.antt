@@ -3,11 +3,10 @@ use mathlib.Core.Path.{_≡_}
 use mathlib.Core.List.{List, [], _∷_}
 use Prim.Native.Nat.{ℕ, _+_, _*_, _^_, _<_, _≤_}
 use lib.ListN.{length, getD}
-use Rattle.rules.specs.Lists.{keep, insertAll}
+use Rattle.rules.specs.Lists.{keep, insertAll, laidAt}
 use Rattle.columns.specs.Fields.{WAITING, STACK, MARK, TAIL}
 use Rattle.columns.specs.Area.{Frame}
 use Rattle.columns.specs.Lists.{list, Holds, Marked}
-use Rattle.runs.specs.Laid.{laidAt}
 use Rattle.ending.specs.declared.last.Kept.{Kept}
 use Rattle.ending.specs.Close.{isTree}
 use Rattle.ending.specs.Words.{isEnd, UpAt, wordsFrom}

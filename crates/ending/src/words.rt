@@ -8,7 +8,7 @@ use columns::tail_get;
 use columns::tail_set;
 use columns::wide;
 ghost use mathlib.Core.Path.{_≡_};
-ghost use Prim.Native.Nat.{ℕ, _+_, _*_, _<_, _≤_};
+ghost use Prim.Native.Nat.{_+_, _*_, _<_, _≤_};
 ghost use Rattle.ending.specs.Words.{isEnd, SomeWords, EveryWords, WordAt, Worded, CellAt, Celled, RowAt, Rowed, UpAt, Upped, OneAt, One, WriteAt, Written};
 
 // Does pin c wait, neither realised nor needed?

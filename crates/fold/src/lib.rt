@@ -9,9 +9,7 @@ use sizes::plan_sized;
 use stages::fold_plan;
 ghost use mathlib.Core.Path.{_≡_};
 ghost use mathlib.Core.Bool.{_&&_};
-ghost use mathlib.Core.List.{[]};
 ghost use Rattle.rules.specs.Cells.{isHeight};
-ghost use Rattle.rules.specs.Checks.{refusalOf};
 ghost use Rattle.rules.specs.Fold.{foldSized, foldRefusal, foldResult};
 ghost use Rattle.fold.specs.Answers.{numberFor};
 

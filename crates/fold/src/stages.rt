@@ -9,7 +9,7 @@ use cells::Height;
 use graph::pin_count;
 ghost use mathlib.Core.Path.{_≡_};
 ghost use mathlib.Core.List.{_++_};
-ghost use Prim.Native.Nat.{_≤_, _^_, _+_};
+ghost use Prim.Native.Nat.{_+_};
 ghost use lib.ListN.{length, take, replicate};
 ghost use Rattle.rules.specs.Lists.{laidOver};
 ghost use Rattle.rules.specs.Graph.{graphOf, pinCount};

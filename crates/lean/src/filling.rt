@@ -1,7 +1,7 @@
 // Rules 2 to 7 on an empty stage: where the loop starts, and the needed pins of the plan that it leaves.
 use crate::lean::lean;
 use cells::Height;
-use walk::needed::needed;
+use needed::needed;
 ghost use mathlib.Core.Path.{_≡_};
 ghost use Prim.Native.Nat.{min};
 ghost use Rattle.rules.specs.Cells.{rowAt};

@@ -10,9 +10,8 @@ use tree::first_empty;
 use tree::place_bit;
 use tree::purge_bit;
 use tree::room;
-use walk::needed::needed;
-ghost use mathlib.Core.Path.{_≡_};
-ghost use Prim.Native.Nat.{ℕ, _+_, _*_, _<_, _≤_};
+use needed::needed;
+ghost use Prim.Native.Nat.{_+_, _*_, _<_};
 ghost use Rattle.walk.specs.Stands.{Some, Every};
 ghost use Rattle.lean.specs.Loop.{SettleAt, Settled, TryAt, Tried, Next, Turned, At, Ended, LeanAt, Leaned};
 

@@ -12,7 +12,7 @@ use Rattle.rules.proofs.Stage.Depth.{Ready}
 use Rattle.columns.specs.Fields.{DONE, WAITING, CELLS, PLACE, MARK}
 use Rattle.columns.specs.Area.{Room}
 use Rattle.columns.specs.Lists.{Marks, Clear, Placed}
-use Rattle.walk.specs.Prepared.{Fresh}
+use Rattle.walk.specs.Stands.{Fresh}
 use Rattle.placer.specs.declared.Answer.{Answer}
 use Rattle.placer.specs.Answers.{told}
 

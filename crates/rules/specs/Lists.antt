@@ -3,7 +3,7 @@ use Prim.Native.Nat.{ℕ, zero, suc, _+_, _-_}
 use mathlib.Core.Bool.{Bool, true, false}
 use mathlib.Core.List.{List, [], _∷_, _++_, map}
 use lib.Dec.{eqb}
-use lib.ListN.{length, drop, replicate}
+use lib.ListN.{length, take, drop, replicate}
 
 -- an answer that may be missing
 pub data Found : Type 0 where
@@ -90,3 +90,7 @@ padded n x xs = xs ++ replicate (n - length xs) x
 -- a list laid over the first entries of another
 unfoldable pub laidOver : List ℕ → List ℕ → List ℕ
 laidOver xs ys = xs ++ drop (length xs) ys
+
+-- and over those from place `at` on
+unfoldable pub laidAt : ℕ → List ℕ → List ℕ → List ℕ
+laidAt at xs ys = take at ys ++ (xs ++ drop (at + length xs) ys)

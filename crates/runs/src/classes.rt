@@ -6,8 +6,7 @@ use columns::SPARE;
 use columns::WAITING;
 use columns::enlist;
 use columns::get;
-ghost use mathlib.Core.Path.{_≡_};
-ghost use Prim.Native.Nat.{ℕ, _+_, _*_, _<_, _≤_};
+ghost use Prim.Native.Nat.{_<_};
 ghost use Rattle.runs.specs.Classes.{ClassAt, Classed, SplitAt, Classes};
 
 // How many waiting pins are needed, and whether one is untouched.

@@ -3,7 +3,7 @@ use mathlib.Core.Path.{_≡_}
 use mathlib.Core.List.{List, [], _∷_, _++_}
 use Prim.Native.Nat.{ℕ, _+_, _*_, _^_, _<_, _≤_}
 use lib.ListN.{length, getD}
-use Rattle.rules.specs.Lists.{found}
+use Rattle.rules.specs.Lists.{found, laidAt}
 use Rattle.rules.specs.Cells.{rowAt, row, firstEmpty}
 use Rattle.rules.specs.Traversal.{levelAt}
 use Rattle.rules.specs.Placing.{tree, neededOf}
@@ -16,7 +16,6 @@ use Rattle.columns.specs.Lists.{Holds, Marks, Clear, Marked, Placed}
 use Rattle.walk.specs.Stands.{Context, Set, Tally}
 use Rattle.tree.specs.Bits.{Standing}
 use Rattle.runs.specs.declared.Spent.{Spent}
-use Rattle.runs.specs.Laid.{laidAt}
 use Rattle.ending.specs.declared.last.Kept.{Kept}
 use Rattle.stage.specs.declared.finish.Outcome.{Outcome}
 

@@ -7,8 +7,7 @@ use ending::rest::fill_rest;
 use runs::Spent;
 use runs::write_runs;
 ghost use Rattle.rules.specs.Ending as rules;
-ghost use Rattle.walk.specs.Stands.{Some, Every};
-ghost use Rattle.walk.specs.Needed.{SomePlan, EveryPlan};
+ghost use Rattle.walk.specs.Stands.{Some, Every, SomePlan, EveryPlan};
 ghost use Rattle.stage.specs.Finish.{FinishAt, Finished, RestingAt, LastingAt, Lasting, Ends};
 
 // 0, or the number that refuses the stage; for 0 how many words it has and how many pins wait then.

@@ -1,8 +1,8 @@
 // One stage: rules 1 to 11.
 use finish::finish;
 use lean::filling::fill_tree;
-use walk::forget;
-use walk::prepare;
+use prepare::forget;
+use prepare::prepare;
 ghost use Rattle.walk.specs.Stands.{Some, Every};
 ghost use Rattle.stage.specs.Stage.{StageAt, Staged};
 

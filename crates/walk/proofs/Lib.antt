@@ -1,4 +1,2 @@
 pub mod Contexts
 pub mod Gates
-pub mod Steps
-pub mod Forgets

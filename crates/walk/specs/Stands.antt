@@ -13,8 +13,8 @@ use Rattle.rules.proofs.Needed.Needs.{Graph, Sound}
 use Rattle.rules.proofs.Tree.Sane.{Marked}
 use Rattle.rules.proofs.Stage.Depth.{Ready}
 use Rattle.columns.specs.Area.{Room, col}
-use Rattle.columns.specs.Fields.{ORDER, DONE, LEVEL, WAITING, CELLS, RANKED, STARTS, ENDS, REVERSE, PLACE, ONES, PINS}
-use Rattle.columns.specs.Lists.{Holds, Marks, Placed}
+use Rattle.columns.specs.Fields.{ORDER, DONE, LEVEL, WAITING, CELLS, RANKED, STARTS, ENDS, REVERSE, PLACE, ONES, PINS, LISTED, SPARE}
+use Rattle.columns.specs.Lists.{Holds, Marks, Placed, Clear}
 
 -- a stage's setting, with what is known of it. The graph's rank falls along operands
 pub record Context : Type 0 where
@@ -36,6 +36,15 @@ pub record Some (P : Context → Type 0) : Type 0 where
 
 pub record Every (P Q : Context → Type 0) : Type 0 where
   pub all : (C : Context) → P C → Q C
+
+-- contracts that speak of a plan too: it is no argument of the code, which reads its counts
+pub record SomePlan (P : Context → List ℕ → Type 0) : Type 0 where
+  pub C : Context
+  pub pl : List ℕ
+  pub at : P C pl
+
+pub record EveryPlan (P Q : Context → List ℕ → Type 0) : Type 0 where
+  pub all : (C : Context) (pl : List ℕ) → P C pl → Q C pl
 
 -- the area, and the lent numbers of the graph
 pub record Base (C : Context) (m : ℕ) (gates w : List ℕ) : Type 0 where
@@ -86,3 +95,12 @@ pub record Tally (C : Context) (m : ℕ) (pl w : List ℕ) : Type 0 where
 pub record Reads (C : Context) (m : ℕ) (gates w : List ℕ) : Type 0 where
   pub base : Base C m gates w
   pub done : Marks DONE m (C .X .done) w
+
+-- what the walks find empty, and leave so at the stage's end
+pub record Fresh (m : ℕ) (w : List ℕ) : Type 0 where
+  pub listed : Clear LISTED m w
+  pub levels : Clear LEVEL m w
+  pub reverse : Clear REVERSE m w
+  pub starts : Clear STARTS m w
+  pub ends : Clear ENDS m w
+  pub spare : Clear SPARE m w

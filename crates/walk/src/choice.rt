@@ -2,8 +2,7 @@
 use columns::CELLS;
 use columns::RANKED;
 use columns::get;
-ghost use mathlib.Core.Path.{_≡_};
-ghost use Rattle.walk.specs.Needed.{SomePlan, EveryPlan};
+ghost use Rattle.walk.specs.Stands.{SomePlan, EveryPlan};
 ghost use Rattle.walk.specs.Choice.{ChooseAt, Chosen};
 
 // Where the first unplaced one of the ranked pins from i to e stands, e if there is none.

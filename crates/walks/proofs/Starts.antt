@@ -22,11 +22,11 @@ use Rattle.columns.proofs.Lists.Marks.{marks-none, marks-insert, marks-frame}
 use Rattle.columns.proofs.Lists.Clears.{clear-frame}
 use Rattle.columns.proofs.Lists.Places.{placed-none, wait-at}
 use Rattle.walk.specs.Stands.{Some, Context}
-use Rattle.walk.specs.Needed.{NeededAt, Needed}
-use Rattle.walk.specs.Prepared.{Prepared, ForgetAt}
+use Rattle.needed.specs.Needed.{NeededAt, Needed}
+use Rattle.prepare.specs.Prepared.{Prepared, ForgetAt}
 use Rattle.walk.proofs.Contexts.{context}
-use Rattle.walk.proofs.Steps.{step-needed}
-use Rattle.walk.proofs.Forgets.{forget-at, forget-frame}
+use Rattle.needed.proofs.Laws.Collecting.{step-needed}
+use Rattle.prepare.proofs.Forgets.{forget-at, forget-frame}
 use Rattle.walks.specs.Shown.{StartAt, GiveAt, Given, WaitAt, Waiting, Started}
 use Rattle.walks.proofs.Rights.{pins-right, length-graph, Right, graph-right}
 

@@ -10,7 +10,7 @@ use Rattle.columns.specs.Area.{Room, Frame}
 use Rattle.columns.specs.Fields.{DONE, WAITING, CELLS, PLACE, MARK}
 use Rattle.columns.specs.Lists.{Marks, Placed}
 use Rattle.walk.specs.Stands.{Context}
-use Rattle.walk.specs.Prepared.{PrepareAt}
+use Rattle.prepare.specs.Prepared.{PrepareAt}
 
 pub record ShowAt (gates given waiting w : List ℕ) : Type 0 where
   pub graph : graphRight gates ≡ true

@@ -1,6 +1,6 @@
 -- Frames: what stores and puts keep, one after the other, and what a frame gives. Assumes nothing.
 use mathlib.Core.Path.{_≡_, refl, ap, _∙_}
-use mathlib.Core.Logic.{_⊎_, inl, inr}
+use mathlib.Core.Logic.{inl, inr}
 use mathlib.Core.Bool.{Bool, true, false, _||_, true≢false}
 use mathlib.Core.List.{List, [], _∷_}
 use Prim.Native.Nat.{ℕ, _+_, _-_, _*_, _<_, _≤_}
@@ -10,7 +10,7 @@ use borrow.Author.Tests.{ne-eqb}
 use lib.Dec.{eqb}
 use lib.ListN.{length, getD, set, length-set, replicate, length-replicate}
 use lib.Seq.{ext-getD, getD-set-other}
-use Rattle.rules.proofs.Lists.Members.{split, true-false, eqb-same, eqb-true, and-true}
+use Rattle.rules.proofs.Lists.Members.{split, true-false, eqb-same, eqb-true, and-true, or-true}
 use Rattle.columns.specs.Area.{col, put, tail, putTail, Room, Frame, among, within}
 use Rattle.columns.proofs.Area.Columns.{apart, inside, same-col}
 use Rattle.columns.proofs.Area.Puts.{length-put, past-put, at-put-other}
@@ -23,10 +23,6 @@ pub frame-then : {fs : List ℕ} {m : ℕ} {u v w : List ℕ} → Frame fs m u v
 frame-then a b = record { len = b .len ∙ a .len; past = λ t j h. b .past t j h ∙ a .past t j h; cell = λ g e h p k. b .cell g e h p k ∙ a .cell g e h p k }
 
 -- more names: at numerals `refl` answers `within`
-pub or-true : (a b : Bool) → a || b ≡ true → (a ≡ true) ⊎ (b ≡ true)
-or-true true b e = inl refl
-or-true false b e = inr e
-
 among-within : (fs gs : List ℕ) → within fs gs ≡ true → (g : ℕ) → among fs g ≡ true → among gs g ≡ true
 among-within [] gs e g a = true-false a refl
 among-within (f ∷ fs) gs e g a = elim (or-true (eqb g f) (among fs g) a) [

@@ -10,6 +10,7 @@ use lib.ListN.{length, getD, set, take, length-set, length-map}
 use lib.Seq.{ext-getD, length-take-le, getD-take, getD-set-same, getD-set-other}
 use Rattle.rules.specs.Lists.{mem, insert, upTo, init, lastOf, swapOut}
 use Rattle.rules.proofs.Lists.Members.{In, Out, split, true-false, eqb-same, in-here, in-there, in-getD, in-insert-old, insert-in}
+use Rattle.rules.proofs.Lists.Lengths.{length-upTo}
 use Rattle.rules.proofs.Stage.Last.{Once, nobody, one, once-length, swapped}
 
 pub once-place : {xs : List ℕ} → Once xs → (i j : ℕ) → i < length xs → j < length xs → getD xs i 0 ≡ getD xs j 0 → i ≡ j
@@ -20,11 +21,6 @@ once-place (one {x = x} {xs = xs} o k) (suc i) zero hi hj e = true-false (rw e a
 once-place (one o k) (suc i) (suc j) hi hj e = ap suc (once-place k i j (omega arith) (omega arith) e)
 
 -- pins below m, each once, are at most m
-length-upTo : (n i : ℕ) → length (upTo n i) ≡ n
-unfolding upTo
-length-upTo zero i = refl
-length-upTo (suc n) i = ap suc (length-upTo n (suc i))
-
 in-upTo : (n i q : ℕ) → i ≤ q → q < i + n → In q (upTo n i)
 unfolding upTo
 in-upTo zero i q a b = absurd (omega arith)

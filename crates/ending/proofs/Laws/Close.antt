@@ -11,7 +11,7 @@ use lib.ListN.{length, getD, set, take, drop, length-take, take-append-drop}
 use lib.Seq.{take-suc, take-all, getD-take}
 use borrow.Author.Tests.{eq-eqb, ne-eqb}
 use Rattle.rules.specs.Lists.{mem, keep, insertAll, swapOut, swapOutAll}
-use Rattle.rules.proofs.Lists.Members.{In, Out, split, in-getD, getD-in, true-false, in-append-left}
+use Rattle.rules.proofs.Lists.Members.{In, Out, split, in-getD, getD-in, true-false, in-append-left, keep-append, insertAll-append}
 use Rattle.rules.proofs.Stage.Last.{Once, nobody, one}
 use Rattle.rules.proofs.Written.Words.{left-out}
 use Rattle.columns.specs.Fields.{ORDER, DONE, WAITING, CELLS, STACK, MARK, SPARE}
@@ -23,7 +23,6 @@ use Rattle.columns.proofs.Lists.Entries.{holds-at}
 use Rattle.columns.proofs.Lists.Marks.{enlist-at}
 use Rattle.columns.proofs.Lists.Places.{swap-out-at, swapped}
 use Rattle.columns.proofs.Lists.Swap.{once-place}
-use Rattle.runs.proofs.Laws.Classes.{keep-append, insertAll-append}
 use Rattle.ending.specs.Close.{either, PinAt, Within, Zeroed, Wiped, Retired, RetireAt, LeaveAt, Leaving, Left, isTree, OneAt, One, RealiseAt, Realising, Realised}
 
 -- ---- lists

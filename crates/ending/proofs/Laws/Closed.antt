@@ -9,20 +9,18 @@ use lib.ListN.{length, getD, replicate}
 use Rattle.rules.specs.Lists.{mem, laidOver}
 use Rattle.columns.specs.Fields.{ORDER, DONE, CELLS, MARK, SPARE, TAIL}
 use Rattle.columns.specs.Area.{among, tail, putTail, Frame}
-use Rattle.columns.specs.Lists.{list, Clear}
+use Rattle.columns.specs.Lists.{list}
 use Rattle.columns.proofs.Area.Frames.{frame-then, frame-more, frame-room, frame-putTail}
 use Rattle.columns.proofs.Area.Tails.{getD-tail, length-tail, tail-putTail}
 use Rattle.columns.proofs.Area.Lent.{length-laid, at-laid, past-laid}
 use Rattle.columns.proofs.Lists.Entries.{frame-list, holds-frame}
 use Rattle.columns.proofs.Lists.Places.{placed-frame}
+use Rattle.columns.proofs.Lists.Clears.{clear-frame}
 use Rattle.ending.specs.Close.{either, Within, Retired, RetireAt, Left, CloseAt, Closed}
 use Rattle.ending.proofs.Laws.Close.{zeroed-clear}
 
 pub within-frame : {fs : List ℕ} {f m : ℕ} {xs w w′ : List ℕ} → Frame fs m w w′ → among fs f ≡ false → f < 16 → Within f m xs w → Within f m xs w′
 within-frame {fs} {f} F a h A = record { zero = λ p b o. F .cell f a h p b ∙ A .zero p b o }
-
-pub clear-frame : {fs : List ℕ} {f m : ℕ} {w w′ : List ℕ} → Frame fs m w w′ → among fs f ≡ false → f < 16 → Clear f m w → Clear f m w′
-clear-frame {fs} {f} F a h A = record { zero = λ p b. F .cell f a h p b ∙ A .zero p b }
 
 module _ {m o n r : ℕ} {w : List ℕ} (A : CloseAt m o n r w) {w1 : List ℕ} {e : ℕ} (L : Left m n r w w1 e) where
   order-is : list ORDER m o w1 ≡ list ORDER m o w
@@ -60,8 +58,8 @@ module _ {m o n r : ℕ} {w : List ℕ} (A : CloseAt m o n r w) {w1 : List ℕ} 
       past = λ j h. tail-is j ∙ past-laid 258 0 (tail m w2) j h ∙ getD-tail m w2 j ∙ R .frame .past refl (16 * m + j) (omega arith) ∙ L .frame .past refl (16 * m + j) (omega arith);
       done = λ p b. last .cell DONE refl (omega arith) p b ∙ done-is p b;
       waiting = placed-frame (L .now) later refl refl (omega arith) (omega arith);
-      cells = clear-frame last refl (omega arith) (zeroed-clear (within-frame (L .frame) refl (omega arith) (rw order-is (A .cells))) (R .cells));
-      marks = clear-frame last refl (omega arith) (zeroed-clear (within-frame (L .frame) refl (omega arith) (rw order-is (A .marks))) (R .marks));
-      spare = clear-frame last refl (omega arith) (zeroed-clear (within-frame (L .frame) refl (omega arith) (rw order-is (A .spare))) (R .spare));
+      cells = clear-frame (zeroed-clear (within-frame (L .frame) refl (omega arith) (rw order-is (A .cells))) (R .cells)) last refl (omega arith);
+      marks = clear-frame (zeroed-clear (within-frame (L .frame) refl (omega arith) (rw order-is (A .marks))) (R .marks)) last refl (omega arith);
+      spare = clear-frame (zeroed-clear (within-frame (L .frame) refl (omega arith) (rw order-is (A .spare))) (R .spare)) last refl (omega arith);
       tail = λ j h. tail-is j ∙ at-laid 258 0 (tail m w2) j h;
     }

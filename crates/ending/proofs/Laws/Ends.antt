@@ -1,20 +1,16 @@
 -- The words of the cells that pass a test are rule 10's words of the pins that pass it. Assumes nothing.
 use mathlib.Core.Path.{_≡_, refl}
-use mathlib.Core.Bool.{Bool, true, false}
+use mathlib.Core.Bool.{Bool, true}
 use mathlib.Core.List.{List, [], _∷_}
 use Prim.Native.Nat.{ℕ, zero, suc, _*_, _/_, _<_}
-use lib.Dec.{eqb}
 use Rattle.rules.specs.Lists.{mem, insert}
 use Rattle.rules.specs.Cells.{empty, filled, rowAt, row}
 use Rattle.rules.specs.Ending.{wordsIn, wordsUp}
-use Rattle.rules.proofs.Lists.Members.{In, Out, split, in-here, in-there, true-false, eqb-true}
+use Rattle.rules.proofs.Lists.Members.{In, Out, split, in-here, in-there}
 use Rattle.rules.proofs.Stage.Branches.{words-in, words-out}
+use Rattle.rules.proofs.Tree.Back.{not-filled}
 use Rattle.ending.specs.Words.{Pins, wordsAt, wordsFrom}
 use Rattle.ending.proofs.Laws.Words.{part-in, pins-in, row-part}
-
-not-filled : (c : ℕ) → filled c ≡ false → c ≡ empty
-unfolding filled
-not-filled c e = split (eqb c empty) (λ d. eqb-true c empty d) (λ d. true-false (rw d refl) e)
 
 -- ps are the pins below m that pass
 module _ (f : ℕ → Bool) (ps : List ℕ) {m : ℕ} (tests : (c : ℕ) → c < m → f c ≡ mem c ps) (pins : Out empty ps) where

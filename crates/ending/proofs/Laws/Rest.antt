@@ -25,10 +25,10 @@ use Rattle.columns.specs.Lists.{list, span, Marks}
 use Rattle.columns.proofs.Lists.Entries.{span-none, span-next, holds-in}
 use Rattle.columns.proofs.Lists.Marks.{marks-test, marks-frame}
 use Rattle.walk.specs.Stands.{Context}
+use Rattle.walk.proofs.Contexts.{low-mark}
 use Rattle.tree.specs.Bits.{PlaceAt, Placed}
 use Rattle.tree.specs.Search.{part, SearchAt, First}
 use Rattle.tree.proofs.Counts.Kept.{kept-none, kept-then}
-use Rattle.tree.proofs.Counts.Sizes.{mark-small}
 use Rattle.tree.proofs.Bits.Cells.{getD-any}
 use Rattle.tree.proofs.Bits.Standing.{may-place, placed-stands, placed-plan}
 use Rattle.tree.proofs.Search.{Left, first-on, cell-found, cell-none}
@@ -82,7 +82,7 @@ module _ {C : Context} {m half from p : ℕ} {gates pl w : List ℕ} (A : PinAt 
       tree-test : d ≡ mem p (tree (C .X .K) pl)
       tree-test =
           is-tree ∙ rw (A .stands .tally .cells p pin-below, not-zero)
-          (sym (tree-cells (C .X .K) pl p (listed-filled (C .X) (C .r) (length (C .X .g)) (C .S) (mark-small C) p (A .listed))))
+          (sym (tree-cells (C .X .K) pl p (listed-filled (C .X) (C .r) (length (C .X .g)) (C .S) (low-mark C) p (A .listed))))
 
       pub skip-tree : d ≡ true → Pinned C m half p gates pl w from pl w
       skip-tree t = skips (λ real M. let e : mem p (tree (C .X .K) pl) ≡ true = sym tree-test ∙ t in rw e (or-some (mem p real)))
@@ -154,7 +154,7 @@ module _ {C : Context} {m half from p : ℕ} {gates pl w : List ℕ} (A : PinAt 
               low = omega (arith, first .from);
               none = λ b. absurd (omega arith);
               some = λ b real M ps. rest-put (C .X) p ps real pl c (unplaced real M) is-first ∙ rw (placed-plan (A .stands) (A .row) may B) refl;
-              behind = λ b. rw (placed-plan (A .stands) (A .row) may B, add-one c) (behind-placed (C .X) (C .r) (length (C .X .g)) (C .S) (C .M) (mark-small C) 1 low-height pl c p (A .stands .fair) may before (omega (arith, inside)));
+              behind = λ b. rw (placed-plan (A .stands) (A .row) may B, add-one c) (behind-placed (C .X) (C .r) (length (C .X .g)) (C .S) (C .M) (low-mark C) 1 low-height pl c p (A .stands .fair) may before (omega (arith, inside)));
             }
 
 -- ---- all of them

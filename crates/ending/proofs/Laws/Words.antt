@@ -19,6 +19,7 @@ use Rattle.columns.proofs.Area.Frames.{frame-none, frame-then, frame-set-tail, 
 use Rattle.columns.proofs.Lists.Swap.{once-few, insert-old, insert-new}
 use Rattle.runs.proofs.Laws.Plain.{row-high, row-inside}
 use Rattle.ending.specs.Words.{isEnd, Spots, Kept, WordAt, Worded, Pins, CellAt, wordsAt, Celled, RowAt, part, Rowed, UpAt, wordsFrom, Rising, Upped}
+use Rattle.tree.proofs.Bits.Cells.{getD-any}
 
 -- ---- frames
 
@@ -80,11 +81,6 @@ module _ {m n j : ℕ} {ws w : List ℕ} (a : WordAt m n j ws w) where
 module _ {m n p : ℕ} {ws pl w : List ℕ} (a : CellAt m n p ws pl w) where
   same : getD pl p empty ≡ getD pl p 0
   same = getD-any pl p empty 0 (a .cell)
-    where
-      getD-any : (l : List ℕ) (i d e : ℕ) → i < length l → getD l i d ≡ getD l i e
-      getD-any [] i d e h = absurd (omega arith)
-      getD-any (x ∷ l) zero d e h = refl
-      getD-any (x ∷ l) (suc i) d e h = getD-any l i d e (omega arith)
 
   pub cell-none : getD pl p 0 ≡ 4294967295 → Celled m p ws pl w w n
   unfolding wordsAt filled empty

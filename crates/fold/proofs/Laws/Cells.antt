@@ -1,7 +1,6 @@
 -- A cell's bit by what the code tests, and a stage's bits from level 0 up. Assumes nothing.
 use Prim.Native.Nat.{ℕ, zero, suc, _+_, _-_, _*_, _^_, _≤_, _<_}
 use mathlib.Core.Path.{_≡_, refl, sym, _∙_, ap}
-use mathlib.Core.Logic.{_⊎_, inl, inr}
 use mathlib.Core.Bool.{Bool, true, false, not, _&&_}
 use mathlib.Core.List.{List, [], _∷_}
 use native.Mathlib.Omega.{arith}
@@ -15,7 +14,7 @@ use Rattle.rules.specs.Fold.{bitAt, asNumber, stageBits}
 use Rattle.rules.proofs.Lists.Members.{split}
 use Rattle.rules.proofs.Tree.Loads.{ltb-true, ltb-false}
 use Rattle.rules.proofs.Build.Lengths.{length-stageBits}
-use Rattle.rules.proofs.Fold.Bits.{Lower, lower-cells, bit-empty, bit-copies, bit-lacks, bit-splits, getD-stageBits}
+use Rattle.rules.proofs.Fold.Bits.{lower-cells, bit-empty, bit-copies, bit-lacks, bit-splits, getD-stageBits}
 use Rattle.cells.specs.Answers.{orZero}
 use Rattle.cells.proofs.Heights.{orZero-true}
 use Rattle.fold.specs.Bits.{StageAt, RightFrom, CellAt, CellFolds, UpAt, FoldsUp}

@@ -1,10 +1,10 @@
 -- Sizes, refusals, and what passing the checks gives. Assumes nothing.
-use Prim.Native.Nat.{ℕ, zero, suc, _+_, _-_, _*_, _%_, _^_, _≤_, _<_}
+use Prim.Native.Nat.{ℕ, zero, suc, _+_, _-_, _%_, _^_, _≤_, _<_}
 use mathlib.Core.Path.{_≡_, refl, sym, _∙_, ap}
 use mathlib.Core.Bool.{Bool, true, false, _&&_}
 use mathlib.Core.List.{List, [], _++_}
 use native.Mathlib.Omega.{arith}
-use lib.Dec.{leb, eqb}
+use lib.Dec.{leb}
 use lib.ListN.{length, replicate}
 use lib.Pow.{pow-pos, pow-mono}
 use borrow.Author.Tests.{le-leb, lt-leb, leb-true, leb-false, eqb-true}
@@ -16,8 +16,7 @@ use Rattle.rules.specs.Checks.{planSized, graphRight, groupsRight, recordsRight
 use Rattle.rules.specs.Fold.{foldBits, resultSize, foldSized, foldRefusal, foldResult}
 use Rattle.rules.proofs.Lists.Members.{split, and-true}
 use Rattle.rules.proofs.Stage.Staged.{two-step}
-use Rattle.cells.proofs.Heights.{Tall, tall}
-use Rattle.rules.proofs.Bools.{and-none, and-assoc}
+use Rattle.cells.proofs.Heights.{tall}
 use Rattle.checks.proofs.Laws.Refusing.{refusal-1, refusal-2, refusal-3, refusal-5, refusal-0, height-first}
 use Rattle.checks.proofs.Laws.Passed.{Passed, passed}
 use Rattle.fold.specs.declared.Answer.{Answer}

@@ -1,22 +1,20 @@
 -- Loads by pin: leaves and given pins, level 0, and what a stage leaves for the next. Assumes nothing.
-use Prim.Native.Nat.{ℕ, zero, suc, _+_, _-_, _*_, _^_, _≤_, _<_}
+use Prim.Native.Nat.{ℕ, zero, suc, _+_, _-_, _^_, _≤_, _<_}
 use mathlib.Core.Path.{_≡_, refl, sym, _∙_, ap}
 use mathlib.Core.Logic.{_⊎_, inl, inr}
-use mathlib.Core.Bool.{Bool, true, false, not, _&&_, _||_}
-use mathlib.Core.List.{List, [], _∷_}
+use mathlib.Core.Bool.{Bool, false, not, _&&_}
+use mathlib.Core.List.{List, _∷_}
 use native.Mathlib.Omega.{arith}
-use native.Mathlib.Numerals.{add-one}
 use lib.Dec.{eqb, ltb}
-use lib.ListN.{length, getD, set, take, drop, length-set, length-drop}
+use lib.ListN.{length, getD, set, take, drop, length-set}
 use lib.Seq.{getD-set-same, getD-set-other, getD-take, drop-cons, drop-length}
 use borrow.Author.Tests.{lt-ltb, le-ltb, eq-eqb, ne-eqb}
-use Rattle.rules.specs.Lists.{Found, nothing, found, mem}
+use Rattle.rules.specs.Lists.{found, mem}
 use Rattle.rules.specs.Cells.{empty}
-use Rattle.rules.specs.Graph.{leaf, gate, graphOf, pinCount, ownBit}
+use Rattle.rules.specs.Graph.{leaf, graphOf, pinCount, ownBit}
 use Rattle.rules.specs.Fold.{asNumber, isLeaf, firstLoad, firstAt, lowest}
-use Rattle.rules.proofs.Lists.Members.{In, Out, split, in-cons, in-nil, in-here, in-there, in-getD, out-head, out-tail, eqb-true, eqb-false}
-use Rattle.rules.proofs.Tree.Loads.{ltb-true, ltb-false}
-use Rattle.graph.specs.declared.Node.{Node}
+use Rattle.rules.proofs.Lists.Members.{In, Out, split, in-cons, in-nil, in-getD, out-head, out-tail, eqb-true, eqb-false}
+use Rattle.rules.proofs.Tree.Loads.{ltb-true}
 use Rattle.fold.specs.Bits.{StageAt}
 use Rattle.fold.specs.Loads.{held, seen, AreaAt, Loads, Spread, FirstAt, GivenAt, LeafLoads, GivenLoads, FirstLoads}
 use Rattle.fold.proofs.Laws.Cells.{getD-inside}

@@ -1,23 +1,23 @@
 -- A part of the area that was lent comes back; lists that agree from place to place. Assumes nothing.
-use Prim.Native.Nat.{ℕ, zero, suc, _+_, _-_, _*_, _^_, _≤_, _<_}
+use Prim.Native.Nat.{ℕ, zero, suc, _+_, _-_, _^_, _≤_, _<_}
 use mathlib.Core.Path.{_≡_, refl, sym, _∙_, ap}
 use mathlib.Core.Logic.{_⊎_, inl, inr}
-use mathlib.Core.Bool.{Bool, true, false, not, _&&_, _||_}
-use mathlib.Core.List.{List, [], _∷_, _++_}
+use mathlib.Core.Bool.{false, _||_}
+use mathlib.Core.List.{List, _++_}
 use native.Mathlib.Omega.{arith}
 use lib.Dec.{ltb, eqb}
-use lib.ListN.{length, getD, take, drop, replicate, length-append, length-take, length-drop, length-replicate, getD-replicate, List·getD-append, List·getD-eq-default}
-use lib.Seq.{getD-take, getD-drop, getD-append-add, length-take-le, ext-getD, take-append-seam, drop-append-seam, take-at, drop-at}
+use lib.ListN.{length, getD, take, drop, replicate, length-append, length-take, length-drop, getD-replicate, List·getD-append, List·getD-eq-default}
+use lib.Seq.{getD-take, getD-drop, getD-append-add, length-take-le, ext-getD, take-at, drop-at}
 use borrow.Author.Tests.{not-false}
 use Rattle.rules.specs.Cells.{empty, filled}
 use Rattle.rules.specs.Lists.{mem}
 use Rattle.rules.specs.Graph.{Node, leaf, graphOf, pinCount, ownBit}
-use Rattle.rules.specs.Fold.{asNumber, bitAt, stageBits, isLeaf, firstLoad}
+use Rattle.rules.specs.Fold.{asNumber, bitAt, isLeaf, firstLoad}
 use Rattle.rules.proofs.Lists.Members.{split, eqb-true}
 use Rattle.rules.proofs.Tree.Loads.{ltb-true, ltb-false}
 use Rattle.rules.proofs.Fold.Bits.{bit-empty, bit-load}
 use Rattle.rules.proofs.Bools.{and-none}
-use Rattle.fold.specs.Bits.{StageAt, RightFrom, UpAt, FoldsUp}
+use Rattle.fold.specs.Bits.{RightFrom, UpAt, FoldsUp}
 use Rattle.fold.specs.Loads.{held, AreaAt, Loads, FirstAt, FirstLoads, FirstIn, FirstHeld, Zeroed}
 use Rattle.fold.specs.Stages.{StageFolds}
 use Rattle.fold.proofs.Laws.Cells.{bit-number}

@@ -1,30 +1,29 @@
 -- Stage after stage: what the next one loads, and the bits of a plan as far as they are folded. Assumes nothing.
-use Prim.Native.Nat.{ℕ, zero, suc, _+_, _-_, _*_, _%_, _^_, _≤_, _<_}
+use Prim.Native.Nat.{ℕ, zero, _+_, _-_, _%_, _^_, _≤_, _<_}
 use mathlib.Core.Path.{_≡_, refl, sym, _∙_, ap}
-use mathlib.Core.Logic.{_⊎_, inl, inr}
-use mathlib.Core.Bool.{Bool, true, false, not, _&&_}
+use mathlib.Core.Logic.{inl, inr}
+use mathlib.Core.Bool.{Bool, true, false}
 use mathlib.Core.List.{List, [], _∷_, _++_, append-assoc, append-nil}
 use native.Mathlib.Omega.{arith}
 use native.Mathlib.Nat.{mod-eq-of-lt, mod-eq-sub-mod}
-use lib.Dec.{ltb, eqb}
+use lib.Dec.{ltb}
 use lib.ListN.{length, getD, take, drop, replicate, length-append, length-take, length-drop, length-replicate, getD-replicate, take-append-drop}
 use lib.Seq.{getD-take, getD-drop, take-add, drop-drop, drop-length, length-take-le, ext-getD}
-use Rattle.rules.specs.Lists.{Found, nothing, found, laidOver}
+use Rattle.rules.specs.Lists.{nothing, found, laidOver}
 use Rattle.rules.specs.Cells.{isHeight}
 use Rattle.rules.specs.Graph.{Node, graphOf, pinCount}
 use Rattle.rules.specs.Fold.{asNumber, bitAt, stageBits, lowest, loadFrom, firstLoad, foldBits}
 use Rattle.rules.proofs.Lists.Members.{split}
 use Rattle.rules.proofs.Tree.Loads.{ltb-true, ltb-false}
 use Rattle.rules.proofs.Stage.Puts.{cell}
-use Rattle.rules.proofs.Fold.Bits.{Stands, lowest-stands, load-none, load-found, load-past, getD-stageBits, folded, folded-step, folded-none}
-use Rattle.graph.proofs.Gates.{graph-length}
+use Rattle.rules.proofs.Fold.Bits.{lowest-stands, load-none, load-found, load-past, getD-stageBits, folded, folded-step, folded-none}
 use Rattle.cells.specs.Answers.{orZero}
 use Rattle.cells.proofs.Heights.{orZero-true}
 use Rattle.fold.specs.Bits.{StageAt}
-use Rattle.fold.specs.Loads.{held, seen, AreaAt, Spread, ForgetAt, FirstIn, FirstHeld, Zeroed}
+use Rattle.fold.specs.Loads.{held, seen, AreaAt, Spread, FirstHeld, Zeroed}
 use Rattle.fold.specs.Stages.{StageFolds, Only, Folds, OneAt, NextAt, PlanAt, InputAt, stageFrom, StepAt, AllFold}
 use Rattle.fold.proofs.Laws.Cells.{bit-number}
-use Rattle.fold.proofs.Laws.Loads.{held-past, held-same}
+use Rattle.fold.proofs.Laws.Loads.{held-past}
 use Rattle.fold.proofs.Laws.Parts.{take-same, drop-same, part-same}
 
 -- an area of the same length serves as well

@@ -19,7 +19,7 @@ use Rattle.cells.proofs.Heights.{orZero-true, not-above, level-tested}
 use Rattle.columns.specs.Fields.{MARK}
 use Rattle.columns.specs.Lists.{Marks, Clear}
 use Rattle.walk.specs.Stands.{Context, Set, Tally}
-use Rattle.walk.specs.Needed.{NeededAt, Needed}
+use Rattle.needed.specs.Needed.{NeededAt, Needed}
 use Rattle.walk.proofs.Contexts.{low-mark, level-below}
 use Rattle.tree.specs.Bits.{Standing}
 use Rattle.tree.proofs.Bits.Standing.{first-stands}

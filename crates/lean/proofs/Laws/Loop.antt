@@ -8,7 +8,7 @@ use native.Mathlib.Nat.{pow-succ'}
 use native.Mathlib.Numerals.{add-one}
 use lib.Dec.{ltb, eqb}
 use lib.ListN.{length, getD, take, drop, length-take, length-drop}
-use lib.Seq.{drop-cons, ext-getD, getD-take, getD-drop}
+use lib.Seq.{ext-getD, getD-take, getD-drop}
 use borrow.Author.Tests.{lt-ltb, le-ltb, ne-eqb}
 use Rattle.rules.specs.Lists.{Found, nothing, found, count, mem}
 use Rattle.rules.specs.Cells.{row, rowAt, firstEmpty, levelOneSize}
@@ -27,13 +27,14 @@ use Rattle.rules.proofs.Lean.Lean.{Going, going-skip, going-placed, going-first
 use Rattle.rules.proofs.Lean.Turns.{recount-bound, recount-count, recount-full, onward-end, onward-skip, onward-no-cell, onward-no-room, onward-placed, onward-level}
 use Rattle.columns.specs.Fields.{CELLS, RANKED, STARTS, ENDS, MARK, ONES, PINS}
 use Rattle.columns.specs.Lists.{Marks}
-use Rattle.walk.specs.Needed.{NeededAt, Needed}
+use Rattle.needed.specs.Needed.{NeededAt, Needed}
 use Rattle.columns.proofs.Area.Frames.{frame-none, frame-then, frame-more, frame-col, frame-room}
 use Rattle.columns.proofs.Lists.Entries.{holds-frame}
 use Rattle.columns.proofs.Lists.Marks.{marks-frame}
 use Rattle.columns.proofs.Lists.Places.{placed-frame}
 use Rattle.walk.specs.Stands.{Context, Set, Tally, ranked}
 use Rattle.walk.proofs.Contexts.{low-mark}
+use Rattle.walk.proofs.choice.Choosing.{ranked-cons, ranked-end}
 use Rattle.tree.specs.Counts as counts
 use Rattle.tree.specs.Counts.{roomIn}
 use Rattle.tree.specs.Bits as bits
@@ -45,17 +46,6 @@ use Rattle.lean.specs.Loop.{Kept, Counted, coded, SettleAt, Settled, Try
 part-same : (s t : List ℕ) (n p : ℕ) → length t ≡ length s → ((j : ℕ) → j < n → getD t (p + j) 0 ≡ getD s (p + j) 0) → take n (drop p t) ≡ take n (drop p s)
 part-same s t n p e h = ext-getD 0 _ _ (simp (length-take, length-drop) (rw e)) (λ i b. let k : i < n = omega (arith, rw length-take at b) in
     getD-take n (drop p t) i 0 k ∙ getD-drop p t i 0 ∙ h i k ∙ sym (getD-drop p s i 0) ∙ sym (getD-take n (drop p s) i 0 k))
-
-pub ranked-cons : (m : ℕ) (w : List ℕ) (i e : ℕ) → i < e → e ≤ m → 16 * m ≤ length w → ranked m w i e ≡ getD w (RANKED * m + i) 0 ∷ ranked m w (i + 1) e
-unfolding ranked
-ranked-cons m w i e a b l =
-    let z : e - i ≡ suc (e - (i + 1)) = omega arith in
-    let y : RANKED * m + (i + 1) ≡ suc (RANKED * m + i) = omega arith in
-    rw (z, y, drop-cons w (RANKED * m + i) 0 (omega arith)) refl
-
-pub ranked-end : (m : ℕ) (w : List ℕ) (i e : ℕ) → e ≤ i → ranked m w i e ≡ []
-unfolding ranked
-ranked-end m w i e a = let z : e - i ≡ 0 = omega arith in rw z
 
 -- ---- the frame
 

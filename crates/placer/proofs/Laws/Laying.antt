@@ -6,27 +6,13 @@ use native.Mathlib.Nat.{suc-mul}
 use native.Mathlib.Omega.{arith}
 use lib.ListN.{length, take, drop, replicate, length-append, length-replicate}
 use lib.Seq.{take-append-seam, drop-append-seam, drop-append-add}
-use Rattle.rules.specs.Lists.{padded}
-use Rattle.runs.specs.Laid.{laidAt}
-
-pub drop-replicate : (k n x : ℕ) → drop k (replicate n x) ≡ replicate (n - k) x
-drop-replicate zero n x = let e : n - 0 ≡ n = omega arith in rw e
-drop-replicate (suc k) zero x = let e : 0 - suc k ≡ 0 = omega arith in rw e
-drop-replicate (suc k) (suc n) x = let e : suc n - suc k ≡ n - k = omega arith in rw e (drop-replicate k n x)
-
-pub take-replicate : (k n x : ℕ) → k ≤ n → take k (replicate n x) ≡ replicate k x
-take-replicate zero n x h = refl
-take-replicate (suc k) zero x h = absurd (omega arith)
-take-replicate (suc k) (suc n) x h = ap (λ (r : List ℕ). x ∷ r) (take-replicate k n x (omega arith))
+use Rattle.rules.specs.Lists.{padded, laidAt}
+use Rattle.rules.proofs.Lists.Lengths.{drop-replicate, take-replicate}
 
 module _ (n x : ℕ) where
   pub padded-none : padded n x [] ≡ replicate n x
   unfolding padded
   padded-none = let e : n - 0 ≡ n = omega arith in rw e
-
-  pub length-padded : (xs : List ℕ) → length xs ≤ n → length (padded n x xs) ≡ n
-  unfolding padded
-  length-padded xs h = length-append xs (replicate (n - length xs) x) ∙ omega (arith, length-replicate (n - length xs) x)
 
   -- more is written behind what stands there
   pub laid-next : (k : ℕ) (xs ys : List ℕ) → length xs ≡ k → k + length ys ≤ n → laidAt k ys (padded n x xs) ≡ padded n x (xs ++ ys)

@@ -7,7 +7,7 @@ use native.Mathlib.Omega.{arith}
 use lib.Pow.{pow-mono}
 use lib.ListN.{length, getD, set, take, drop, replicate, length-append, length-replicate, length-set}
 use lib.Seq.{drop-drop}
-use Rattle.rules.specs.Lists.{padded}
+use Rattle.rules.specs.Lists.{padded, laidAt}
 use Rattle.rules.specs.Cells.{empty, wordLimit, rowAt, stageSize}
 use Rattle.rules.specs.Placing.{tree}
 use Rattle.rules.specs.Traversal.{setting}
@@ -16,20 +16,19 @@ use Rattle.rules.specs.Build as rules
 use Rattle.rules.specs.Lean.{blank}
 use Rattle.rules.proofs.Demand.{graph}
 use Rattle.rules.proofs.Stage.Depth.{Ready, still-ready}
-use Rattle.rules.proofs.Build.Lengths.{stage-length}
+use Rattle.rules.proofs.Build.Lengths.{stage-length, length-padded}
 use Rattle.columns.specs.Fields.{DONE}
 use Rattle.columns.specs.Lists.{Marks}
 use Rattle.columns.proofs.Area.Frames.{frame-room}
 use Rattle.walk.specs.Stands.{Context}
 use Rattle.walk.proofs.Contexts.{context, unfold-empty}
 use Rattle.stage.specs.declared.finish.Outcome.{Outcome}
-use Rattle.runs.specs.Laid.{laidAt}
 use Rattle.stage.specs.Finish.{Whole}
 use Rattle.stage.specs.Stage.{StageAt, built, Staged}
 use Rattle.runs.proofs.Laws.Laid.{laid-none, laid-more, laid-length}
 use Rattle.placer.specs.Stages as specs
 use Rattle.placer.specs.Stages.{Course, Between, Underway, OneAt, One, Kept, answer, before}
-use Rattle.placer.proofs.Laws.Laying.{length-padded, laid-next, blank-part, part-inside}
+use Rattle.placer.proofs.Laws.Laying.{laid-next, blank-part, part-inside}
 use Rattle.placer.proofs.Laws.Course.{limit-small, cells-more, words-more, counts-more, before-more, before-refusal, stage-refused, stage-more}
 
 size-is : (K half : ℕ) → 6 ≤ K → half ≡ rowAt K 1 → 4 * half ≡ stageSize K

@@ -13,9 +13,10 @@ use Rattle.rules.specs.Graph.{Node}
 use Rattle.rules.specs.Traversal.{Setting, setting}
 use Rattle.rules.specs.Placing.{filledPlan}
 use Rattle.rules.specs.Ending.{stage, finish, ending, close, written, rest, moreWords, lastStage, oneStage}
-use Rattle.rules.specs.Build.{Stage, refusal, whole, more, stages, cellsOf, wordsOf, countsOf, Areas, areasAfter}
+use Rattle.rules.specs.Build.{Stage, refusal, whole, stages, cellsOf, wordsOf, countsOf, Areas, areasAfter}
 use Rattle.rules.specs.Fold.{bitAt, asNumber, stageBits, foldFrom, loadFrom}
 use Rattle.rules.proofs.Lists.Members.{split, and-true}
+use Rattle.rules.proofs.Lists.Lengths.{length-upTo}
 use Rattle.rules.proofs.Needed.Needs.{Graph, Sound, setting-sound}
 use Rattle.rules.proofs.Needed.Lacks.{leb-true}
 use Rattle.rules.proofs.Tree.Loads.{ltb-false}
@@ -123,11 +124,6 @@ areas-length K need ss a c w1 w2 n1 n2 k = record {
 }
 
 -- ---- the fold
-
-pub length-upTo : (n i : ℕ) → length (upTo n i) ≡ n
-unfolding upTo
-length-upTo zero i = refl
-length-upTo (suc n) i = ap suc (length-upTo n (suc i))
 
 pub length-stageBits : (K : ℕ) (g : List Node) (pl : List ℕ) (load : ℕ → Bool) → length (stageBits K g pl load) ≡ 2 ^ (K + 1)
 unfolding stageBits

@@ -1,24 +1,24 @@
 -- The fold position by position: a cell by its lower cells, a pin by where it stands first, a plan stage by stage. Assumes nothing.
-use Prim.Native.Nat.{ℕ, zero, suc, _+_, _-_, _*_, _/_, _^_, min, _≤_, _<_}
+use Prim.Native.Nat.{ℕ, zero, suc, _+_, _-_, _*_, _/_, _^_, _≤_, _<_}
 use mathlib.Core.Path.{_≡_, refl, sym, _∙_, ap}
 use mathlib.Core.Bool.{Bool, true, false, _&&_}
-use mathlib.Core.List.{List, [], _∷_, _++_, map}
+use mathlib.Core.List.{List, [], _++_}
 use native.Mathlib.Omega.{arith}
 use native.Mathlib.Nat.{pow-succ', div-eq-sub-div, zero-div}
 use native.Mathlib.Numerals.{add-one}
 use lib.Dec.{eqb}
 use lib.Pow.{pow-mono, pow-pos}
-use lib.ListN.{length, getD, take, drop, length-take, length-drop, length-map, List·getD-eq-default, List·getD-map}
+use lib.ListN.{length, getD, take, drop, length-take, length-drop, List·getD-eq-default, List·getD-map}
 use lib.Seq.{getD-take, getD-drop}
-use Rattle.rules.specs.Lists.{Found, nothing, found, upTo}
+use Rattle.rules.specs.Lists.{nothing, found, upTo}
 use Rattle.rules.specs.Cells.{filled, empty, rowAt, rowStart, levelOf, firstLower, secondLower, stageSize, rooms}
 use Rattle.rules.specs.Graph.{Node, leaf, gateBit}
-use Rattle.rules.specs.Fold.{cellBit, bitAt, firstAt, lowest, loadFrom, asNumber, stageBits, foldFrom}
+use Rattle.rules.specs.Fold.{cellBit, bitAt, lowest, loadFrom, asNumber, stageBits, foldFrom}
 use Rattle.rules.proofs.Lists.Members.{split, eqb-true}
 use Rattle.rules.proofs.Cells.Positions.{Placed, position-placed, level-one}
-use Rattle.rules.proofs.Build.Lengths.{length-upTo, length-stageBits}
 use Rattle.rules.proofs.Stage.Puts.{cell}
 use Rattle.rules.proofs.Stage.Staged.{two-step}
+use Rattle.rules.proofs.Fold.Folds.{firstAt-found}
 
 -- ---- positions
 
@@ -137,13 +137,6 @@ module _ (K : ℕ) (g : List Node) (pl : List ℕ) (load : ℕ → Bool) where
 
 -- ---- where a pin stands first
 
-first-found : (n i : ℕ) (cs : List ℕ) (c : ℕ) → firstAt n i cs ≡ found c → (k : ℕ) × (c ≡ i + k) × (k < length cs) × (getD cs k empty ≡ n)
-unfolding firstAt
-first-found n i [] c e = absurd (let z : _≡_ {A = ℕ} 0 1 = cc in omega arith)
-first-found n i (x ∷ cs) c e = split (eqb x n)
-    (λ b. let d : found i ≡ found c = rw (b, firstAt) at e in let z : i ≡ c = cc in (0, omega arith, omega arith, eqb-true x n b))
-    (λ b. let t = first-found n (suc i) cs c (rw (b, firstAt) at e) in (suc (t .0), omega (arith, t .1), omega (arith, t .2), t .3))
-
 pub record Stands (K : ℕ) (pl : List ℕ) (n p : ℕ) : Type 0 where
   pub low : 1 ≤ p
   pub high : p < 2 ^ K
@@ -152,7 +145,7 @@ pub record Stands (K : ℕ) (pl : List ℕ) (n p : ℕ) : Type 0 where
 pub lowest-stands : (K : ℕ) (pl : List ℕ) (n p : ℕ) → lowest K pl n ≡ found p → Stands K pl n p
 unfolding lowest
 lowest-stands K pl n p e =
-    let t = first-found n 1 (take (2 ^ K - 1) (drop 1 pl)) p e in
+    let t = firstAt-found n 1 (take (2 ^ K - 1) (drop 1 pl)) p e in
     let b : t .0 < 2 ^ K - 1 = omega (arith, t .2, length-take (2 ^ K - 1) (drop 1 pl)) in
     record {
       low = omega (arith, t .1);

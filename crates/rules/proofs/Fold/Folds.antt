@@ -18,10 +18,29 @@ use Rattle.rules.proofs.Cells.Positions.{position-placed}
 use Rattle.rules.proofs.Lists.Members.{In, Out, split, eqb-true, eqb-false, eqb-same, in-here, in-there}
 use Rattle.rules.proofs.Walk.Reverse.{Sub, out-sub, in-below}
 use Rattle.rules.proofs.Needed.Needs.{Sound, Graph}
-use Rattle.rules.proofs.Tree.Loads.{node, Fine, rows}
+use Rattle.rules.proofs.Tree.Loads.{Fine, rows}
 use Rattle.rules.proofs.Stage.Puts.{cell}
 use Rattle.rules.proofs.Stage.Staged.{two-step}
 use Rattle.rules.proofs.Tree.Sane.{Step, copies, splits, Sane, Marked}
+use Rattle.rules.proofs.Tree.Held.{node}
+
+-- ---- where a pin stands first
+
+pub firstAt-found : (n i : ℕ) (cs : List ℕ) (c : ℕ) → firstAt n i cs ≡ found c → (k : ℕ) × (c ≡ i + k) × (k < length cs) × (getD cs k empty ≡ n)
+unfolding firstAt
+firstAt-found n i [] c e = absurd (let z : _≡_ {A = ℕ} 0 1 = cc in omega arith)
+firstAt-found n i (x ∷ cs) c e = split (eqb x n)
+    (λ b. let d : found i ≡ found c = rw (b, firstAt) at e in let z : i ≡ c = cc in (0, omega arith, omega arith, eqb-true x n b))
+    (λ b. let t = firstAt-found n (suc i) cs c (rw (b, firstAt) at e) in (suc (t .0), omega (arith, t .1), omega (arith, t .2), t .3))
+
+firstAt-nothing : (n i : ℕ) (cs : List ℕ) → firstAt n i cs ≡ nothing → (k : ℕ) → k < length cs → getD cs k empty ≢ n
+unfolding firstAt
+firstAt-nothing n i [] e k b d = absurd (omega arith)
+firstAt-nothing n i (x ∷ cs) e zero b d = split (eqb x n) (λ a. let z : found i ≡ nothing = rw (a, firstAt) at e in let y : _≡_ {A = ℕ} 0 1 = cc in omega arith) (λ a. eqb-false x n a d)
+firstAt-nothing n i (x ∷ cs) e (suc k) b d = split (eqb x n) (λ a. let z : found i ≡ nothing = rw (a, firstAt) at e in let y : _≡_ {A = ℕ} 0 1 = cc in omega arith)
+    (λ a. firstAt-nothing n (suc i) cs (rw (a, firstAt) at e) k (omega arith) d)
+
+-- ---- a gate's value
 
 module _ (g : List Node) (r : ℕ → ℕ) (G : Graph g r) (given bits : List ℕ) where
   falls-first : (n a b : ℕ) → getD g n leaf ≡ gate a b → (r (pinOf a) < r n) × (r (pinOf b) < r n)
@@ -85,20 +104,6 @@ module _ (X : Setting) (r : ℕ → ℕ) (f : ℕ) (S : Sound X r f) (G : Graph 
   fold-good (suc h) w p e a b k = fold-step h w p (fold-good h) e a b k (sane h w p e a b (λ z. z) k)
 
   -- what the next stage loads
-  firstAt-found : (n i : ℕ) (cs : List ℕ) (c : ℕ) → firstAt n i cs ≡ found c → (k : ℕ) × (c ≡ i + k) × (k < length cs) × (getD cs k empty ≡ n)
-  unfolding firstAt
-  firstAt-found n i [] c e = absurd (let z : _≡_ {A = ℕ} 0 1 = cc in omega arith)
-  firstAt-found n i (x ∷ cs) c e = split (eqb x n)
-      (λ b. let d : found i ≡ found c = rw (b, firstAt) at e in let z : i ≡ c = cc in (0, omega arith, omega arith, eqb-true x n b))
-      (λ b. let t = firstAt-found n (suc i) cs c (rw (b, firstAt) at e) in (suc (t .0), omega (arith, t .1), omega (arith, t .2), t .3))
-
-  firstAt-nothing : (n i : ℕ) (cs : List ℕ) → firstAt n i cs ≡ nothing → (k : ℕ) → k < length cs → getD cs k empty ≢ n
-  unfolding firstAt
-  firstAt-nothing n i [] e k b d = absurd (omega arith)
-  firstAt-nothing n i (x ∷ cs) e zero b d = split (eqb x n) (λ a. let z : found i ≡ nothing = rw (a, firstAt) at e in let y : _≡_ {A = ℕ} 0 1 = cc in omega arith) (λ a. eqb-false x n a d)
-  firstAt-nothing n i (x ∷ cs) e (suc k) b d = split (eqb x n) (λ a. let z : found i ≡ nothing = rw (a, firstAt) at e in let y : _≡_ {A = ℕ} 0 1 = cc in omega arith)
-      (λ a. firstAt-nothing n (suc i) cs (rw (a, firstAt) at e) k (omega arith) d)
-
   -- every filled position
   pub position-good : (p : ℕ) → 1 ≤ p → p < 2 ^ (X .K + 1) → filled (getD pl p empty) ≡ true → bitAt (X .K) (X .g) pl load p ≡ value f (X .g) given bits (getD pl p empty)
   unfolding bitAt

@@ -11,7 +11,7 @@ use lib.ListN.{length, getD}
 use Rattle.rules.specs.Lists.{mem}
 use Rattle.rules.specs.Cells.{filled, empty, rowAt}
 use Rattle.rules.specs.Graph.{Node, leaf, gate, pinOf, operands, below, value}
-use Rattle.rules.specs.Traversal.{over, Setting, setting, levelAt}
+use Rattle.rules.specs.Traversal.{Setting, setting, levelAt}
 use Rattle.rules.specs.Placing.{place}
 use Rattle.rules.specs.Ending.{stage, oneStage}
 use Rattle.rules.specs.Depth.{depth}
@@ -20,12 +20,12 @@ use Rattle.rules.proofs.Lists.Members.{In, split, true-false, eqb-true,
 use Rattle.rules.proofs.Walk.Levels.{over-above}
 use Rattle.rules.proofs.Walk.Reverse.{Sub, in-below}
 use Rattle.rules.proofs.Needed.Needs.{Sound, Graph, setting-sound}
-use Rattle.rules.proofs.Tree.Held.{tree-in}
+use Rattle.rules.proofs.Tree.Held.{tree-in, node}
 use Rattle.rules.proofs.Stage.Staged.{Ended, the-end}
 use Rattle.rules.proofs.Stage.Depth.{Ready}
 use Rattle.rules.proofs.Stage.Flat.{blank-replicate}
 use Rattle.rules.proofs.Tree.Invariant.{Placeable, final}
-use Rattle.rules.proofs.Tree.Loads.{node, Fine, fine-kept, fine-first, level-is}
+use Rattle.rules.proofs.Tree.Loads.{Fine, fine-kept, fine-first, level-is}
 use Rattle.rules.proofs.Tree.Sane.{Sane, Marked, sane-kept, sane-first, frame}
 use Rattle.rules.proofs.Fold.Folds.{position-good, load-good}
 

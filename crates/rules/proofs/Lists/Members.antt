@@ -2,7 +2,7 @@
 use Prim.Native.Nat.{ℕ, zero, suc, _<_}
 use mathlib.Core.Path.{_≡_, refl, sym, subst}
 use mathlib.Core.Logic.{_⊎_, inl, inr, _≢_}
-use mathlib.Core.Bool.{Bool, true, false, _&&_}
+use mathlib.Core.Bool.{Bool, true, false, _&&_, _||_}
 use mathlib.Core.List.{List, [], _∷_, _++_, map, reverse, reverseAux}
 use native.Mathlib.Omega.{arith}
 use lib.Dec.{T, eqb, eqb→eq, eqb-refl}
@@ -44,6 +44,10 @@ and-true true false e = true-false e refl
 and-true false true e = true-false e refl
 and-true false false e = true-false e refl
 
+pub or-true : (a b : Bool) → a || b ≡ true → (a ≡ true) ⊎ (b ≡ true)
+or-true true b e = inl refl
+or-true false b e = inr e
+
 -- `mem` at a list with a head
 pub in-here : (p : ℕ) (xs : List ℕ) → In p (p ∷ xs)
 unfolding mem
@@ -66,6 +70,10 @@ out-head p x xs e d = true-false (subst (λ (y : ℕ). In p (y ∷ xs)) d (in-he
 
 pub out-tail : (p x : ℕ) (xs : List ℕ) → Out p (x ∷ xs) → Out p xs
 out-tail p x xs e = split (mem p xs) (λ d. true-false (in-there p x xs d) e) (λ d. d)
+
+pub mem-other : (q p : ℕ) (xs : List ℕ) → q ≢ p → mem q (p ∷ xs) ≡ mem q xs
+unfolding mem
+mem-other q p xs n = split (eqb q p) (λ e. absurd (n (eqb-true q p e))) (λ e. rw (e, mem))
 
 pub in-append-left : (p : ℕ) (xs ys : List ℕ) → In p xs → In p (xs ++ ys)
 in-append-left p [] ys e = in-nil p e
@@ -235,3 +243,18 @@ pub swapOutAll-in : (ps : List ℕ) (q : ℕ) (xs : List ℕ) → In q (swapOutA
 unfolding swapOutAll
 swapOutAll-in [] q xs e = e
 swapOutAll-in (p ∷ ps) q xs e = swapOut-in p q xs (swapOutAll-in ps q (swapOut p xs) e)
+
+pub keep-append : (f : ℕ → Bool) (xs ys : List ℕ) → keep f (xs ++ ys) ≡ keep f xs ++ keep f ys
+unfolding keep
+keep-append f [] ys = refl
+keep-append f (x ∷ xs) ys = split (f x) (λ e. rw (e, keep, keep-append f xs ys)) (λ e. rw (e, keep, keep-append f xs ys))
+
+pub keep-none : (f : ℕ → Bool) (xs : List ℕ) → ((x : ℕ) → In x xs → f x ≡ false) → keep f xs ≡ []
+unfolding keep
+keep-none f [] h = refl
+keep-none f (x ∷ xs) h = rw (h x (in-here x xs), keep) (keep-none f xs (λ y e. h y (in-there y x xs e)))
+
+pub insertAll-append : (xs ys zs : List ℕ) → insertAll (xs ++ ys) zs ≡ insertAll ys (insertAll xs zs)
+unfolding insertAll
+insertAll-append [] ys zs = refl
+insertAll-append (x ∷ xs) ys zs = insertAll-append xs ys (insert x zs)

@@ -13,10 +13,10 @@ use Rattle.rules.specs.Traversal.{Setting, levelAt}
 use Rattle.rules.specs.Placing.{asked, asks, needed, treeOf, reverseOf, neededOf}
 use Rattle.rules.specs.Ending.{inNeed, untouched}
 use Rattle.rules.specs.Lean.{lacks, wanted, lowWaiting, highWaiting}
-use Rattle.rules.proofs.Lists.Members.{In, Out, split, T→true, true→T, true-false, eqb-true, and-true, in-here, in-there, in-cons, in-nil, in-keep, keep-in, in-distinct, distinct-in, in-gather, gather-in}
+use Rattle.rules.proofs.Lists.Members.{In, Out, split, T→true, true→T, true-false, and-true, in-here, in-there, in-nil, in-keep, keep-in, in-distinct, distinct-in, in-gather, gather-in}
 use Rattle.rules.proofs.Walk.Traverse.{start}
 use Rattle.rules.proofs.Walk.Reverse.{Sub, out-sub, nat, reached}
-use Rattle.rules.proofs.Needed.Needs.{Sound}
+use Rattle.rules.proofs.Needed.Needs.{Sound, asked-low}
 use Rattle.rules.proofs.Stage.Last.{nobody, once-length}
 use Rattle.rules.proofs.Written.Words.{once-insertAll}
 use Rattle.rules.proofs.Tree.Loads.{ltb-true, ltb-false}
@@ -69,12 +69,6 @@ module _ (X : Setting) where
       (λ d. let b : mem x tr2 ≡ true = h x d in true-false (and-true (eqb (levelAt X x) 0) (not (mem x tr2)) (k .1) .1) (rw b))
       (λ d. in-keep _ x (below (X .g) (X .done) p) (k .0) (rw (and-true (eqb (levelAt X x) 0) (not (mem x tr2)) (k .1) .0, d)))
 
-  asked-low : (tr : List ℕ) (p l x : ℕ) → levelAt X p ≡ l → In x (asked X tr p l) → levelAt X x ≤ 1
-  unfolding asked
-  asked-low tr p zero x z e = elim (in-cons x p [] (keep-in _ x (p ∷ []) e .0)) [ inl d ↦ rw d (omega arith) | inr d ↦ in-nil x d ]
-  asked-low tr p (suc zero) x z e = elim (in-cons x p [] e) [ inl d ↦ rw d (omega arith) | inr d ↦ in-nil x d ]
-  asked-low tr p (suc (suc l)) x z e = omega (arith, eqb-true (levelAt X x) 0 (and-true (eqb (levelAt X x) 0) (not (mem x tr)) (keep-in _ x (below (X .g) (X .done) p) e .1) .0))
-
   -- a needed pin is asked for by an unplaced one
   pub wanted-in : (pl : List ℕ) (x : ℕ) → In x (wanted X pl) → (p : ℕ) × In p (X .order) × Out p (treeOf X pl) × In x (asked X (treeOf X pl) p (levelAt X p))
   unfolding wanted lacks
@@ -97,7 +91,7 @@ module _ (X : Setting) where
   fewer pl pl2 h = once-length (once-insertAll (gather (lacks X (treeOf X pl2)) (X .order)) nobody) (wanted X pl) (wanted-falls pl pl2 h)
 
   pub wanted-low : (pl : List ℕ) (x : ℕ) → In x (wanted X pl) → levelAt X x ≤ 1
-  wanted-low pl x e = let k = wanted-in pl x e in asked-low (treeOf X pl) (k .0) (levelAt X (k .0)) x refl (k .3)
+  wanted-low pl x e = let k = wanted-in pl x e in asked-low X (treeOf X pl) (k .0) (levelAt X (k .0)) x refl (k .3)
 
   -- a low waiting pin asks for itself
   asks-itself : (tr : List ℕ) (p l : ℕ) → In p (X .waiting) → l ≤ 1 → In p (asked X tr p l)

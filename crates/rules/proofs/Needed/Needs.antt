@@ -1,20 +1,21 @@
 -- Rule 6: which pins are needed, and what a stage that places them all leaves to do. Assumes nothing.
-use Prim.Native.Nat.{ℕ, zero, suc, _<_}
+use Prim.Native.Nat.{ℕ, zero, suc, _<_, _≤_}
 use mathlib.Core.Path.{_≡_}
 use mathlib.Core.Logic.{inl, inr}
 use mathlib.Core.Bool.{true, not, _&&_}
 use mathlib.Core.List.{List, [], _∷_, _++_}
-use lib.Dec.{ltb, lt→ltb}
+use lib.Dec.{ltb, lt→ltb, eqb}
 use lib.ListN.{length, getD}
 use Rattle.rules.specs.Lists.{mem, gather}
-use Rattle.rules.specs.Graph.{Node, operands, below}
+use Rattle.rules.specs.Graph.{Node, below}
 use Rattle.rules.specs.Traversal.{traverse, Setting, setting, levelAt, reverseLevels}
 use Rattle.rules.specs.Placing.{asked, asks, needed, treeOf, reverseOf, neededOf}
 use Rattle.rules.specs.Depth.{depth}
-use Rattle.rules.proofs.Lists.Members.{In, Out, split, T→true, in-cons, in-nil, in-append-right, in-distinct, in-gather, in-reverse, reverse-in, keep-in, gather-in, distinct-in}
-use Rattle.rules.proofs.Walk.Traverse.{more, From, start, step, Ranked, Visited, traverse-good, from-rank}
+use Rattle.rules.proofs.Lists.Members.{In, Out, split, T→true, in-cons, in-nil, in-append-right, in-distinct, in-gather, in-reverse, reverse-in, keep-in, gather-in, distinct-in, eqb-true, and-true}
+use Rattle.rules.proofs.Walk.Traverse.{From, start, step, Ranked, Visited, traverse-good, from-rank}
 use Rattle.rules.proofs.Walk.Levels.{levels-good}
 use Rattle.rules.proofs.Walk.Reverse.{Sub, below-sub, from-sub, from-in, topo-closed, reached}
+use native.Mathlib.Omega.{arith}
 
 -- what is known of a stage's work, with ranks r and more fuel f than any listed pin's rank
 pub record Sound (X : Setting) (r : ℕ → ℕ) (f : ℕ) : Type 0 where
@@ -86,3 +87,10 @@ module _ (X : Setting) (r : ℕ → ℕ) (f : ℕ) (S : Sound X r f) where
       split (ltb 0 (getD (reverseOf X pl) (k .0) 0) && not (mem (k .0) tr))
       (λ b. asked-listed tr (k .0) (levelAt X (k .0)) x (S .listed (k .0) (k .1)) (rw (b, asks) at (k .2)))
       (λ b. in-nil x (rw (b, asks) at (k .2)))
+
+-- such pins are of level 0 or 1
+pub asked-low : (X : Setting) (tr : List ℕ) (p l x : ℕ) → levelAt X p ≡ l → In x (asked X tr p l) → levelAt X x ≤ 1
+unfolding asked
+asked-low X tr p zero x z e = elim (in-cons x p [] (keep-in _ x (p ∷ []) e .0)) [ inl d ↦ rw d (omega arith) | inr d ↦ in-nil x d ]
+asked-low X tr p (suc zero) x z e = elim (in-cons x p [] e) [ inl d ↦ rw d (omega arith) | inr d ↦ in-nil x d ]
+asked-low X tr p (suc (suc l)) x z e = omega (arith, eqb-true (levelAt X x) 0 (and-true (eqb (levelAt X x) 0) (not (mem x tr)) (keep-in _ x (below (X .g) (X .done) p) e .1) .0))

@@ -6,7 +6,6 @@ use mathlib.Core.List.{List, [], _∷_, _++_}
 use native.Mathlib.Omega.{arith}
 use lib.Dec.{eqb}
 use lib.ListN.{length}
-use Rattle.rules.specs.Lists.{nothing}
 use Rattle.rules.specs.Cells.{empty, rowAt}
 use Rattle.rules.specs.Graph.{Node}
 use Rattle.rules.specs.Traversal.{setting}

@@ -2,19 +2,19 @@
 use Prim.Native.Nat.{ℕ, zero, suc, _+_, _-_, _*_, _/_, _^_, _≤_, _<_, min}
 use mathlib.Core.Path.{_≡_, refl, _∙_, subst}
 use mathlib.Core.Logic.{_⊎_, inl, inr}
-use mathlib.Core.Bool.{Bool, true, false, not, _&&_, _||_}
+use mathlib.Core.Bool.{true, false, not, _&&_, _||_}
 use mathlib.Core.List.{List, [], _∷_, map}
 use native.Mathlib.Omega.{arith}
 use lib.ListN.{length, getD, drop, replicate, length-replicate, length-take, length-drop}
 use lib.Seq.{getD-set-other, getD-take, getD-drop}
-use Rattle.rules.specs.Lists.{mem, keep, isNil, nothing, found}
+use Rattle.rules.specs.Lists.{mem, isNil, found}
 use Rattle.rules.specs.Cells.{filled, empty, firstEmpty, rowAt, row}
 use Rattle.rules.specs.Graph.{below}
 use Rattle.rules.specs.Traversal.{Setting, levelAt, greatest}
 use Rattle.rules.specs.Placing.{place, tree, treeOf, neededOf, fill, filledPlan, asked}
 use Rattle.rules.specs.Ending.{sparseRuns, Plan?, full, plan, putRest, inNeed, untouched, lastStage, written, rest}
 use Rattle.rules.specs.Depth.{depth}
-use Rattle.rules.proofs.Lists.Members.{In, Out, split, true-false, in-here, in-there, in-nil, in-keep, keep-in}
+use Rattle.rules.proofs.Lists.Members.{In, Out, split, true-false, in-here, in-there, in-nil, in-keep, keep-in, keep-none}
 use Rattle.rules.proofs.Walk.Traverse.{From, start, step}
 use Rattle.rules.proofs.Walk.Levels.{depth-at, over-above}
 use Rattle.rules.proofs.Walk.Reverse.{Sub, from-in}
@@ -33,11 +33,6 @@ fill-zero : (X : Setting) (f : ℕ) (pl : List ℕ) → fill X f 0 pl ≡ pl
 unfolding fill
 fill-zero X zero pl = refl
 fill-zero X (suc f) pl = refl
-
-keep-none : (f : ℕ → Bool) (xs : List ℕ) → ((x : ℕ) → In x xs → f x ≡ false) → keep f xs ≡ []
-unfolding keep
-keep-none f [] h = refl
-keep-none f (x ∷ xs) h = rw (h x (in-here x xs), keep) (keep-none f xs (λ y e. h y (in-there y x xs e)))
 
 pub blank-replicate : (n : ℕ) → Blank (replicate n empty)
 unfolding filled empty

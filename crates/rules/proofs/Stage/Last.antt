@@ -2,13 +2,13 @@
 use Prim.Native.Nat.{ℕ, zero, suc, pred, _+_, _-_, _*_, _^_, _≤_, _<_, zero-le}
 use mathlib.Core.Path.{_≡_, refl, sym, _∙_, ap, subst}
 use mathlib.Core.Logic.{_⊎_, inl, inr, _≢_}
-use mathlib.Core.Bool.{Bool, true, false, not, _&&_, _||_}
+use mathlib.Core.Bool.{Bool, true, false, _&&_, _||_}
 use mathlib.Core.List.{List, [], _∷_, map}
 use native.Mathlib.Omega.{arith}
 use lib.Dec.{eqb, ltb, leb}
 use lib.ListN.{length, getD, take, drop, length-map}
 use lib.Seq.{getD-set-same, getD-set-other, getD-drop}
-use Rattle.rules.specs.Lists.{mem, count, init, lastOf, swapOut, swapOutAll, nothing}
+use Rattle.rules.specs.Lists.{mem, count, init, lastOf, swapOut, swapOutAll}
 use Rattle.rules.specs.Cells.{filled, empty, rowAt}
 use Rattle.rules.specs.Traversal.{Setting}
 use Rattle.rules.specs.Ending.{Put, meet, fillIn, putCell, putCells, Sparse, putRun, putRuns, addSparse, sparseFrom, plan}
@@ -16,6 +16,7 @@ use Rattle.rules.proofs.Lists.Members.{In, Out, split, true-false, eqb-
 use Rattle.rules.proofs.Walk.Reverse.{Sub, out-sub}
 use Rattle.rules.proofs.Tree.Held.{place1-other}
 use Rattle.rules.proofs.Stage.Puts.{list, Keeps, cell-keeps, cells-keep, Runs, none, more}
+use Rattle.rules.proofs.Stage.Branches.{cells-idle}
 
 -- taking out shortens by one, whatever is taken out
 length-init : (xs : List ℕ) → length (init xs) ≡ pred (length xs)
@@ -159,15 +160,6 @@ module _ (X : Setting) (half : 2 ^ (X .K) ≡ rowAt (X .K) 1 + rowAt (X .K) 1) (
   cells-stay zero p s lo hi k i h f = f
   cells-stay (suc n) p s lo hi k i h f = cells-stay n (suc p) (putCell X p s) (omega arith) (omega arith) (cell-keeps X half pl l p s lo (omega arith) k) i h (cell-stays p s lo (omega arith) k i h f)
 
-  cell-nil : (p : ℕ) (s : Put) → s .left ≡ [] → putCell X p s ≡ s
-  unfolding putCell
-  cell-nil p s e = rw (e, putCell) (λ i. record { plan = s .plan; left = e i; real = s .real; words = s .words })
-
-  cells-nil : (n p : ℕ) (s : Put) → s .left ≡ [] → putCells X n p s ≡ s
-  unfolding putCells
-  cells-nil zero p s e = refl
-  cells-nil (suc n) p s e = rw (cell-nil p s e) (cells-nil n (suc p) s e)
-
   -- a cell is filled after its turn, unless no pin was left
   cell-solid : (p : ℕ) (s : Put) → rowAt (X .K) 1 ≤ p → p < 2 ^ (X .K) → Keeps X half pl s → (s .left ≡ []) ⊎ (filled (getD (putCell X p s .plan) p empty) ≡ true)
   unfolding putCell meet fillIn
@@ -181,7 +173,7 @@ module _ (X : Setting) (half : 2 ^ (X .K) ≡ rowAt (X .K) 1 + rowAt (X .K) 1) (
   cells-solid (suc n) p s lo hi k =
       let k1 : Keeps X half pl (putCell X p s) = cell-keeps X half pl l p s lo (omega arith) k in
       elim (cell-solid p s lo (omega arith) k) [
-        | inl e ↦ inl (ap (λ (t : Put). t .left) (cells-nil (suc n) p s e) ∙ e)
+        | inl e ↦ inl (ap (λ (t : Put). t .left) (cells-idle X (suc n) p s e) ∙ e)
         | inr b ↦ elim (cells-solid n (suc p) (putCell X p s) (omega arith) (omega arith) k1) [
           | inl e ↦ inl e
           | inr h ↦ inr (λ i a c. split (eqb i p)
@@ -201,7 +193,7 @@ module _ (X : Setting) (half : 2 ^ (X .K) ≡ rowAt (X .K) 1 + rowAt (X .K) 1) (
   runs-nil : (rs : List Sparse) (s : Put) → s .left ≡ [] → putRuns X true rs s .left ≡ []
   unfolding putRuns putRun
   runs-nil [] s e = e
-  runs-nil (r ∷ rs) s e = runs-nil rs (putRun X r s) (rw (cells-nil 32 (rowAt (X .K) 1 + r .start) s e) e)
+  runs-nil (r ∷ rs) s e = runs-nil rs (putRun X r s) (rw (cells-idle X 32 (rowAt (X .K) 1 + r .start) s e) e)
 
   pub runs-solid : {rs : List Sparse} → Runs (rowAt (X .K) 1) rs → (s : Put) → Keeps X half pl s →
       (putRuns X true rs s .left ≡ []) ⊎ ((a : ℕ) → In a (starts rs) → Solid (rowAt (X .K) 1 + a) 32 (putRuns X true rs s .plan))

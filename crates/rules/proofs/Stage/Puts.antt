@@ -1,8 +1,8 @@
 -- Rules 8 and 9: a stage that is not refused holds all that it held before and every needed pin. Assumes nothing.
 use Prim.Native.Nat.{ℕ, zero, suc, _+_, _-_, _*_, _/_, _^_, _≤_, _<_, min}
 use mathlib.Core.Path.{_≡_, refl, sym, _∙_}
-use mathlib.Core.Logic.{_⊎_, inl, inr}
-use mathlib.Core.Bool.{Bool, true, false, not, _&&_, _||_}
+use mathlib.Core.Logic.{inl, inr}
+use mathlib.Core.Bool.{Bool, true, false, _&&_, _||_}
 use mathlib.Core.List.{List, [], _∷_}
 use native.Mathlib.Omega.{arith}
 use lib.Dec.{eqb, ltb, leb}
@@ -13,19 +13,13 @@ use Rattle.rules.specs.Cells.{filled, empty, firstEmpty, rowAt, row}
 use Rattle.rules.specs.Traversal.{Setting}
 use Rattle.rules.specs.Placing.{place, tree}
 use Rattle.rules.specs.Ending.{Put, meet, fillIn, putCell, putCells, Sparse, putRun, putRuns, addSparse, sparseFrom, sparseRuns, Plan?, full, plan, putRest}
-use Rattle.rules.proofs.Lists.Members.{In, split, in-here, in-there, in-cons, in-nil, keep-in, insert-in, insertAll-in}
+use Rattle.rules.proofs.Lists.Members.{In, split, in-here, in-there, in-cons, in-nil, keep-in, insert-in, insertAll-in, or-true}
 use Rattle.rules.proofs.Walk.Reverse.{Sub}
 use Rattle.rules.proofs.Tree.Held.{in-tree, tree-grows, length-place1, place1-other, firstEmpty-found}
 
 pub list : {P : Type 0} (xs : List ℕ) → (xs ≡ [] → P) → ((y : ℕ) (ys : List ℕ) → xs ≡ y ∷ ys → P) → P
 list [] n c = n refl
 list (y ∷ ys) n c = c y ys refl
-
-pub or-true : (a b : Bool) → a || b ≡ true → (a ≡ true) ⊎ (b ≡ true)
-or-true true true e = inl refl
-or-true true false e = inl refl
-or-true false true e = inr refl
-or-true false false e = inr e
 
 pub cell : {P : Type 0} (x : Found) → (x ≡ nothing → P) → ((c : ℕ) → x ≡ found c → P) → P
 cell nothing n f = n refl

@@ -8,7 +8,7 @@ use native.Mathlib.Omega.{arith}
 use native.Mathlib.Numerals.{add-one}
 use lib.Dec.{eqb, ltb, leb}
 use lib.ListN.{length, replicate, length-replicate}
-use Rattle.rules.specs.Lists.{mem, insertAll, swapOutAll, nothing, found}
+use Rattle.rules.specs.Lists.{mem, insertAll, swapOutAll, found}
 use Rattle.rules.specs.Cells.{filled, empty, firstEmpty, rowAt, row}
 use Rattle.rules.specs.Graph.{Node}
 use Rattle.rules.specs.Traversal.{Setting, setting, greatest, levelAt}

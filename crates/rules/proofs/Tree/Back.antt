@@ -16,12 +16,13 @@ use Rattle.rules.specs.Placing.{place, placed, takeBack}
 use Rattle.rules.proofs.Lists.Members.{In, split, true-false, eqb-true}
 use Rattle.rules.proofs.Needed.Needs.{Sound}
 use Rattle.rules.proofs.Stage.Staged.{two-step}
-use Rattle.rules.proofs.Tree.Loads.{node, ltb-false, wide, rows, first, second}
+use Rattle.rules.proofs.Tree.Loads.{ltb-false, wide, rows, first, second}
 use Rattle.rules.proofs.Tree.Sane.{Marked, frame}
 use Rattle.rules.proofs.Tree.Invariant.{Placeable}
 use Rattle.rules.proofs.Tree.Fair.{Fair, Under, apart, bare, listed-filled}
+use Rattle.rules.proofs.Tree.Held.{node}
 
-not-filled : (c : ℕ) → filled c ≡ false → c ≡ empty
+pub not-filled : (c : ℕ) → filled c ≡ false → c ≡ empty
 unfolding filled
 not-filled c e = split (eqb c empty) (λ d. eqb-true c empty d) (λ d. true-false (let z : not (eqb c empty) ≡ true = rw d in z) e)
 

@@ -3,7 +3,7 @@ use Prim.Native.Nat.{ℕ, zero, suc, _+_, _*_, _^_, _≤_, _<_}
 use mathlib.Core.Path.{_≡_, sym, _∙_}
 use mathlib.Core.Logic.{inl, inr}
 use mathlib.Core.Bool.{true, false}
-use mathlib.Core.List.{List, [], _∷_, _++_, reverse}
+use mathlib.Core.List.{List, [], _∷_, _++_}
 use native.Mathlib.Omega.{arith}
 use native.Mathlib.Nat.{pow-succ'}
 use lib.Dec.{ltb}
@@ -18,13 +18,13 @@ use Rattle.rules.proofs.Lists.Members.{In, Out, split, true-false, in-c
 use Rattle.rules.proofs.Walk.Traverse.{From, start, step}
 use Rattle.rules.proofs.Walk.Reverse.{below-in, in-below, from-in, topo-closed, reached}
 use Rattle.rules.proofs.Walk.Levels.{over-above}
-use Rattle.rules.proofs.Fold.Whole.{zero-kept}
+use Rattle.rules.proofs.Fold.Whole.{zero-kept, above-zero}
 use Rattle.rules.proofs.Needed.Needs.{Sound}
-use Rattle.rules.proofs.Tree.Held.{tree-in, in-tree}
+use Rattle.rules.proofs.Tree.Held.{tree-in, in-tree, node}
 use Rattle.rules.proofs.Stage.Flat.{blank-replicate}
 use Rattle.rules.proofs.Stage.Staged.{two-step}
 use Rattle.rules.proofs.Tree.Invariant.{Placeable, filled-inv}
-use Rattle.rules.proofs.Tree.Loads.{node, ltb-true, ltb-false, wide, rows, set-either, first, second, level-is}
+use Rattle.rules.proofs.Tree.Loads.{ltb-true, ltb-false, wide, rows, set-either, first, second, level-is}
 use Rattle.rules.proofs.Tree.Sane.{Step, copies, splits, Sane, Marked, same-row, sane-kept, sane-first}
 
 double : (w m k : ℕ) → w * (2 * m) ≡ k → (2 * w) * m ≡ k
@@ -42,10 +42,6 @@ row-of-from m (suc n) (suc h) w i e a b c =
 
 row-of : (K i : ℕ) → 1 ≤ i → i < 2 ^ K → (j : ℕ) × (v : ℕ) × (v * 2 ^ j ≡ 2 ^ K) × (v ≤ i) × (i < v + v)
 row-of K i a b = row-of-from (2 ^ K) K K 1 i (omega arith) a (omega arith) (omega arith)
-
-one-up : (pl : List ℕ) (i n : ℕ) → filled (getD pl 0 empty) ≡ false → getD pl i empty ≡ n → filled n ≡ true → 1 ≤ i
-one-up pl zero n z e k = true-false k (rw e at z)
-one-up pl (suc i) n z e k = omega arith
 
 pub over-level : (X : Setting) (r : ℕ → ℕ) (f : ℕ) (S : Sound X r f) (q x : ℕ) → In q (X .seen) → In x (below (X .g) (X .done) q) → levelAt X x < levelAt X q
 over-level X r f S q x s i =
@@ -113,7 +109,7 @@ module _ (X : Setting) (r : ℕ → ℕ) (f : ℕ) (S : Sound X r f) where
     pub cone : (n : ℕ) → In n (tree (X .K) pl) → filled (getD pl 0 empty) ≡ false → 2 ≤ levelAt X n → (x : ℕ) → In x (operands (getD (X .g) n leaf)) → In x (tree (X .K) pl)
     cone n i no-zero l x o =
         let t = tree-in (X .K) pl n i in
-        let k = row-of (X .K) (t .0) (one-up pl (t .0) n no-zero (t .3) (t .4)) (t .1) in
+        let k = row-of (X .K) (t .0) (above-zero pl (t .0) n no-zero (t .3) (t .4)) (t .1) in
         descend (k .0) (k .1) (t .0) n (k .2) (k .3) (k .4) (t .3) (t .4) l x o
 
     -- so an unplaced pin above level 0 is reached past no placed pin

@@ -12,18 +12,18 @@ use lib.Seq.{getD-set-other}
 use Rattle.rules.specs.Cells.{filled, empty, rowAt}
 use Rattle.rules.specs.Graph.{leaf, pinOf}
 use Rattle.rules.specs.Traversal.{Setting, levelAt}
-use Rattle.rules.specs.Placing.{place, placed, tree, treeOf, reverseOf}
+use Rattle.rules.specs.Placing.{place, placed, treeOf, reverseOf}
 use Rattle.rules.specs.Lean.{blank, startLevels}
 use Rattle.rules.proofs.Lists.Members.{In, Out, split, true-false}
 use Rattle.rules.proofs.Walk.Reverse.{Sub, below-in}
 use Rattle.rules.proofs.Needed.Needs.{Sound}
 use Rattle.rules.proofs.Stage.Lengths.{len-place}
-use Rattle.rules.proofs.Tree.Held.{tree-in, in-tree}
+use Rattle.rules.proofs.Tree.Held.{tree-in, in-tree, node}
 use Rattle.rules.proofs.Stage.Flat.{blank-replicate}
 use Rattle.rules.proofs.Stage.Staged.{two-step, small-filled}
 use Rattle.rules.proofs.Fold.Whole.{zero-kept}
 use Rattle.rules.proofs.Tree.Invariant.{Placeable}
-use Rattle.rules.proofs.Tree.Loads.{node, ltb-true, ltb-false, wide, rows, first, second}
+use Rattle.rules.proofs.Tree.Loads.{ltb-true, ltb-false, wide, rows, first, second}
 use Rattle.rules.proofs.Tree.Sane.{Sane, Marked, frame, head, sane-kept, sane-first}
 use Rattle.rules.proofs.Tree.Cone.{Tall, tall-kept, cone}
 use Rattle.rules.proofs.Lean.Steady.{Closed, steady}

@@ -8,7 +8,7 @@ use native.Mathlib.Omega.{arith}
 use lib.Dec.{ltb}
 use lib.ListN.{length, getD, set, take, length-set, length-take}
 use lib.Seq.{getD-set-other, getD-take}
-use Rattle.rules.specs.Lists.{keep, nothing, found}
+use Rattle.rules.specs.Lists.{keep, found}
 use Rattle.rules.specs.Cells.{filled, empty, firstEmpty}
 use Rattle.rules.specs.Graph.{Node, leaf, gate, pinOf}
 use Rattle.rules.specs.Traversal.{Setting, levelAt}
@@ -36,12 +36,12 @@ tree-grows K pl pl2 c l b h q e =
     let n : t .0 ≢ c = λ d. true-false (t .4) (subst (λ (x : ℕ). filled x ≡ false) (ap (λ (i : ℕ). getD pl i empty) (sym d) ∙ t .3) b) in
     in-tree K pl2 (t .0) q (t .1) (rw l (t .2)) (h (t .0) (t .1) n ∙ t .3) (t .4)
 
+pub node : {P : Type 0} (x : Node) → (x ≡ leaf → P) → ((a b : ℕ) → x ≡ gate a b → P) → P
+node leaf l k = l refl
+node (gate a b) l k = k a b refl
+
 -- placing at level 1: above level 0 only the cell itself changes
 module _ (X : Setting) (w p n : ℕ) (pl : List ℕ) where
-  node : {P : Type 0} (x : Node) → (x ≡ leaf → P) → ((a b : ℕ) → x ≡ gate a b → P) → P
-  node leaf l k = l refl
-  node (gate a b) l k = k a b refl
-
   pub length-place1 : length (place X 1 w p n pl) ≡ length pl
   unfolding place
   length-place1 = split (ltb (levelAt X n) 1) (λ e. rw (e, place) (simp length-set))

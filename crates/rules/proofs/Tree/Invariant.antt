@@ -10,12 +10,11 @@ use lib.ListN.{length, getD, drop, replicate, length-replicate, length-take, len
 use lib.Seq.{getD-take, getD-drop}
 use Rattle.rules.specs.Lists.{mem, gather, Found, nothing, found}
 use Rattle.rules.specs.Cells.{filled, empty, firstEmpty, rowAt, row}
-use Rattle.rules.specs.Graph.{below}
 use Rattle.rules.specs.Traversal.{Setting, levelAt}
-use Rattle.rules.specs.Placing.{place, placed, tree, treeOf, reverseOf, neededOf, needed, asked, asks, choose, cellAt, pinAt, roomy, fill, filledPlan}
+use Rattle.rules.specs.Placing.{place, placed, tree, treeOf, reverseOf, neededOf, needed, asks, choose, cellAt, pinAt, roomy, fill, filledPlan}
 use Rattle.rules.specs.Ending.{Put, meet, fillIn, putCell, putCells, Sparse, putRun, putRuns, Plan?, full, plan, putRest, inNeed, lastStage, written, rest}
-use Rattle.rules.proofs.Lists.Members.{In, split, eqb-true, and-true, in-here, in-there, in-cons, in-nil, keep-in, gather-in, distinct-in}
-use Rattle.rules.proofs.Needed.Needs.{Sound, need-listed}
+use Rattle.rules.proofs.Lists.Members.{In, split, eqb-true, and-true, in-here, in-there, in-nil, keep-in, gather-in, distinct-in}
+use Rattle.rules.proofs.Needed.Needs.{Sound, need-listed, asked-low}
 use Rattle.rules.proofs.Tree.Held.{firstEmpty-found}
 use Rattle.rules.proofs.Stage.Puts.{list, cell, Runs, none, more, runs-fit}
 use Rattle.rules.proofs.Stage.Lengths.{len-place}
@@ -79,20 +78,13 @@ module _ (X : Setting) (r : ℕ → ℕ) (f : ℕ) (S : Sound X r f) (tall : 1 �
   unfolding filledPlan
   filled-inv i = fill-inv _ _ (omega arith) _ (length-replicate (2 ^ (X .K + 1)) empty, i)
 
-  -- needed pins are of level 0 or 1
-  asked-low : (tr : List ℕ) (p l x : ℕ) → levelAt X p ≡ l → In x (asked X tr p l) → levelAt X x ≤ 1
-  unfolding asked
-  asked-low tr p zero x z e = elim (in-cons x p [] (keep-in _ x (p ∷ []) e .0)) [ inl d ↦ rw d (omega arith) | inr d ↦ in-nil x d ]
-  asked-low tr p (suc zero) x z e = elim (in-cons x p [] e) [ inl d ↦ rw d (omega arith) | inr d ↦ in-nil x d ]
-  asked-low tr p (suc (suc l)) x z e = omega (arith, eqb-true (levelAt X x) 0 (and-true (eqb (levelAt X x) 0) (not (mem x tr)) (keep-in _ x (below (X .g) (X .done) p) e .1) .0))
-
   need-low : (pl : List ℕ) (x : ℕ) → In x (neededOf X pl) → levelAt X x ≤ 1
   unfolding neededOf needed asks
   need-low pl x e =
       let tr : List ℕ = treeOf X pl in
       let k = gather-in (asks X tr (reverseOf X pl)) x (X .order) (distinct-in x (gather (asks X tr (reverseOf X pl)) (X .order)) e) in
       split (ltb 0 (getD (reverseOf X pl) (k .0) 0) && not (mem (k .0) tr))
-      (λ b. asked-low tr (k .0) (levelAt X (k .0)) x refl (rw (b, asks) at (k .2)))
+      (λ b. asked-low X tr (k .0) (levelAt X (k .0)) x refl (rw (b, asks) at (k .2)))
       (λ b. in-nil x (rw (b, asks) at (k .2)))
 
   abbrev Low : List ℕ → Type 0

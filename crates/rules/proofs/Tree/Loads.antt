@@ -24,10 +24,7 @@ use Rattle.rules.proofs.Stage.Staged.{the-end, stage-holds}
 use Rattle.rules.proofs.Stage.Depth.{Ready, still-ready}
 use Rattle.rules.proofs.Stage.Flat.{blank-replicate}
 use Rattle.rules.proofs.Tree.Invariant.{Placeable, final}
-
-pub node : {P : Type 0} (x : Node) → (x ≡ leaf → P) → ((a b : ℕ) → x ≡ gate a b → P) → P
-node leaf l k = l refl
-node (gate a b) l k = k a b refl
+use Rattle.rules.proofs.Tree.Held.{node}
 
 pub ltb-true : (m n : ℕ) → ltb m n ≡ true → m < n
 ltb-true m n e = ltb→lt m n (true→T e)

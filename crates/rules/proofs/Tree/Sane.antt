@@ -10,7 +10,7 @@ use lib.Dec.{eqb, ltb}
 use lib.ListN.{length, getD, set, replicate, length-set}
 use lib.Seq.{getD-set-same, getD-set-other}
 use Rattle.rules.specs.Cells.{filled, empty, rowAt}
-use Rattle.rules.specs.Graph.{leaf, gate, pinOf, operands}
+use Rattle.rules.specs.Graph.{leaf, gate, pinOf}
 use Rattle.rules.specs.Traversal.{Setting, levelAt}
 use Rattle.rules.specs.Placing.{place}
 use Rattle.rules.proofs.Lists.Members.{In, Out, split, true-false, eqb-true, eqb-false}
@@ -19,7 +19,8 @@ use Rattle.rules.proofs.Tree.Invariant.{Placeable}
 use Rattle.rules.proofs.Stage.Flat.{blank-replicate}
 use Rattle.rules.proofs.Stage.Staged.{two-step}
 use Rattle.rules.proofs.Stage.Lengths.{len-place}
-use Rattle.rules.proofs.Tree.Loads.{node, ltb-true, ltb-false, wide, rows, first, second, leaf-level, not-done}
+use Rattle.rules.proofs.Tree.Loads.{ltb-true, ltb-false, wide, rows, first, second, leaf-level, not-done}
+use Rattle.rules.proofs.Tree.Held.{node}
 
 -- two rows are the same, or one is at least twice as long
 pub same-row : (m h k w v : ℕ) → w * 2 ^ h ≡ m → v * 2 ^ k ≡ m → ((w ≡ v) × (h ≡ k)) ⊎ ((w + w ≤ v) ⊎ (v + v ≤ w))

@@ -5,7 +5,7 @@ use mathlib.Core.Logic.{inl, inr}
 use mathlib.Core.List.{List, [], _∷_, _++_}
 use native.Mathlib.Omega.{arith}
 use lib.ListN.{length, getD, set, replicate}
-use Rattle.rules.specs.Lists.{insert, insertAll, distinct, gather}
+use Rattle.rules.specs.Lists.{insertAll, distinct, gather}
 use Rattle.rules.specs.Graph.{Node, below}
 use Rattle.rules.specs.Traversal.{thread, raise, lift, Setting, reverseLevels}
 use Rattle.rules.specs.Placing.{treeOf}
@@ -13,6 +13,7 @@ use Rattle.rules.specs.Lean.{startLevels, buckets, levelList, candidates
 use Rattle.rules.proofs.Walk.Reverse.{nat}
 use Rattle.rules.proofs.Tree.Loads.{set-either}
 use Rattle.rules.proofs.Lean.Buckets.{rank-buckets}
+use Rattle.rules.proofs.Lists.Members.{insertAll-append}
 
 abbrev Low : ℕ → List ℕ → Type 0
 Low m rl = (q : ℕ) → getD rl q 0 ≤ m
@@ -35,7 +36,7 @@ unfolding thread
 lifts-low g stop [] m rl h q = omega (arith, h q)
 lifts-low g stop (p ∷ s) m rl h q = omega (arith, lifts-low g stop s (suc m) (lift g stop p rl) (lift-low g stop m p rl h) q)
 
-none-low : (n : ℕ) → Low 0 (replicate n 0)
+pub none-low : (n : ℕ) → Low 0 (replicate n 0)
 none-low zero q = omega arith
 none-low (suc n) zero = omega arith
 none-low (suc n) (suc q) = none-low n q
@@ -51,11 +52,6 @@ unfolding candidates startLevels
 candidates-counted X h = rank-buckets (startLevels X) (levelList X h) (length (X .seen) + 2) (λ p i. omega (arith, reverse-low X [] p))
 
 -- the needed pins, one listed pin after another
-insertAll-append : (xs ys zs : List ℕ) → insertAll (xs ++ ys) zs ≡ insertAll ys (insertAll xs zs)
-unfolding insertAll
-insertAll-append [] ys zs = refl
-insertAll-append (x ∷ xs) ys zs = insertAll-append xs ys (insert x zs)
-
 pub wanted-first : (X : Setting) (pl : List ℕ) → wanted X pl ≡ insertAll (gather (lacks X (treeOf X pl)) (X .order)) []
 unfolding wanted distinct
 wanted-first X pl = refl

@@ -2,7 +2,7 @@
 use Prim.Native.Nat.{ℕ, zero, suc, _≤_, _<_, max}
 use mathlib.Core.Path.{_≡_, refl, _∙_}
 use mathlib.Core.Logic.{inl, inr}
-use mathlib.Core.List.{List, [], _∷_, _++_, reverse}
+use mathlib.Core.List.{List, [], _∷_, _++_}
 use native.Mathlib.Omega.{arith}
 use lib.ListN.{length, getD, set, replicate, length-set, length-replicate}
 use lib.Seq.{getD-set-same, getD-set-other}
@@ -76,7 +76,7 @@ raise-in n (p ∷ ps) rl q e h = elim (in-cons q p ps e) [
   | inr d ↦ raise-in n ps (set rl p (max n (getD rl p 0))) q d (rw length-set h)
 ]
 
-raise-out : (n : ℕ) (ps rl : List ℕ) (q : ℕ) → Out q ps → getD (raise n ps rl) q 0 ≡ getD rl q 0
+pub raise-out : (n : ℕ) (ps rl : List ℕ) (q : ℕ) → Out q ps → getD (raise n ps rl) q 0 ≡ getD rl q 0
 unfolding raise
 raise-out n [] rl q e = refl
 raise-out n (p ∷ ps) rl q e = raise-out n ps _ q (out-tail q p ps e) ∙ getD-set-other rl p q _ 0 (out-head q p ps e)

@@ -9,7 +9,7 @@ use native.Mathlib.Nat.{mul-le-mul-left, one-le-pow}
 use lib.Dec.{eqb, ltb, leb}
 use lib.ListN.{length, getD, take, drop, length-take, length-drop}
 use lib.Seq.{getD-set-same, getD-set-other, getD-take, getD-drop}
-use Rattle.rules.specs.Lists.{mem, keep, insert, insertAll, count, init, lastOf, swapOut, swapOutAll, nothing}
+use Rattle.rules.specs.Lists.{mem, keep, insert, insertAll, count, init, lastOf, swapOut, swapOutAll}
 use Rattle.rules.specs.Cells.{filled, empty, firstEmpty, rowAt, row}
 use Rattle.rules.specs.Traversal.{Setting}
 use Rattle.rules.specs.Placing.{place, tree}

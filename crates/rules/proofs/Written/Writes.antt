@@ -2,7 +2,7 @@
 use Prim.Native.Nat.{ℕ, zero, suc, _+_, _-_, _/_, _%_, _^_, _≤_}
 use mathlib.Core.Path.{_≡_, refl}
 use mathlib.Core.Logic.{inl, inr}
-use mathlib.Core.Bool.{true, false, not}
+use mathlib.Core.Bool.{false, not}
 use mathlib.Core.List.{List, [], _∷_, _++_}
 use native.Mathlib.Omega.{arith}
 use lib.ListN.{length, getD}
@@ -22,12 +22,8 @@ use Rattle.rules.proofs.Stage.Staged.{half-height, two-step, length-fil
 use Rattle.rules.proofs.Stage.Flat.{blank-replicate}
 use Rattle.rules.proofs.Stage.Depth.{Ready, still-ready, multiple, stage-cases}
 use Rattle.rules.proofs.Tree.Invariant.{final}
-use Rattle.rules.proofs.Fold.Whole.{zero-kept}
+use Rattle.rules.proofs.Fold.Whole.{zero-kept, above-zero}
 use Rattle.rules.proofs.Written.Words.{Stands, Shows, runs-show, rest-stands, runs-aligned, wordsUp-has, Finished, finished-words, left-out, once-insertAll}
-
-above-zero' : (pl : List ℕ) (i n : ℕ) → filled (getD pl 0 empty) ≡ false → getD pl i empty ≡ n → filled n ≡ true → 1 ≤ i
-above-zero' pl zero n z e k = true-false k (rw e at z)
-above-zero' pl (suc i) n z e k = omega arith
 
 module _ (X : Setting) (r : ℕ → ℕ) (f : ℕ) (S : Sound X r f) (tall : 1 ≤ X .K) (half : 2 ^ (X .K) ≡ rowAt (X .K) 1 + rowAt (X .K) 1) (even : rowAt (X .K) 1 % 32 ≡ 0) (small : length (X .g) ≤ empty) where
   abbrev pl : List ℕ
@@ -53,7 +49,7 @@ module _ (X : Setting) (r : ℕ → ℕ) (f : ℕ) (S : Sound X r f) (tall : 1 �
         let fin = final X r f S tall (λ p. filled (getD p 0 empty) ≡ false) (zero-kept X) (blank-replicate (2 ^ (X .K + 1)) 0) pl2 e in
         let t = tree-in (X .K) pl2 x (served X r f S half small pl pl2 long e .grows x (keep-in _ x (X .waiting) i .1)) in
         let m : In (getD pl2 (t .0) empty) (keep (λ p. not (mem p (written X pl .real))) (inTree X pl)) = rw (t .3) (in-keep _ x (inTree X pl) i (rw o)) in
-        (t .0, t .1, t .3, t .4, wordsUp-has (X .K) (X .K) 1 _ pl2 [] (omega arith) (fin .0) (t .0) (above-zero' pl2 (t .0) x (fin .1) (t .3) (t .4)) (let z : suc (X .K) - 1 ≡ X .K = omega arith in rw z (t .1)) m)
+        (t .0, t .1, t .3, t .4, wordsUp-has (X .K) (X .K) 1 _ pl2 [] (omega arith) (fin .0) (t .0) (above-zero pl2 (t .0) x (fin .1) (t .3) (t .4)) (let z : suc (X .K) - 1 ≡ X .K = omega arith in rw z (t .1)) m)
 
     tree-waits : (x : ℕ) → In x (inTree X pl) → In x (X .waiting)
     unfolding inTree

@@ -8,8 +8,8 @@ use native.Mathlib.Numerals.{add-one}
 use lib.ListN.{getD, take}
 use lib.Seq.{take-suc, take-all}
 use borrow.Author.Tests.{eq-eqb, ne-eqb, lt-ltb, le-ltb}
-use Rattle.rules.specs.Lists.{keep, isNil, insert, insertAll}
-use Rattle.rules.proofs.Lists.Members.{split}
+use Rattle.rules.specs.Lists.{keep, isNil, insertAll}
+use Rattle.rules.proofs.Lists.Members.{split, keep-append, insertAll-append}
 use Rattle.columns.specs.Fields.{LEVEL, CELLS, PHASE, SPARE, WAITING}
 use Rattle.columns.specs.Lists.{list, EnlistAt, Enlisted}
 use Rattle.columns.proofs.Area.Frames.{frame-none, frame-then, frame-room}
@@ -18,16 +18,6 @@ use Rattle.columns.proofs.Lists.Marks.{marked-none, enlist-at}
 use Rattle.runs.specs.Classes.{isNeeded, isUntouched, ClassAt, Classed, SplitAt, Splitting, Classes}
 
 -- ---- lists
-
-pub keep-append : (f : ℕ → Bool) (xs ys : List ℕ) → keep f (xs ++ ys) ≡ keep f xs ++ keep f ys
-unfolding keep
-keep-append f [] ys = refl
-keep-append f (x ∷ xs) ys = split (f x) (λ e. rw (e, keep) (ap (λ (l : List ℕ). x ∷ l) (keep-append f xs ys))) (λ e. rw (e, keep) (keep-append f xs ys))
-
-pub insertAll-append : (xs ys zs : List ℕ) → insertAll (xs ++ ys) zs ≡ insertAll ys (insertAll xs zs)
-unfolding insertAll
-insertAll-append [] ys zs = refl
-insertAll-append (x ∷ xs) ys zs = insertAll-append xs ys (insert x zs)
 
 any-append : (f : ℕ → Bool) (xs : List ℕ) (x : ℕ) → not (isNil (keep f (xs ++ (x ∷ [])))) ≡ (not (isNil (keep f xs)) || f x)
 unfolding keep isNil

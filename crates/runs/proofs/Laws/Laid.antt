@@ -8,7 +8,7 @@ use lib.ListN.{length, getD, set, take, drop, length-append, length-drop, take-a
 use lib.Seq.{drop-cons, set-at, getD-take, getD-drop, getD-append-add, length-take-le, ext-getD}
 use Rattle.rules.proofs.Lists.Members.{split}
 use Rattle.rules.proofs.Tree.Loads.{ltb-true, ltb-false}
-use Rattle.runs.specs.Laid.{laidAt}
+use Rattle.rules.specs.Lists.{laidAt}
 
 pub laid-none : (at : ℕ) (words : List ℕ) → laidAt at [] words ≡ words
 unfolding laidAt

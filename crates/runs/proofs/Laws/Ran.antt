@@ -29,8 +29,8 @@ use Rattle.columns.proofs.Lists.Marks.{marks-frame, marked-none}
 use Rattle.columns.proofs.Lists.Places.{placed-frame}
 use Rattle.columns.proofs.Lists.Swap.{insert-new}
 use Rattle.walk.specs.Stands.{Context}
+use Rattle.walk.proofs.Contexts.{low-mark}
 use Rattle.tree.specs.Bits.{Standing}
-use Rattle.tree.proofs.Counts.Sizes.{mark-small}
 use Rattle.tree.proofs.Bits.Standing.{stands-frame}
 use Rattle.runs.specs.declared.puts.Puts.{Puts}
 use Rattle.runs.specs.declared.puts.Written.{Written}
@@ -77,7 +77,7 @@ module _ {C : Context} {m h : ℕ} {gates pl w : List ℕ} (A : Standing C m h g
   -- the counts tell what is in the tree
   pub counted : not (eqb (getD w (CELLS * m + x) 0) 0) ≡ mem x (treeOf (C .X) pl)
   unfolding treeOf
-  counted = rw (A .tally .cells x pin-below, not-zero) (sym (tree-cells (C .X .K) pl x (listed-filled (C .X) (C .r) (length (C .X .g)) (C .S) (mark-small C) x listed)))
+  counted = rw (A .tally .cells x pin-below, not-zero) (sym (tree-cells (C .X .K) pl x (listed-filled (C .X) (C .r) (length (C .X .g)) (C .S) (low-mark C) x listed)))
 
   uncounted : eqb (getD w (CELLS * m + x) 0) 0 ≡ not (mem x (treeOf (C .X) pl))
   uncounted = sym (not-not (eqb (getD w (CELLS * m + x) 0) 0)) ∙ ap not counted

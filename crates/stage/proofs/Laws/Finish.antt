@@ -22,13 +22,14 @@ use Rattle.columns.proofs.Lists.Marks.{marks-frame, marked-frame}
 use Rattle.columns.proofs.Lists.Places.{placed-frame}
 use Rattle.walk.specs.Stands.{Context}
 use Rattle.runs.specs.declared.Spent.{Spent}
-use Rattle.runs.specs.Laid.{laidAt, noted}
+use Rattle.runs.specs.Laid.{noted}
 use Rattle.runs.specs.Ran.{EndAt, Ran}
 use Rattle.runs.proofs.Laws.Laid.{laid-length, laid-below, laid-past, laid-over}
 use Rattle.ending.specs.Rest.{RestAt, Filled}
 use Rattle.stage.specs.declared.finish.Outcome.{Outcome}
 use Rattle.stage.specs.Finish.{FinishAt, Changed, touched, Finished, Midway, RestingAt, LastingAt, Ends}
 use Rattle.rules.specs.Traversal.{levelAt}
+use Rattle.rules.specs.Lists.{laidAt}
 
 pub changed-then : {fs : List ℕ} {m at room : ℕ} {pl w words pl1 w1 words1 pl2 w2 words2 : List ℕ} → Changed fs m at room pl w words pl1 w1 words1 → Changed fs m at room pl1 w1 words1 pl2 w2 words2 → Changed fs m at room pl w words pl2 w2 words2
 changed-then a b = record {

@@ -7,7 +7,7 @@ use Prim.Native.Nat.{ℕ, _+_, _*_, _<_, _≤_}
 use native.Mathlib.Omega.{arith}
 use lib.Dec.{leb, ltb}
 use lib.ListN.{length, getD, length-append}
-use Rattle.rules.specs.Lists.{insertAll}
+use Rattle.rules.specs.Lists.{insertAll, laidAt}
 use Rattle.rules.specs.Ending.{inTree, lastStage, written, moreWords}
 use Rattle.rules.proofs.Lists.Members.{In, split, keep-in, insertAll-in}
 use Rattle.rules.proofs.Needed.Lacks.{leb-true, false-ltb}
@@ -20,7 +20,6 @@ use Rattle.columns.proofs.Lists.Entries.{holds-self}
 use Rattle.columns.proofs.Lists.Marks.{marked-self}
 use Rattle.walk.specs.Stands.{Context}
 use Rattle.runs.specs.declared.Spent.{Spent}
-use Rattle.runs.specs.Laid.{laidAt}
 use Rattle.runs.proofs.Laws.Laid.{laid-then}
 use Rattle.ending.specs.declared.last.Kept.{Kept}
 use Rattle.ending.specs.Last.{LastAt, endWords, Lasted}

@@ -34,6 +34,7 @@ use Rattle.ending.specs.Words.{isEnd, Pins}
 use Rattle.ending.specs.Last.{endWords}
 use Rattle.ending.proofs.Laws.Ends.{words-up}
 use Rattle.stage.specs.Finish.{Midway}
+use Rattle.lean.proofs.Laws.Loop.{marked-none}
 
 -- ---- lists
 
@@ -110,12 +111,8 @@ module _ {C : Context} {pl : List ℕ} {m K half o n at room : ℕ} {s : Spent} 
   cells-within = record {
     zero = λ p b out. split (mem p (tree (C .X .K) pl′))
         (λ i. true-false (seen-order p (tree-listed C (A .fair) p i)) out)
-        (λ e. zero-of (getD w (CELLS * m + p) 0) (counts p b ∙ e));
+        (λ e. marked-none (getD w (CELLS * m + p) 0) (counts p b ∙ e));
   }
-    where
-      zero-of : (x : ℕ) → not (eqb x 0) ≡ false → x ≡ 0
-      zero-of zero e = refl
-      zero-of (suc x) e = true-false (rw (ne-eqb (suc x) 0 (λ d. omega arith)) refl) e
 
   pub need-waits : (x : ℕ) → In x (inNeed (C .X) pl) → In x (C .X .waiting)
   unfolding inNeed

@@ -1,21 +1,19 @@
 -- Rules 1 to 11 in order: what each part leaves is what the next one finds. Assumes nothing.
-use Prim.Native.Nat.{ℕ, _+_, _*_, _<_, _≤_}
-use mathlib.Core.List.{List, _∷_, [], _++_}
+use Prim.Native.Nat.{ℕ, _+_, _*_}
+use mathlib.Core.List.{List}
 use mathlib.Core.Path.{_≡_, refl, sym, ap, _∙_}
 use native.Mathlib.Omega.{arith}
-use lib.ListN.{length, getD}
-use Rattle.rules.specs.Traversal.{Setting, setting}
+use lib.ListN.{getD}
+use Rattle.rules.specs.Traversal.{Setting}
 use Rattle.rules.specs.Placing.{filledPlan}
-use Rattle.rules.specs.Ending.{Stage?, finish, oneStage}
-use Rattle.columns.specs.Fields.{DONE, WAITING, CELLS, PLACE, MARK, SPARE}
-use Rattle.columns.specs.Area.{Frame}
+use Rattle.rules.specs.Ending.{finish, oneStage}
 use Rattle.columns.proofs.Area.Frames.{frame-then, frame-more}
 use Rattle.columns.proofs.Lists.Marks.{marks-frame}
 use Rattle.columns.proofs.Lists.Places.{placed-frame}
 use Rattle.columns.proofs.Lists.Clears.{clear-frame}
 use Rattle.walk.specs.Stands.{Context}
-use Rattle.walk.specs.Prepared.{PrepareAt, Prepared, ForgetAt, Forgot}
-use Rattle.walk.proofs.Forgets.{forget-at, forget-frame}
+use Rattle.prepare.specs.Prepared.{PrepareAt, Prepared, ForgetAt, Forgot}
+use Rattle.prepare.proofs.Forgets.{forget-at, forget-frame}
 use Rattle.stage.specs.declared.finish.Outcome.{Outcome}
 use Rattle.lean.specs.Filling.{FillAt, FilledTree}
 use Rattle.stage.specs.Finish.{FinishAt, Changed, Whole, Finished}

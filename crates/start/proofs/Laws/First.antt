@@ -22,8 +22,7 @@ use Rattle.columns.specs.Fields.{LEVEL, CELLS, STARTS, ENDS, REVERSE, LISTED, M
 use Rattle.columns.specs.Lists.{Clear}
 use Rattle.columns.proofs.Area.Lent.{length-laid, at-laid}
 use Rattle.columns.proofs.Lists.Entries.{holds-below}
-use Rattle.walk.specs.Stands.{Context, Begun}
-use Rattle.walk.specs.Prepared.{Fresh}
+use Rattle.walk.specs.Stands.{Context, Begun, Fresh}
 use Rattle.walk.proofs.Contexts.{context}
 use Rattle.start.specs.declared.Opening.{Opening}
 use Rattle.start.specs.declared.Opening.the-variants.{Over, Ready}

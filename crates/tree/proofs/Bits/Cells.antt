@@ -1,15 +1,13 @@
 -- Where a level's cells stand. Assumes nothing.
 use Prim.Native.Nat.{ℕ, zero, suc, _+_, _-_, _*_, _^_, _≤_, _<_}
 use mathlib.Core.Path.{_≡_, refl, sym, _∙_}
-use mathlib.Core.Bool.{true, false, not}
+use mathlib.Core.Bool.{false}
 use mathlib.Core.List.{List, [], _∷_}
 use native.Mathlib.Omega.{arith}
 use native.Mathlib.Nat.{pow-succ'}
-use lib.Dec.{eqb}
 use borrow.Author.Tests.{eq-eqb}
 use lib.ListN.{length, getD}
 use Rattle.rules.specs.Cells.{empty, filled, rowAt}
-use Rattle.rules.proofs.Lists.Members.{split, true-false, eqb-true}
 use Rattle.rules.proofs.Stage.Staged.{two-step}
 use Rattle.columns.proofs.Area.Frames.{frame-room}
 use Rattle.walk.specs.Stands.{Context, Tally}
@@ -21,10 +19,6 @@ pub getD-any : (l : List ℕ) (i a b : ℕ) → i < length l → getD l i a ≡ 
 getD-any [] i a b h = absurd (omega arith)
 getD-any (x ∷ l) zero a b h = refl
 getD-any (x ∷ l) (suc i) a b h = getD-any l i a b (omega arith)
-
-pub not-filled : (c : ℕ) → filled c ≡ false → c ≡ empty
-unfolding filled
-not-filled c e = split (eqb c empty) (λ d. eqb-true c empty d) (λ d. true-false (let z : not (eqb c empty) ≡ true = rw d in z) e)
 
 pub not-full : filled empty ≡ false
 unfolding filled

@@ -16,15 +16,17 @@ use Rattle.rules.specs.Placing.{tree, treeOf}
 use Rattle.rules.specs.Lean.{cellsHolding}
 use Rattle.rules.proofs.Tree.Fair.{listed-filled}
 use Rattle.rules.proofs.Tree.Tally.{bit, cells-set, cells-set-low, size-new, size-old, tree-set-low, row-set, row-set-above, row-set-below}
+use Rattle.rules.proofs.Tree.Back.{not-filled}
 use Rattle.columns.specs.Fields.{CELLS, ONES, PINS}
 use Rattle.walk.specs.Stands.{Context, Tally}
+use Rattle.walk.proofs.Contexts.{low-mark}
 use Rattle.tree.specs.Counts.{CountAt, OneMore}
 use Rattle.tree.specs.Bits.{Spot, FillAt, Filled}
 use Rattle.tree.proofs.Counts.Kept.{kept-none, kept-then, kept-pin, kept-ones}
-use Rattle.tree.proofs.Counts.Sizes.{few, mark-small}
+use Rattle.tree.proofs.Counts.Sizes.{few}
 use Rattle.tree.proofs.Counts.Pins.{above-zero}
 use Rattle.tree.proofs.Counts.Rooms.{in-tree}
-use Rattle.tree.proofs.Bits.Cells.{not-filled, row-one, row-top, above-one, spot-zero, spot-upper, spot-in}
+use Rattle.tree.proofs.Bits.Cells.{row-one, row-top, above-one, spot-zero, spot-upper, spot-in}
 
 -- nothing is counted at level 0, whatever is stored there
 pub low-tally : {C : Context} {m h p : ℕ} {pl u : List ℕ} → Spot C m h p pl u → h ≡ 0 → (v : ℕ) → Tally C m (set pl p v) u
@@ -48,7 +50,7 @@ module _ {C : Context} {m h p n : ℕ} {pl u : List ℕ} (A : FillAt C m h p n p
   fill-count = let f = few (A .spot .tally) in record { area = A .spot .area; pin = fill-pin; cells = omega (arith, f .cells n fill-pin); pins = omega (arith, f .pins) }
 
   full : filled n ≡ true
-  full = listed-filled (C .X) (C .r) (length (C .X .g)) (C .S) (mark-small C) n (A .listed)
+  full = listed-filled (C .X) (C .r) (length (C .X .g)) (C .S) (low-mark C) n (A .listed)
 
   pub filled-low : h ≡ 0 → Filled C m p n pl u (set pl p n) u
   filled-low z = record { plan = refl; kept = kept-none; tally = low-tally (A .spot) z n }

@@ -1,5 +1,5 @@
 -- The levels and gates as the code reads them. Assumes nothing.
-use Prim.Native.Nat.{ℕ, zero, suc, _+_, _*_, _/_, _<_, _≤_}
+use Prim.Native.Nat.{ℕ, zero, suc, _+_, _*_, _<_, _≤_}
 use mathlib.Core.Path.{_≡_, sym, ap, _∙_}
 use mathlib.Core.Bool.{_&&_}
 use mathlib.Core.List.{List, [], _∷_}
@@ -10,7 +10,8 @@ use Rattle.rules.specs.Cells.{empty}
 use Rattle.rules.specs.Graph.{leaf, gate, pinOf, nodeOf, graphOf}
 use Rattle.rules.specs.Traversal.{levelAt}
 use Rattle.rules.proofs.Lists.Members.{In, split}
-use Rattle.rules.proofs.Tree.Loads.{node, leaf-level, first, second}
+use Rattle.rules.proofs.Tree.Loads.{leaf-level, first, second}
+use Rattle.rules.proofs.Tree.Held.{node}
 use Rattle.columns.specs.Fields.{LEVEL}
 use Rattle.columns.proofs.Area.Columns.{getD-col}
 use Rattle.walk.specs.Stands.{Context, Base, Levelled}

@@ -1,5 +1,5 @@
 -- Placing, branch by branch. Assumes nothing.
-use Prim.Native.Nat.{ℕ, zero, suc, _+_, _-_, _*_, _/_, _≤_, _<_}
+use Prim.Native.Nat.{ℕ, zero, suc, _+_, _-_, _*_, _≤_, _<_}
 use mathlib.Core.Path.{_≡_, refl, sym, ap, _∙_}
 use mathlib.Core.List.{List}
 use native.Mathlib.Omega.{arith}
@@ -13,8 +13,8 @@ use Rattle.rules.specs.Traversal.{Setting, levelAt}
 use Rattle.rules.specs.Placing.{place}
 use Rattle.rules.proofs.Lists.Members.{split}
 use Rattle.rules.proofs.Tree.Fair.{Under, apart}
-use Rattle.rules.proofs.Tree.Loads.{node}
 use Rattle.rules.proofs.Tree.Sane.{frame}
+use Rattle.rules.proofs.Tree.Held.{node}
 use Rattle.rules.proofs.Stage.Lengths.{len-place}
 use Rattle.columns.specs.Fields.{LEVEL}
 use Rattle.walk.specs.Stands.{Context}

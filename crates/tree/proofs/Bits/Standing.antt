@@ -17,16 +17,15 @@ use Rattle.rules.proofs.Stage.Last.{blank-take, blank-drop}
 use Rattle.rules.proofs.Stage.Flat.{blank-replicate}
 use Rattle.rules.proofs.Tree.Invariant.{Placeable, row-empty}
 use Rattle.rules.proofs.Tree.Fair.{Tidy, bare, fair-first, fair-kept, fair-down}
-use Rattle.rules.proofs.Tree.Back.{taken-back}
+use Rattle.rules.proofs.Tree.Back.{taken-back, not-filled}
 use Rattle.rules.proofs.Lean.Turns.{blank-tree}
 use Rattle.columns.specs.Area.{among, Frame}
 use Rattle.columns.specs.Fields.{LEVEL, CELLS, TAIL, ONES, PINS}
 use Rattle.walk.specs.Stands.{Context, Base, Levelled}
+use Rattle.walk.proofs.Contexts.{low-mark}
 use Rattle.tree.specs.Bits.{Spot, PlaceAt, Placed, PurgeAt, Purged, Standing}
 use Rattle.tree.specs.Search.{First}
 use Rattle.tree.proofs.Counts.Kept.{base-frame, levelled-frame, tally-frame, kept-none, kept-then, base-kept, levelled-kept, one-area}
-use Rattle.tree.proofs.Counts.Sizes.{mark-small}
-use Rattle.tree.proofs.Bits.Cells.{not-filled}
 use Rattle.tree.proofs.Bits.Tidies.{clears}
 use Rattle.tree.proofs.Search.{cell-found}
 
@@ -56,7 +55,7 @@ module _ {C : Context} {m h : ℕ} {gates pl u : List ℕ} (A : Standing C m h g
       base = A .base;
       levelled = A .levelled;
       row = row;
-      under = rw row (bare (C .X) (C .r) (length (C .X .g)) (C .S) (C .M) (mark-small C) h p n (A .fair) P);
+      under = rw row (bare (C .X) (C .r) (length (C .X .g)) (C .S) (C .M) (low-mark C) h p n (A .fair) P);
       listed = P .listed;
     }
 
@@ -70,12 +69,12 @@ module _ {C : Context} {m h : ℕ} {gates pl u : List ℕ} (A : Standing C m h g
         base = base-kept (B .kept) (A .base);
         levelled = levelled-kept (B .kept) (A .levelled);
         tally = B .tally;
-        fair = rw placed-plan (fair-kept (C .X) (C .r) (length (C .X .g)) (C .S) (C .M) (mark-small C) h p n (A .fair) P);
+        fair = rw placed-plan (fair-kept (C .X) (C .r) (length (C .X .g)) (C .S) (C .M) (low-mark C) h p n (A .fair) P);
       }
 
       -- whatever happened to other columns in between
       pub purged-plan : {v pl2 v2 : List ℕ} → Purged C m h w p pl1 v pl2 v2 → pl2 ≡ pl
-      purged-plan Q = Q .plan ∙ rw (placed-plan, row) (taken-back (C .X) (C .r) (length (C .X .g)) (C .S) (mark-small C) (C .M) h p n (A .fair) P)
+      purged-plan Q = Q .plan ∙ rw (placed-plan, row) (taken-back (C .X) (C .r) (length (C .X .g)) (C .S) (low-mark C) (C .M) h p n (A .fair) P)
 
       -- purging the cell just placed gives back the very stage and area
       pub purged-same : {pl2 u2 : List ℕ} → Purged C m h w p pl1 u1 pl2 u2 → (pl2 ≡ pl) × (u2 ≡ u)
@@ -109,7 +108,7 @@ module _ (C : Context) (m h : ℕ) (gates u : List ℕ) (B : Base C m gates u) (
     base = B;
     levelled = L;
     tally = record { cells = λ x b. c x b ∙ sym (no-cells x b); ones = o ∙ sym no-ones; pins = p ∙ ap length (sym (blank-tree (C .X))) };
-    fair = fair-first (C .X) (C .r) (length (C .X .g)) (C .S) (C .M) (mark-small C) h;
+    fair = fair-first (C .X) (C .r) (length (C .X .g)) (C .S) (C .M) (low-mark C) h;
   }
 
 -- other columns change
@@ -118,4 +117,4 @@ stands-frame f l c t A = record { base = base-frame f (A .base); levelled = leve
 
 -- one level down
 pub stands-down : {C : Context} {m h : ℕ} {gates pl u : List ℕ} → Standing C m (suc h) gates pl u → Standing C m h gates pl u
-stands-down {C} {m} {h} A = record { base = A .base; levelled = A .levelled; tally = A .tally; fair = fair-down (C .X) (C .r) (length (C .X .g)) (C .S) (C .M) (mark-small C) h (A .fair) }
+stands-down {C} {m} {h} A = record { base = A .base; levelled = A .levelled; tally = A .tally; fair = fair-down (C .X) (C .r) (length (C .X .g)) (C .S) (C .M) (low-mark C) h (A .fair) }

@@ -7,7 +7,7 @@ use lib.Pow.{pow-mono}
 use lib.Dec.{eqb}
 use lib.ListN.{length, take, drop, length-take, length-append}
 use Rattle.rules.specs.Lists.{count, mem, keep, insert, insertAll, distinct}
-use Rattle.rules.specs.Cells.{empty, filled, row, rowAt}
+use Rattle.rules.specs.Cells.{filled, row, rowAt}
 use Rattle.rules.specs.Placing.{tree, treeOf}
 use Rattle.rules.specs.Lean.{cellsHolding}
 use Rattle.rules.proofs.Lists.Members.{split}
@@ -57,6 +57,3 @@ few {C} {m} {pl} t = record {
 }
 
 -- pins are smaller than the empty mark
-pub mark-small : (C : Context) → length (C .X .g) ≤ empty
-unfolding empty
-mark-small C = omega (arith, C .small)

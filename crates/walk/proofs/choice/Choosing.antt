@@ -19,14 +19,14 @@ use Rattle.walk.specs.Stands.{Context, Listed, ranked}
 use Rattle.walk.specs.Choice.{ChooseAt, Chosen}
 use Rattle.walk.proofs.Contexts.{low-mark}
 
-ranked-cons : (m : ℕ) (w : List ℕ) (i e : ℕ) → i < e → e ≤ m → 16 * m ≤ length w → ranked m w i e ≡ getD w (RANKED * m + i) 0 ∷ ranked m w (i + 1) e
+pub ranked-cons : (m : ℕ) (w : List ℕ) (i e : ℕ) → i < e → e ≤ m → 16 * m ≤ length w → ranked m w i e ≡ getD w (RANKED * m + i) 0 ∷ ranked m w (i + 1) e
 unfolding ranked
 ranked-cons m w i e a b l =
     let z : e - i ≡ suc (e - (i + 1)) = omega arith in
     let y : RANKED * m + (i + 1) ≡ suc (RANKED * m + i) = omega arith in
     rw (z, y, drop-cons w (RANKED * m + i) 0 (omega arith)) refl
 
-ranked-end : (m : ℕ) (w : List ℕ) (i e : ℕ) → e ≤ i → ranked m w i e ≡ []
+pub ranked-end : (m : ℕ) (w : List ℕ) (i e : ℕ) → e ≤ i → ranked m w i e ≡ []
 unfolding ranked
 ranked-end m w i e a = let z : e - i ≡ 0 = omega arith in rw z
 

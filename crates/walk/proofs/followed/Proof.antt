@@ -1,13 +1,10 @@
+-- `walk::followed` meets its contract: the operand of a pin that is not done, else m. Assumes nothing.
 use mathlib.Core.Path.{sym, _∙_}
 use Rattle.columns.proofs.Lists.Marks.{marks-test}
 use Rattle.walk.proofs.Gates.{kth-past, kth-done, kth-leaf, kth-first, kth-second}
 use borrow.Author.Needs.{needs}
 use Rattle.walk.proofs.followed.Statement.{statement}
 use Rattle.walk.proofs.followed.Tie as tie
-use Rattle.walk.proofs.followed.Reads as reads
-use Rattle.walk.proofs.followed.Lts as lts
-use Rattle.columns.proofs.is_in.Reads as is-in-reads
-use Rattle.graph.proofs.operand.Reads as operand-reads
 
 returns : tie.Need-returns
 returns c = record { all = λ C R. kth-past C R _ (c .before .before .before .pre .1) _ (c .if1 .taken) }

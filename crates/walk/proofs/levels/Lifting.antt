@@ -6,13 +6,14 @@ use Prim.Native.Nat.{ℕ, zero, suc, _+_, _-_, _*_, _<_, _≤_, max}
 use native.Mathlib.Omega.{arith}
 use native.Mathlib.Numerals.{add-one}
 use lib.ListN.{length, getD, set, drop, replicate, getD-replicate, drop-of-length-le}
-use lib.Seq.{drop-cons, getD-set-other}
+use lib.Seq.{drop-cons}
 use Rattle.rules.specs.Graph.{Node, below}
 use Rattle.rules.specs.Traversal.{thread, raise, lift, reverseLevels}
 use Rattle.rules.specs.Lean.{startLevels}
-use Rattle.rules.proofs.Lists.Members.{Out, out-head, out-tail}
+use Rattle.rules.proofs.Lists.Members.{Out, out-tail}
 use Rattle.rules.proofs.Walk.Traverse.{Topo, none, more}
-use Rattle.rules.proofs.Walk.Reverse.{nat, out-sub, lift-out}
+use Rattle.rules.proofs.Walk.Reverse.{nat, out-sub, lift-out, raise-out}
+use Rattle.rules.proofs.Walk.Bounds.{none-low}
 use Rattle.rules.proofs.Tree.Loads.{set-either}
 use Rattle.columns.specs.Area.{Room, col, Frame}
 use Rattle.columns.specs.Fields.{ORDER, WAITING, REVERSE}
@@ -48,18 +49,8 @@ lift-low g stop b p rl l = nat g stop (getD rl p 0) (λ e. rw (e, lift) (λ q. o
 
 pub waiting-low : (n : ℕ) (ps : List ℕ) → Low 1 (raise 1 ps (replicate n 0))
 waiting-low n ps = raise-low 1 1 ps (replicate n 0) (omega arith) (λ q. omega (arith, none-low n q))
-  where
-    none-low : (n : ℕ) → Low 0 (replicate n 0)
-    none-low zero q = omega arith
-    none-low (suc n) zero = omega arith
-    none-low (suc n) (suc q) = none-low n q
 
 -- ---- and 0 at pins that are not listed
-
-raise-out : (n : ℕ) (ps rl : List ℕ) (q : ℕ) → Out q ps → getD (raise n ps rl) q 0 ≡ getD rl q 0
-unfolding raise
-raise-out n [] rl q o = refl
-raise-out n (p ∷ ps) rl q o = raise-out n ps _ q (out-tail q p ps o) ∙ getD-set-other rl p q _ 0 (out-head q p ps o)
 
 lifts-out : (g : List Node) (stop : List ℕ) {s : List ℕ} → Topo g stop s → (rl : List ℕ) (q : ℕ) → Out q s → getD (thread (lift g stop) s rl) q 0 ≡ getD rl q 0
 unfolding thread

@@ -1,6 +1,5 @@
 -- `fold::bits::as_number` meets its contract. Assumes nothing.
 use Rattle.rules.specs.Fold.{asNumber}
-use borrow.Author.Needs.{needs}
 use Rattle.fold.proofs.bits.as_number.Statement.{statement}
 use Rattle.fold.proofs.bits.as_number.Tie as tie
 

@@ -2,7 +2,6 @@
 use mathlib.Core.Path.{_≡_, refl}
 use Prim.Native.Nat.{_+_, _-_, _^_}
 use native.Mathlib.Omega.{arith}
-use denote.Ref.{now}
 use Rattle.fold.proofs.Laws.Stages.{size-there, next-at}
 use borrow.Author.Needs.{needs}
 use Rattle.fold.proofs.stages.fold_at.Statement.{statement}

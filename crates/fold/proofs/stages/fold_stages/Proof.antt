@@ -1,6 +1,5 @@
 -- `fold::stages::fold_stages` meets its contract: the stages before `at` are folded, and what the one at `at` loads is there. Assumes nothing.
 use Prim.Native.Nat.{_-_}
-use mathlib.Core.Path.{_≡_}
 use native.Mathlib.Omega.{arith}
 use lib.ListN.{length, take}
 use Rattle.rules.specs.Graph.{graphOf, pinCount}

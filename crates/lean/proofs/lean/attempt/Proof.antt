@@ -1,12 +1,8 @@
+-- `lean::lean::attempt` meets its contract: placed where there is room, else taken back. Assumes nothing.
 use Rattle.lean.proofs.Laws.Loop.{place-at, after-place, tried-some, back-at, tried-none}
 use borrow.Author.Needs.{needs}
 use Rattle.lean.proofs.lean.attempt.Statement.{statement}
 use Rattle.lean.proofs.lean.attempt.Tie as tie
-use Rattle.lean.proofs.lean.attempt.Reads as reads
-use Rattle.lean.proofs.lean.attempt.Lts as lts
-use Rattle.lean.proofs.lean.settle.Reads as settle-reads
-use Rattle.tree.proofs.place_bit.Reads as place-bit-reads
-use Rattle.tree.proofs.purge_bit.Reads as purge-bit-reads
 
 place-bit-requires : tie.Need-place-bit-requires
 place-bit-requires c κs = record { C = c .before .before .before .before .before .pre .C; at = place-at (c .before .before .before .before .before .pre .at) }

@@ -1,3 +1,4 @@
+-- `lean::lean::lean` meets its contract: the levels above l are done. Assumes nothing.
 use mathlib.Core.Path.{_≡_, refl}
 use lib.ListN.{length}
 use native.Mathlib.Omega.{arith}
@@ -7,10 +8,6 @@ use Rattle.lean.proofs.Laws.Loop.{leaning-none, lean-width, lean-go, le
 use borrow.Author.Needs.{needs}
 use Rattle.lean.proofs.lean.lean.Statement.{statement}
 use Rattle.lean.proofs.lean.lean.Tie as tie
-use Rattle.lean.proofs.lean.lean.Reads as reads
-use Rattle.lean.proofs.lean.lean.Lts as lts
-use Rattle.columns.proofs.get.Reads as get-reads
-use Rattle.lean.proofs.lean.sweep.Reads as sweep-reads
 
 abbrev Inv-loop : tie.InvT-loop
 Inv-loop gates stage₀ work₀ m n k top width half most l₀ w₀ b₀ stage work l w b = Every (λ C. LeanAt C m n k top width half gates stage₀ work₀ most) (λ C. Leaning C m n k top w half gates stage₀ work₀ most l stage work b) × (length stage ≡ length stage₀) × (length work ≡ length work₀)

@@ -1,13 +1,10 @@
+-- `lean::lean::settle` meets its contract: the needed pins, by an earlier count or a new one, have room or not. Assumes nothing.
 use mathlib.Core.Path.{sym, _∙_}
 use native.Mathlib.Omega.{arith}
 use Rattle.lean.proofs.Laws.Loop.{needed-at, counted, settled-bound, settled-count, settled-full}
 use borrow.Author.Needs.{needs}
 use Rattle.lean.proofs.lean.settle.Statement.{statement}
 use Rattle.lean.proofs.lean.settle.Tie as tie
-use Rattle.lean.proofs.lean.settle.Reads as reads
-use Rattle.lean.proofs.lean.settle.Lts as lts
-use Rattle.tree.proofs.room.Reads as room-reads
-use Rattle.walk.proofs.needed.needed.Reads as needed-reads
 
 room-requires : tie.Need-room-requires
 room-requires c κs = record { area = c .before .before .before .before .pre .at .set .begun .base .area; few = c .before .before .before .before .pre .at .few }

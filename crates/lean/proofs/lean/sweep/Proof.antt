@@ -1,3 +1,4 @@
+-- `lean::lean::sweep` meets its contract: the candidates from i on are left to do. Assumes nothing.
 use Prim.Native.Nat.{_-_}
 use mathlib.Core.Path.{_≡_, refl}
 use lib.ListN.{length}
@@ -7,9 +8,6 @@ use Rattle.lean.proofs.Laws.Loop.{gone-none, gone-next, gone-stop, gone
 use borrow.Author.Needs.{needs}
 use Rattle.lean.proofs.lean.sweep.Statement.{statement}
 use Rattle.lean.proofs.lean.sweep.Tie as tie
-use Rattle.lean.proofs.lean.sweep.Reads as reads
-use Rattle.lean.proofs.lean.sweep.Lts as lts
-use Rattle.lean.proofs.lean.turn.Reads as turn-reads
 
 abbrev Inv-loop : tie.InvT-loop
 Inv-loop gates stage₀ work₀ m n k l w half start e most i₀ b₀ stage work i b = Every (λ C. At C m n k l w half gates stage₀ work₀ start e most) (λ C. Gone C m n k l w half gates stage₀ work₀ start e most stage work i b) × (length stage ≡ length stage₀) × (length work ≡ length work₀)

@@ -1,15 +1,10 @@
+-- `lean::lean::turn` meets its contract: one candidate and one empty cell. Assumes nothing.
 use mathlib.Core.Path.{sym, _∙_}
 use native.Mathlib.Omega.{arith}
 use Rattle.lean.proofs.Laws.Loop.{marked-some, marked-none, pin-small, turned-skip, width, turned-no-cell, try-at, turned-try}
 use borrow.Author.Needs.{needs}
 use Rattle.lean.proofs.lean.turn.Statement.{statement}
 use Rattle.lean.proofs.lean.turn.Tie as tie
-use Rattle.lean.proofs.lean.turn.Reads as reads
-use Rattle.lean.proofs.lean.turn.Lts as lts
-use Rattle.columns.proofs.get.Reads as get-reads
-use Rattle.columns.proofs.is_in.Reads as is-in-reads
-use Rattle.lean.proofs.lean.attempt.Reads as attempt-reads
-use Rattle.tree.proofs.first_empty.Reads as first-empty-reads
 
 get-requires : tie.Need-get-requires
 get-requires c κs = let A = c .before .before .before .before .pre .at in omega (arith, A .more, A .at .inside, A .at .set .begun .base .area .room)

@@ -3,14 +3,11 @@ use borrow.Author.Needs.{needs}
 use Prim.Native.Nat.{_-_}
 use mathlib.Core.Path.{sym, _∙_}
 use native.Mathlib.Omega.{arith}
-use Rattle.walk.specs.Needed.{EveryPlan}
+use Rattle.walk.specs.Stands.{EveryPlan}
 use Rattle.walk.specs.Choice.{ChooseAt}
 use Rattle.walk.proofs.choice.Choosing.{Choosing, choosing-none, head-below, chosen-none, chosen-here, choosing-more}
 use Rattle.walk.proofs.choice.choose.Statement.{statement}
 use Rattle.walk.proofs.choice.choose.Tie as tie
-use Rattle.walk.proofs.choice.choose.Reads as reads
-use Rattle.walk.proofs.choice.choose.Lts as lts
-use Rattle.columns.proofs.get.Reads as get-reads
 
 abbrev Inv-loop : tie.InvT-loop
 Inv-loop work m i e j₀ j = EveryPlan (λ C pl. ChooseAt C pl m i e work) (λ C pl. Choosing C pl m i e work j)
