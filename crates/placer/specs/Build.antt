@@ -29,6 +29,15 @@ pub record Emptied (pl ws cs w pl′ ws′ cs′ w′ : List ℕ) : Type 0 where
   pub counts : cs′ ≡ replicate (length cs) 0
   pub work : w′ ≡ replicate (length w) 0
 
+-- empty areas of exactly their counted sizes
+pub record Blank (K : ℕ) (pl ws cs : List ℕ) : Type 0 where
+  pub plan-size : length pl ≡ rooms K (length pl) * stageSize K
+  pub words-size : length ws ≡ wordLimit K
+  pub counts-size : length cs ≡ rooms K (length pl)
+  pub plan : pl ≡ replicate (length pl) empty
+  pub words : ws ≡ replicate (length ws) empty
+  pub counts : cs ≡ replicate (length cs) 0
+
 pub record TryAt (K : ℕ) (gates given records pl ws cs w : List ℕ) : Type 0 where
   pub at : PlaceAt K gates given records pl ws cs w
   pub plan : pl ≡ replicate (length pl) empty

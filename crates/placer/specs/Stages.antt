@@ -1,6 +1,6 @@
 -- The stages of a build, and what the lent areas hold between two of them. Assumes nothing.
 use mathlib.Core.Path.{_≡_}
-use mathlib.Core.List.{List, [], _∷_}
+use mathlib.Core.List.{List}
 use Prim.Native.Nat.{ℕ, suc, _+_, _-_, _*_, _^_, _<_, _≤_}
 use lib.ListN.{length, getD}
 use Rattle.rules.specs.Lists.{padded}
@@ -42,11 +42,6 @@ pub record Every (P Q : Course → Type 0) : Type 0 where
 unfoldable pub answer : Course → rules.Answer
 answer C = rules.stages (C .K) (C .g) (C .rooms) 1 (C .given) (C .waiting) (C .room)
 
--- some stages in front of an answer
-unfoldable pub before : List rules.Stage → rules.Answer → rules.Answer
-before [] a = a
-before (s ∷ ss) a = rules.more s (before ss a)
-
 -- the work area between two stages: the pins done are marked, n pins wait, and what a stage finds empty is empty
 pub record Between (m n : ℕ) (ds ps w : List ℕ) : Type 0 where
   pub area : Room m w
@@ -70,7 +65,7 @@ pub record Underway (C : Course) (m k at n : ℕ) (pl ws cs w : List ℕ) : Type
   pub ss : List rules.Stage
   pub done : List ℕ
   pub waiting : List ℕ
-  pub same : answer C ≡ before ss (rules.stages (C .K) (C .g) (C .rooms - k) (suc k) done waiting (C .room - at))
+  pub same : answer C ≡ rules.before ss (rules.stages (C .K) (C .g) (C .rooms - k) (suc k) done waiting (C .room - at))
   pub ready : Ready (C .g) (λ p. p) waiting
   pub count : length ss ≡ k
   pub few : k ≤ C .rooms

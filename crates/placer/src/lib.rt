@@ -14,9 +14,9 @@ ghost use Rattle.rules.specs.Build.{placer, answerOf};
 ghost use Rattle.placer.specs.Answers.{areas, outcome};
 ghost use Rattle.placer.specs.Build.{PlaceAt, TryAt, Tried, Placed};
 
-mod areas;
+pub mod areas;
 mod entry;
-mod stages;
+pub mod stages;
 
 // The scope document's number, the stages and words of a whole plan, the refused stage.
 pub struct Answer {

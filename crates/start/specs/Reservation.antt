@@ -6,7 +6,7 @@ use Prim.Native.Nat.{ℕ, suc, _+_, _*_, _<_, _≤_}
 use lib.ListN.{length, getD, set, drop}
 use Rattle.rules.specs.Lists.{mem}
 use Rattle.rules.specs.Cells.{wordLimit}
-use Rattle.rules.specs.Records.{Group, groupAt, wholeAt, endpointsOf, groupsOf}
+use Rattle.rules.specs.Records.{Group, groupAt, wholeAt, endpointsOf}
 use Rattle.rules.specs.Reservation.{Activation, activations, codesAt, duplicates, memories, reserved, reservable}
 use Rattle.rules.proofs.Lists.Members.{In}
 use Rattle.rules.proofs.Reservation.Counting.{repeats}
@@ -149,6 +149,7 @@ pub record ReserveAt (m : ℕ) (records w : List ℕ) : Type 0 where
   pub right : Readable m records
   pub clear : Clear RANKED m w
 
-pub record Reserved (m limit : ℕ) (records w w′ : List ℕ) (r : Reservation) : Type 0 where
-  pub touched : Touched m (length records) w w′
-  pub answer : (K : ℕ) → limit ≡ wordLimit K → r ≡ reservationOf K (groupsOf records)
+-- some groups' words, with indices below e
+pub record Reserved (m limit e : ℕ) (gs : List Group) (w w′ : List ℕ) (r : Reservation) : Type 0 where
+  pub touched : Touched m e w w′
+  pub answer : (K : ℕ) → limit ≡ wordLimit K → r ≡ reservationOf K gs

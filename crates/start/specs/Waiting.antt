@@ -6,7 +6,7 @@ use Prim.Native.Nat.{ℕ, _<_, _≤_}
 use lib.Dec.{ltb}
 use lib.ListN.{length, drop}
 use Rattle.rules.specs.Lists.{keep, insertAll}
-use Rattle.rules.specs.Records.{groups, read, groupAt, wholeAt, endpointsOf, waitingOf, groupsOf}
+use Rattle.rules.specs.Records.{Group, groups, read, groupAt, wholeAt, endpointsOf, waitingOf, groupsOf}
 use Rattle.rules.proofs.Demand.{Ends}
 use Rattle.records.specs.Values.{sizeAt, endpointAt}
 use Rattle.columns.specs.Fields.{WAITING, PLACE}
@@ -44,6 +44,6 @@ pub record WaitAllAt (m : ℕ) (records w : List ℕ) : Type 0 where
   pub right : Readable m records
   pub clear : Clear PLACE m w
 
-pub record AllWait (m : ℕ) (records w w′ : List ℕ) (r : ℕ) : Type 0 where
+pub record AllWait (m : ℕ) (gs : List Group) (w w′ : List ℕ) (r : ℕ) : Type 0 where
   pub frame : Frame (WAITING ∷ PLACE ∷ []) m w w′
-  pub now : Placed WAITING PLACE m r (waitingOf (groupsOf records) []) w′
+  pub now : Placed WAITING PLACE m r (waitingOf gs []) w′

@@ -3,6 +3,10 @@ use given::mark_given;
 use reservation::Reservation;
 use reservation::reserve;
 use waiting::wait_all;
+ghost use Prim.Native.Nat.{_+_, _*_};
+ghost use lib.ListN.{length};
+ghost use Rattle.rules.specs.Records.{groupsOf};
+ghost use Rattle.columns.specs.Fields.{RECORDS};
 ghost use Rattle.start.specs.Opening.{BeginAt, Begins};
 
 pub mod given;
@@ -18,7 +22,7 @@ pub enum Opening {
 // The reservation first: where it is over, nothing else is needed.
 pub fn begin(given: &[u32], records: &[u32], work: &mut [u32], m: usize, limit: usize) -> Opening
     requires { ⌜ BeginAt m (now given) (now records) (now work) ⌝ }
-    ensures { λ r. ⌜ Begins m limit (now (given .entry)) (now (records .entry)) (now (work .entry)) r (now (work .exit)) ⌝ }
+    ensures { λ r. ⌜ Begins m limit (16 * m + RECORDS + 8 * length (now (records .entry))) (now (given .entry)) (groupsOf (now (records .entry))) (now (work .entry)) r (now (work .exit)) ⌝ }
 {
     let set_aside = reserve(records, work, m, limit);
     match set_aside {

@@ -14,9 +14,9 @@ use graph::pin_of;
 use records::Kind;
 use records::kind_of;
 use records::size_at;
-ghost use lib.ListN.{drop};
+ghost use lib.ListN.{length, drop};
 ghost use Rattle.rules.specs.Records as rules;
-ghost use Rattle.rules.specs.Records.{flipFlop, groupAt};
+ghost use Rattle.rules.specs.Records.{flipFlop, groupAt, groupsOf};
 ghost use Rattle.start.specs.Reservation.{Some, Every, WholeAt, AddsGroup, ChainAt, Knows, LinkAt, Linked, CodeAt, Coded, CountAt, Counted, Few, Judged, SetAside, ReserveAt, Reserved};
 
 // What a record adds: a memory, or at a pin an activation's number.
@@ -167,7 +167,7 @@ pub fn over(count: Count, limit: usize) -> bool
 // The words set aside for all records, or refusal 6 as soon as it is sure.
 pub fn reserve(records: &[u32], work: &mut [u32], m: usize, limit: usize) -> Reservation
     requires { ⌜ ReserveAt m (now records) (now work) ⌝ }
-    ensures { λ r. ⌜ Reserved m limit (now (records .entry)) (now (work .entry)) (now (work .exit)) r ⌝ }
+    ensures { λ r. ⌜ Reserved m limit (length (now (records .entry))) (groupsOf (now (records .entry))) (now (work .entry)) (now (work .exit)) r ⌝ }
 {
     let mut count = Count {
         memories: 0,

@@ -3,6 +3,7 @@ use columns::wait;
 use columns::wide;
 use records::endpoint;
 use records::size_at;
+ghost use Rattle.rules.specs.Records.{groupsOf};
 ghost use Rattle.columns.specs.Lists.{WaitAt};
 ghost use Rattle.start.specs.Waiting.{PinWaits, RecordAt, RecordWaits, WaitAllAt, AllWait};
 
@@ -35,7 +36,7 @@ pub fn wait_record(records: &[u32], work: &mut [u32], m: usize, n: usize, at: us
 // Every record's. Returns how many pins wait.
 pub fn wait_all(records: &[u32], work: &mut [u32], m: usize) -> usize
     requires { ⌜ WaitAllAt m (now records) (now work) ⌝ }
-    ensures { λ r. ⌜ AllWait m (now (records .entry)) (now (work .entry)) (now (work .exit)) r ⌝ }
+    ensures { λ r. ⌜ AllWait m (groupsOf (now (records .entry))) (now (work .entry)) (now (work .exit)) r ⌝ }
 {
     let mut n = 0;
     let mut at = 0;

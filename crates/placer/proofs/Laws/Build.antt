@@ -25,11 +25,11 @@ use Rattle.start.specs.declared.reservation.Reservation.{Reservation}
 use Rattle.start.specs.declared.reservation.Reservation.the-variants as reservation
 use Rattle.start.specs.Reservation.{reservationOf}
 use Rattle.start.specs.Opening.{BeginAt, First, Begins, reservationFor}
-use Rattle.start.proofs.Laws.First.{begin-at, first-ready, first-low, first-high, first-fresh, first-cells, first-marks}
+use Rattle.start.proofs.Laws.First.{begin-at, first-ready, first-low, first-high}
 use Rattle.placer.specs.declared.Answer.{Answer}
 use Rattle.placer.specs.Answers.{told}
-use Rattle.placer.specs.Stages.{Course, answer, before, StagesAt, Ran, Underway, Kept}
-use Rattle.placer.specs.Build.{PlaceAt, Emptied, TryAt, Filled, Tried, Tidied, Placed}
+use Rattle.placer.specs.Stages.{Course, answer, StagesAt, Ran, Underway, Kept}
+use Rattle.placer.specs.Build.{PlaceAt, Emptied, Blank, TryAt, Filled, Tried, Tidied, Placed}
 use Rattle.placer.proofs.Laws.Laying.{padded-none}
 
 -- ---- the reservation's answer
@@ -55,128 +55,133 @@ laid-self n w l e =
     let d : drop (length z) w ≡ [] = drop-of-length-le w {i = length z} (omega (arith, length-replicate {A = ℕ} n 0)) in
     e ∙ ap (λ (i : ℕ). replicate i 0) l ∙ sym (append-nil z) ∙ ap (λ (r : List ℕ). z ++ r) (sym d)
 
+-- ---- the build of some groups, from its opening on
+
+module _ {K : ℕ} {sized : Bool} {gates given records : List ℕ} (P : Passed K sized gates given records) {pl ws cs : List ℕ} (A : Blank K pl ws cs) {m : ℕ} (pins : m ≡ pinCount gates) {limit : ℕ} (lim : limit ≡ length ws)
+    {far : ℕ} {gs : List Group} {w : List ℕ} {r : Opening} {w₁ : List ℕ} (B : Begins m limit far given gs w r w₁) where
+  limit-is : limit ≡ wordLimit K
+  limit-is = lim ∙ A .words-size
+
+  pub built-over : r ≡ Over → Tried (rules.build K (graphOf gates) given gs (rooms K (length pl))) pl ws cs w (record { number = 6; stages = 0; words = 0; stage = 0 }) pl ws cs w₁
+  unfolding rules.build told rules.reply rules.refuse reservationFor
+  built-over e =
+      let f = over-refused K gs (ap reservationFor (sym e) ∙ B .answer K limit-is) in
+      record {
+        kept = record { plan = refl; words = refl; counts = refl; work = B .frame .len };
+        reply = rw (f, rules.build, rules.reply);
+        whole = λ z. absurd (omega arith);
+      }
+
+  module _ {res n : ℕ} (ready : r ≡ Ready res n) where
+    known : (reservable K gs ≡ true) × (res ≡ reserved gs)
+    unfolding reservationFor
+    known = words-reserved K gs res (ap reservationFor (sym ready) ∙ B .answer K limit-is)
+
+    pub built-room : res ≤ limit
+    built-room = omega (arith, known .1, reserved-less K gs (known .0), limit-is)
+
+    -- in an area that may be a part of the one at the opening
+    module _ {v : List ℕ} (M : First m n given gs v) where
+      pub F : First (pinCount gates) n given gs v
+      F = rw (← pins) M
+
+      abbrev pub course : Course
+      course = record {
+        K = K;
+        g = graphOf gates;
+        given = given;
+        waiting = waitingOf gs [];
+        rooms = rooms K (length pl);
+        room = wordLimit K - reserved gs;
+        low = first-low P F;
+        high = first-high P F;
+        valid = P .valid;
+        small = omega (arith, P .pins, P .few);
+        ready = first-ready P F;
+        limit = omega arith;
+      }
+
+      built : rules.build K (graphOf gates) given gs (rooms K (length pl)) ≡ answer course
+      unfolding rules.build answer
+      built = rw (known .0, rules.build)
+
+      same : answer course ≡ rules.before [] (rules.stages K (graphOf gates) (rooms K (length pl) - 0) 1 given (waitingOf gs []) (wordLimit K - reserved gs - 0))
+      unfolding answer rules.before
+      same =
+          let d : rooms K (length pl) - 0 ≡ rooms K (length pl) = omega arith in
+          let e : wordLimit K - reserved gs - 0 ≡ wordLimit K - reserved gs = omega arith in
+          rw (d, e)
+
+      plan-blank : pl ≡ padded (rooms K (length pl) * stageSize K) empty []
+      plan-blank = A .plan ∙ ap (λ (i : ℕ). replicate i empty) (A .plan-size) ∙ sym (padded-none (rooms K (length pl) * stageSize K) empty)
+
+      words-blank : ws ≡ padded (wordLimit K) empty []
+      words-blank = A .words ∙ ap (λ (i : ℕ). replicate i empty) (A .words-size) ∙ sym (padded-none (wordLimit K) empty)
+
+      counts-blank : cs ≡ padded (rooms K (length pl)) 0 []
+      counts-blank = A .counts ∙ ap (λ (i : ℕ). replicate i 0) (A .counts-size) ∙ sym (padded-none (rooms K (length pl)) 0)
+
+      first : Underway course m 0 0 n pl ws cs v
+      unfolding rules.cellsOf rules.wordsOf rules.countsOf
+      first = record {
+        ss = [];
+        done = given;
+        waiting = waitingOf gs [];
+        same = same;
+        ready = first-ready P F;
+        count = refl;
+        few = omega arith;
+        cells = omega arith;
+        counted = refl;
+        spent = refl;
+        fits = omega arith;
+        plan = plan-blank;
+        words = words-blank;
+        counts = counts-blank;
+        work = record { area = M .area; done = M .done; waiting = M .waiting; fresh = M .fresh; cells = M .cells; marks = M .marks; tail = λ j h. M .zeros j (omega arith) };
+      }
+
+      module _ {h half rms room : ℕ} (height : h ≡ K) (row : half ≡ orZero (isHeight K) (levelOneSize K)) (all : rms ≡ length cs) (left : room ≡ limit - res) (short : length cs < 2 ^ 63) where
+        half-is : half ≡ rowAt h 1
+        unfolding rowAt
+        half-is = rw height (row ∙ (rw (P .height, orZero-true (levelOneSize K)) refl))
+
+        pub built-stages : StagesAt course m h half rms 0 0 n room gates pl ws cs v
+        built-stages = record {
+          known = record { height = height; row = half-is; graph = refl; size = P .pins ∙ sym pins; pair = P .even ∙ ap (λ (i : ℕ). 2 * i) (sym pins) };
+          now = first;
+          all = all ∙ A .counts-size;
+          short = omega arith;
+          left = left ∙ (omega (arith, limit-is, known .1));
+        }
+
+      abbrev ss : List rules.Stage
+      ss = rules.stagesOf (answer course)
+
+      pub built-ran : {a : Answer} {pl′ ws′ cs′ w′ : List ℕ} → Ran course pl ws cs v a pl′ ws′ cs′ w′ → Tried (rules.build K (graphOf gates) given gs (rooms K (length pl))) pl ws cs v a pl′ ws′ cs′ w′
+      built-ran R = rw built (record {
+        kept = R .kept;
+        reply = R .reply;
+        whole = λ z. record {
+          plan = R .whole z .plan ∙ ap (λ (i : ℕ). padded i empty (rules.cellsOf ss)) (sym (A .plan-size));
+          words = R .whole z .words ∙ ap (λ (i : ℕ). padded i empty (rules.wordsOf ss)) (sym (A .words-size));
+          counts = R .whole z .counts ∙ ap (λ (i : ℕ). padded i 0 (rules.countsOf ss)) (sym (A .counts-size));
+        };
+      })
+
+-- ---- the build of all records
+
 module _ {K : ℕ} {gates given records pl ws cs w : List ℕ} (A : TryAt K gates given records pl ws cs w) where
-  pub P : Passed K (A .at .sized) gates given records
-  P = A .at .passed
+  pub try-blank : Blank K pl ws cs
+  try-blank = record { plan-size = A .at .plan; words-size = A .at .words; counts-size = A .at .counts; plan = A .plan; words = A .words; counts = A .counts }
 
-  abbrev gs : List Group
-  gs = groupsOf records
+  pub try-begin : {m : ℕ} → m ≡ pinCount gates → BeginAt m given records w
+  try-begin pins = rw pins (begin-at (A .at .passed) w (omega (arith, A .at .work)) (laid-self (workSize gates records) w (A .at .work) (A .work)))
 
-  module _ {m : ℕ} (pins : m ≡ pinCount gates) where
-    pub try-begin : BeginAt m given records w
-    try-begin = rw pins (begin-at P w (omega (arith, A .at .work)) (laid-self (workSize gates records) w (A .at .work) (A .work)))
-
-    module _ {limit : ℕ} (lim : limit ≡ length ws) {r : Opening} {w₁ : List ℕ} (B : Begins m limit given records w r w₁) where
-      limit-is : limit ≡ wordLimit K
-      limit-is = lim ∙ A .at .words
-
-      pub try-over : r ≡ Over → Tried (rules.answerOf K gates given records (length pl)) pl ws cs w (record { number = 6; stages = 0; words = 0; stage = 0 }) pl ws cs w₁
-      unfolding rules.answerOf rules.build told rules.reply rules.refuse reservationFor
-      try-over e =
-          let f = over-refused K gs (ap reservationFor (sym e) ∙ B .answer K limit-is) in
-          record {
-            kept = record { plan = refl; words = refl; counts = refl; work = B .frame .len };
-            reply = rw (f, rules.build, rules.reply);
-            whole = λ z. absurd (omega arith);
-          }
-
-      module _ {res n : ℕ} (ready : r ≡ Ready res n) where
-        known : (reservable K gs ≡ true) × (res ≡ reserved gs)
-        unfolding reservationFor
-        known = words-reserved K gs res (ap reservationFor (sym ready) ∙ B .answer K limit-is)
-
-        pub try-room : res ≤ limit
-        try-room = omega (arith, known .1, reserved-less K gs (known .0), limit-is)
-
-        M : First m n given records w₁
-        M = B .first res n ready
-
-        pub F : First (pinCount gates) n given records w₁
-        F = rw (← pins) M
-
-        abbrev pub course : Course
-        course = record {
-          K = K;
-          g = graphOf gates;
-          given = given;
-          waiting = waitingOf gs [];
-          rooms = rooms K (length pl);
-          room = wordLimit K - reserved gs;
-          low = first-low P F;
-          high = first-high P F;
-          valid = P .valid;
-          small = omega (arith, P .pins, P .few);
-          ready = first-ready P F;
-          limit = omega arith;
-        }
-
-        built : rules.answerOf K gates given records (length pl) ≡ answer course
-        unfolding rules.answerOf rules.build answer
-        built = rw (known .0, rules.build)
-
-        same : answer course ≡ before [] (rules.stages K (graphOf gates) (rooms K (length pl) - 0) 1 given (waitingOf gs []) (wordLimit K - reserved gs - 0))
-        unfolding answer before
-        same =
-            let d : rooms K (length pl) - 0 ≡ rooms K (length pl) = omega arith in
-            let e : wordLimit K - reserved gs - 0 ≡ wordLimit K - reserved gs = omega arith in
-            rw (d, e)
-
-        plan-blank : pl ≡ padded (rooms K (length pl) * stageSize K) empty []
-        plan-blank = A .plan ∙ ap (λ (i : ℕ). replicate i empty) (A .at .plan) ∙ sym (padded-none (rooms K (length pl) * stageSize K) empty)
-
-        words-blank : ws ≡ padded (wordLimit K) empty []
-        words-blank = A .words ∙ ap (λ (i : ℕ). replicate i empty) (A .at .words) ∙ sym (padded-none (wordLimit K) empty)
-
-        counts-blank : cs ≡ padded (rooms K (length pl)) 0 []
-        counts-blank = A .counts ∙ ap (λ (i : ℕ). replicate i 0) (A .at .counts) ∙ sym (padded-none (rooms K (length pl)) 0)
-
-        first : Underway course m 0 0 n pl ws cs w₁
-        unfolding rules.cellsOf rules.wordsOf rules.countsOf
-        first = record {
-          ss = [];
-          done = given;
-          waiting = waitingOf gs [];
-          same = same;
-          ready = first-ready P F;
-          count = refl;
-          few = omega arith;
-          cells = omega arith;
-          counted = refl;
-          spent = refl;
-          fits = omega arith;
-          plan = plan-blank;
-          words = words-blank;
-          counts = counts-blank;
-          work = record { area = M .area; done = M .done; waiting = M .waiting; fresh = rw pins (first-fresh P F); cells = rw pins (first-cells P F); marks = rw pins (first-marks P F); tail = λ j h. M .zeros j (omega arith) };
-        }
-
-        module _ {h half rms room : ℕ} (height : h ≡ K) (row : half ≡ orZero (isHeight K) (levelOneSize K)) (all : rms ≡ length cs) (left : room ≡ limit - res) (short : length cs < 2 ^ 63) where
-          half-is : half ≡ rowAt h 1
-          unfolding rowAt
-          half-is = rw height (row ∙ (rw (P .height, orZero-true (levelOneSize K)) refl))
-
-          pub try-stages : StagesAt course m h half rms 0 0 n room gates pl ws cs w₁
-          try-stages = record {
-            known = record { height = height; row = half-is; graph = refl; size = P .pins ∙ sym pins; pair = P .even ∙ ap (λ (i : ℕ). 2 * i) (sym pins) };
-            now = first;
-            all = all ∙ A .at .counts;
-            short = omega arith;
-            left = left ∙ (omega (arith, limit-is, known .1));
-          }
-
-        abbrev ss : List rules.Stage
-        ss = rules.stagesOf (answer course)
-
-        pub try-ran : {a : Answer} {pl′ ws′ cs′ w′ : List ℕ} → Ran course pl ws cs w₁ a pl′ ws′ cs′ w′ → Tried (rules.answerOf K gates given records (length pl)) pl ws cs w a pl′ ws′ cs′ w′
-        try-ran {a} {pl′} {ws′} {cs′} {w′} R = rw built (record {
-          kept = record { plan = R .kept .plan; words = R .kept .words; counts = R .kept .counts; work = R .kept .work ∙ B .frame .len };
-          reply = R .reply;
-          whole = λ z. record {
-            plan = R .whole z .plan ∙ ap (λ (i : ℕ). padded i empty (rules.cellsOf ss)) (sym (A .at .plan));
-            words = R .whole z .words ∙ ap (λ (i : ℕ). padded i empty (rules.wordsOf ss)) (sym (A .at .words));
-            counts = R .whole z .counts ∙ ap (λ (i : ℕ). padded i 0 (rules.countsOf ss)) (sym (A .at .counts));
-          };
-        })
+  -- it is the build of the records' groups
+  pub tried : {a : Answer} {u pl′ ws′ cs′ w′ : List ℕ} → length u ≡ length w → Tried (rules.build K (graphOf gates) given (groupsOf records) (rooms K (length pl))) pl ws cs u a pl′ ws′ cs′ w′ → Tried (rules.answerOf K gates given records (length pl)) pl ws cs w a pl′ ws′ cs′ w′
+  unfolding rules.answerOf
+  tried e T = record { kept = record { plan = T .kept .plan; words = T .kept .words; counts = T .kept .counts; work = T .kept .work ∙ e }; reply = T .reply; whole = T .whole }
 
 -- ---- from the last stage to the areas at exit
 

@@ -10,9 +10,10 @@ use lib.ListN.{length, length-append}
 use Rattle.rules.specs.Graph.{Node}
 use Rattle.rules.specs.Ending.{refused, stage, oneStage}
 use Rattle.rules.specs.Cells.{wordLimit}
-use Rattle.rules.specs.Build.{Stage, Answer, refusal, whole, more, stages, cellsOf, wordsOf, countsOf, refuse, reply, stagesOf}
+use Rattle.rules.specs.Build.{Stage, Answer, refusal, whole, more, before, stages, cellsOf, wordsOf, countsOf, refuse, reply, stagesOf}
+use Rattle.rules.proofs.Stage.Refusals.{before-refusal}
 use Rattle.placer.specs.Answers.{told}
-use Rattle.placer.specs.Stages.{Course, before, answer, OneAt, One, StagesAt, Whole}
+use Rattle.placer.specs.Stages.{Course, answer, OneAt, One, StagesAt, Whole}
 
 -- ---- stages behind stages
 
@@ -35,11 +36,6 @@ pub before-more : (ss : List Stage) (s : Stage) (a : Answer) → before ss (more
 unfolding before
 before-more [] s a = refl
 before-more (t ∷ ss) s a = ap (λ (r : Answer). more t r) (before-more ss s a)
-
-pub before-refusal : (ss : List Stage) (n k : ℕ) → before ss (refusal n k) ≡ refusal n k
-unfolding before more
-before-refusal [] n k = refl
-before-refusal (t ∷ ss) n k = rw (before-refusal ss n k)
 
 pub before-whole : (ss ts : List Stage) → before ss (whole ts) ≡ whole (ss ++ ts)
 unfolding before more

@@ -26,10 +26,11 @@ use Rattle.stage.specs.declared.finish.Outcome.{Outcome}
 use Rattle.stage.specs.Finish.{Whole}
 use Rattle.stage.specs.Stage.{StageAt, built, Staged}
 use Rattle.runs.proofs.Laws.Laid.{laid-none, laid-more, laid-length}
+use Rattle.rules.proofs.Stage.Refusals.{before-refusal}
 use Rattle.placer.specs.Stages as specs
-use Rattle.placer.specs.Stages.{Course, Between, Underway, OneAt, One, Kept, answer, before}
+use Rattle.placer.specs.Stages.{Course, Between, Underway, OneAt, One, Kept, answer}
 use Rattle.placer.proofs.Laws.Laying.{laid-next, blank-part, part-inside}
-use Rattle.placer.proofs.Laws.Course.{limit-small, cells-more, words-more, counts-more, before-more, before-refusal, stage-refused, stage-more}
+use Rattle.placer.proofs.Laws.Course.{limit-small, cells-more, words-more, counts-more, before-more, stage-refused, stage-more}
 
 size-is : (K half : ℕ) → 6 ≤ K → half ≡ rowAt K 1 → 4 * half ≡ stageSize K
 unfolding rowAt
@@ -121,14 +122,14 @@ module _ {C : Course} {m K half k n at room : ℕ} {gates pl ws cs w : List ℕ}
       rooms-left : C .rooms - k ≡ suc (C .rooms - suc k)
       rooms-left = omega (arith, A .more)
 
-      same : answer C ≡ before (U .ss) (rules.stages (C .K) (C .g) (suc (C .rooms - suc k)) (suc k) (U .done) (U .waiting) room)
+      same : answer C ≡ rules.before (U .ss) (rules.stages (C .K) (C .g) (suc (C .rooms - suc k)) (suc k) (U .done) (U .waiting) room)
       same = let h = U .same in rw (rooms-left, ← A .left) at h
 
       one-refused : 0 < s .number → One C m k at pl ws cs w (s .number) (s .words) (s .waiting) (laidAt a ys pl) ws′ cs w′
       unfolding built context setting
       one-refused h = record {
         kept = record { plan = plan-kept; words = S .changed .len; counts = refl; work = S .changed .frame .len };
-        refused = λ z. same ∙ ap (before (U .ss)) (stage-refused (C .K) (C .g) (suc k) (U .done) (U .waiting) room waits (C .rooms - suc k) (s .number) (S .refuses h)) ∙ before-refusal (U .ss) (s .number) (suc k);
+        refused = λ z. same ∙ ap (rules.before (U .ss)) (stage-refused (C .K) (C .g) (suc k) (U .done) (U .waiting) room waits (C .rooms - suc k) (s .number) (S .refuses h)) ∙ before-refusal (U .ss) (s .number) (suc k);
         on = λ z. absurd (omega arith);
       }
 
@@ -152,10 +153,10 @@ module _ {C : Course} {m K half k n at room : ℕ} {gates pl ws cs w : List ℕ}
         pub words-few : s .words < 4294967296
         words-few = omega (arith, W .count, W .fit, A .left, C .limit, word-limit)
 
-        goes : answer C ≡ before (U .ss ++ (next ∷ [])) (rules.stages (C .K) (C .g) (C .rooms - suc k) (suc (suc k)) (tree (C .K) ys ++ U .done) (W .left) (C .room - (at + s .words)))
+        goes : answer C ≡ rules.before (U .ss ++ (next ∷ [])) (rules.stages (C .K) (C .g) (C .rooms - suc k) (suc (suc k)) (tree (C .K) ys ++ U .done) (W .left) (C .room - (at + s .words)))
         goes =
             let r : room - length (W .ws) ≡ C .room - (at + s .words) = omega (arith, A .left, W .count) in
-            same ∙ ap (before (U .ss)) (stage-more (C .K) (C .g) (suc k) (U .done) (U .waiting) room waits (C .rooms - suc k) ys (W .ws) (tree (C .K) ys) (W .left) one) ∙ before-more (U .ss) next _ ∙ ap (λ (i : ℕ). before (U .ss ++ (next ∷ [])) (rules.stages (C .K) (C .g) (C .rooms - suc k) (suc (suc k)) (tree (C .K) ys ++ U .done) (W .left) i)) r
+            same ∙ ap (rules.before (U .ss)) (stage-more (C .K) (C .g) (suc k) (U .done) (U .waiting) room waits (C .rooms - suc k) ys (W .ws) (tree (C .K) ys) (W .left) one) ∙ before-more (U .ss) next _ ∙ ap (λ (i : ℕ). rules.before (U .ss ++ (next ∷ [])) (rules.stages (C .K) (C .g) (C .rooms - suc k) (suc (suc k)) (tree (C .K) ys ++ U .done) (W .left) i)) r
 
         marked : Marks DONE m (tree (C .K) ys ++ U .done) w′
         unfolding context setting

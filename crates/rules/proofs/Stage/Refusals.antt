@@ -30,6 +30,11 @@ pub record SoFar (K : ℕ) (g : List Node) (rooms k s : ℕ) (done waiting : Lis
   pub count : length ss ≡ s
   pub same : a ≡ before ss (stages K g (rooms - s) (k + s) done waiting room)
 
+pub before-refusal : (ss : List Stage) (n k : ℕ) → before ss (refusal n k) ≡ refusal n k
+unfolding before more
+before-refusal [] n k = refl
+before-refusal (s ∷ ss) n k = rw (before-refusal ss n k)
+
 module _ (K : ℕ) (g : List Node) where
   pub stages-so-far : (s rooms k : ℕ) (done waiting : List ℕ) (room : ℕ) {done2 waiting2 : List ℕ} {room2 : ℕ} → s ≤ rooms → afterFrom K g s done waiting room ≡ state done2 waiting2 room2 →
       SoFar K g rooms k s done2 waiting2 room2 (stages K g rooms k done waiting room)
@@ -50,11 +55,6 @@ module _ (K : ℕ) (g : List Node) where
       let x : suc k + s ≡ k + suc s = omega arith in
       let y : rooms - s ≡ suc rooms - suc s = omega arith in
       record { ss = record { plan = plan; words = words } ∷ t .ss; count = ap suc (t .count); same = rw (d, stages) (ap (more (record { plan = plan; words = words })) (t .same ∙ rw (x, y) refl)) })
-
-  before-refusal : (ss : List Stage) (n k : ℕ) → before ss (refusal n k) ≡ refusal n k
-  unfolding before more
-  before-refusal [] n k = refl
-  before-refusal (s ∷ ss) n k = rw (before-refusal ss n k)
 
   -- ---- what stops them
 

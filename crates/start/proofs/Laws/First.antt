@@ -10,7 +10,7 @@ use lib.ListN.{length, replicate}
 use Rattle.rules.specs.Lists.{laidOver}
 use Rattle.rules.specs.Cells.{isHeight, wordLimit, rooms}
 use Rattle.rules.specs.Graph.{graphOf, pinCount}
-use Rattle.rules.specs.Records.{Group, waitingOf, groupsOf}
+use Rattle.rules.specs.Records.{Group, waitingOf}
 use Rattle.rules.specs.Reservation.{reserved, reservable}
 use Rattle.rules.specs.Checks.{planSized, workSize, areasSized, refusalOf}
 use Rattle.rules.specs.Traversal.{setting}
@@ -18,11 +18,9 @@ use Rattle.rules.proofs.Lists.Members.{split, and-true}
 use Rattle.rules.proofs.Demand.{graph}
 use Rattle.rules.proofs.Stage.Depth as depth
 use Rattle.checks.proofs.Laws.Passed.{Passed, passed}
-use Rattle.columns.specs.Fields.{LEVEL, CELLS, STARTS, ENDS, REVERSE, LISTED, MARK, SPARE}
-use Rattle.columns.specs.Lists.{Clear}
 use Rattle.columns.proofs.Area.Lent.{length-laid, at-laid}
 use Rattle.columns.proofs.Lists.Entries.{holds-below}
-use Rattle.walk.specs.Stands.{Context, Begun, Fresh}
+use Rattle.walk.specs.Stands.{Context, Begun}
 use Rattle.walk.proofs.Contexts.{context}
 use Rattle.start.specs.declared.Opening.{Opening}
 use Rattle.start.specs.declared.Opening.the-variants.{Over, Ready}
@@ -64,8 +62,8 @@ checked-begin K gates given records plan words counts v e ew =
 
 -- ---- after it
 
-module _ {K : ℕ} {sized : Bool} {gates given records : List ℕ} (P : Passed K sized gates given records) {n : ℕ} {w : List ℕ} (F : First (pinCount gates) n given records w) where
-  pub first-ready : depth.Ready (graphOf gates) (λ p. p) (waitingOf (groupsOf records) [])
+module _ {K : ℕ} {sized : Bool} {gates given records : List ℕ} (P : Passed K sized gates given records) {n : ℕ} {gs : List Group} {w : List ℕ} (F : First (pinCount gates) n given gs w) where
+  pub first-ready : depth.Ready (graphOf gates) (λ p. p) (waitingOf gs [])
   first-ready = record { once = F .waiting .once; bounded = λ x i. let h = holds-below (F .waiting .held) x i in (rw (P .pins) h, rw (P .pins) h) }
 
   pub first-low : 6 ≤ K
@@ -77,32 +75,15 @@ module _ {K : ℕ} {sized : Bool} {gates given records : List ℕ} (P : Passed K
   first-high = leb-true K 13 (and-true (leb 6 K) (leb K 13) (P .height) .1)
 
   unfoldable pub firstContext : Context
-  firstContext = context K (graphOf gates) (λ p. p) (graph (graphOf gates) (P .valid)) first-low first-high (rw (P .pins) (P .few)) given (waitingOf (groupsOf records) []) first-ready
+  firstContext = context K (graphOf gates) (λ p. p) (graph (graphOf gates) (P .valid)) first-low first-high (rw (P .pins) (P .few)) given (waitingOf gs []) first-ready
 
-  pub first-setting : firstContext .X ≡ setting K (graphOf gates) given (waitingOf (groupsOf records) [])
+  pub first-setting : firstContext .X ≡ setting K (graphOf gates) given (waitingOf gs [])
   unfolding firstContext context
   first-setting = refl
 
   pub first-begun : Begun firstContext (pinCount gates) n gates w
   unfolding firstContext context setting
   first-begun = record { base = record { area = F .area; size = P .pins; graph = refl; pair = P .even }; done = F .done; waiting = F .waiting }
-
-  -- nothing is listed, placed or marked
-  pub first-fresh : Fresh (pinCount gates) w
-  first-fresh = record {
-    listed = F .clear LISTED refl (omega arith);
-    levels = F .clear LEVEL refl (omega arith);
-    reverse = F .clear REVERSE refl (omega arith);
-    starts = F .clear STARTS refl (omega arith);
-    ends = F .clear ENDS refl (omega arith);
-    spare = F .clear SPARE refl (omega arith);
-  }
-
-  pub first-cells : Clear CELLS (pinCount gates) w
-  first-cells = F .clear CELLS refl (omega arith)
-
-  pub first-marks : Clear MARK (pinCount gates) w
-  first-marks = F .clear MARK refl (omega arith)
 
 -- ---- what the answer says of refusal 6
 
@@ -116,11 +97,11 @@ words-mean K xs r e = split (reservable K xs)
     (λ t. let d : reservation.Words r ≡ reservation.Words (reserved xs) = rw (t, reservationOf) at e in (t, cc))
     (λ t. absurd (let d : reservation.Words r ≡ reservation.Over = rw (t, reservationOf) at e in let z : _≡_ {A = ℕ} 0 1 = cc in omega arith))
 
-module _ {m limit : ℕ} {given records w w′ : List ℕ} {r : Opening} (B : Begins m limit given records w r w′) (K : ℕ) (l : limit ≡ wordLimit K) where
-  pub begins-six : r ≡ Over → reservable K (groupsOf records) ≡ false
+module _ {m limit far : ℕ} {given : List ℕ} {gs : List Group} {w w′ : List ℕ} {r : Opening} (B : Begins m limit far given gs w r w′) (K : ℕ) (l : limit ≡ wordLimit K) where
+  pub begins-six : r ≡ Over → reservable K gs ≡ false
   unfolding reservationFor
-  begins-six e = over-means K (groupsOf records) (rw e at (B .answer K l))
+  begins-six e = over-means K gs (rw e at (B .answer K l))
 
-  pub begins-first : {words n : ℕ} → r ≡ Ready words n → (reservable K (groupsOf records) ≡ true) × (words ≡ reserved (groupsOf records)) × First m n given records w′
+  pub begins-first : {words n : ℕ} → r ≡ Ready words n → (reservable K gs ≡ true) × (words ≡ reserved gs) × First m n given gs w′
   unfolding reservationFor
-  begins-first {words} {n} e = let a = words-mean K (groupsOf records) words (rw e at (B .answer K l)) in (a .0, a .1, B .first words n e)
+  begins-first {words} {n} e = let a = words-mean K gs words (rw e at (B .answer K l)) in (a .0, a .1, B .first words n e)

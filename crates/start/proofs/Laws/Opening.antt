@@ -4,83 +4,125 @@ use mathlib.Core.List.{List}
 use Prim.Native.Nat.{ℕ, _+_, _*_, _<_, _≤_}
 use native.Mathlib.Omega.{arith}
 use lib.ListN.{length, getD}
-use Rattle.columns.specs.Fields.{DONE, RANKED, PLACE, RECORDS}
-use Rattle.columns.specs.Area.{Frame}
+use Rattle.rules.specs.Records.{Group}
+use Rattle.columns.specs.Fields.{DONE, LEVEL, CELLS, RANKED, STARTS, ENDS, REVERSE, LISTED, PLACE, MARK, SPARE, RECORDS}
+use Rattle.columns.specs.Area.{Room, Frame}
 use Rattle.columns.specs.Lists.{Clear}
 use Rattle.columns.proofs.Area.Columns.{inside}
 use Rattle.columns.proofs.Area.Frames.{frame-then, frame-more, frame-room}
 use Rattle.columns.proofs.Lists.Marks.{marks-frame}
+use Rattle.columns.proofs.Lists.Clears.{clear-frame}
 use Rattle.start.specs.declared.Opening.the-variants.{Over, Ready}
 use Rattle.start.specs.declared.reservation.Reservation.{Reservation}
 use Rattle.start.specs.declared.reservation.Reservation.the-variants as reservation
 use Rattle.start.specs.Given.{GivenAt, Given}
 use Rattle.start.specs.Waiting.{WaitAllAt, AllWait}
 use Rattle.start.specs.Reservation.{ReserveAt, Reserved}
-use Rattle.start.specs.Opening.{BeginAt, reservationFor, opened, First, Begins}
+use Rattle.start.specs.Opening.{BeginAt, Idle, Opens, reservationFor, opened, First, Begins}
 
-module _ {m : ℕ} {given records w : List ℕ} (A : BeginAt m given records w) where
+-- ---- what is 0 throughout is idle
+
+module _ {m : ℕ} {w : List ℕ} (area : Room m w) (zeros : (j : ℕ) → j < 16 * m + RECORDS → getD w j 0 ≡ 0) where
   clear-at : (f : ℕ) → f < 16 → Clear f m w
-  clear-at f h = record { zero = λ p k. A .zeros (f * m + p) (omega (arith, inside f m h)) }
+  clear-at f h = record { zero = λ p k. zeros (f * m + p) (omega (arith, inside f m h)) }
 
-  pub reserve-at : ReserveAt m records w
-  reserve-at = record { area = A .area; room = A .room; right = A .right; clear = clear-at RANKED (omega arith) }
+  pub zeros-idle : Idle m w
+  zeros-idle = record {
+    area = area;
+    done = clear-at DONE (omega arith);
+    heads = clear-at RANKED (omega arith);
+    places = clear-at PLACE (omega arith);
+    fresh = record {
+      listed = clear-at LISTED (omega arith);
+      levels = clear-at LEVEL (omega arith);
+      reverse = clear-at REVERSE (omega arith);
+      starts = clear-at STARTS (omega arith);
+      ends = clear-at ENDS (omega arith);
+      spare = clear-at SPARE (omega arith);
+    };
+    cells = clear-at CELLS (omega arith);
+    marks = clear-at MARK (omega arith);
+    zeros = λ j h. zeros (16 * m + j) (omega arith);
+  }
 
-  module _ {limit : ℕ} {r : Reservation} {w₁ : List ℕ} (R : Reserved m limit records w w₁ r) where
-    framed : Frame opened m w w₁
-    framed = frame-more refl (R .touched .frame)
+-- ---- over any groups
 
-    far : (j : ℕ) → 16 * m + RECORDS + 8 * length records ≤ j → getD w₁ j 0 ≡ getD w j 0
-    far j h = R .touched .past j (omega arith)
+module _ {m : ℕ} {given w : List ℕ} (A : Opens m given w) {limit e : ℕ} {gs : List Group} {r : Reservation} {w₁ : List ℕ} (R : Reserved m limit e gs w w₁ r) {far : ℕ} (within : 16 * m + RECORDS + 2 * e ≤ far) where
+  framed : Frame opened m w w₁
+  framed = frame-more refl (R .touched .frame)
 
-    pub begins-over : r ≡ reservation.Over → Begins m limit given records w Over w₁
-    unfolding reservationFor
-    begins-over e = record {
-      frame = framed;
-      past = far;
-      answer = λ K l. sym e ∙ R .answer K l;
-      first = λ words n d. absurd (let z : _≡_ {A = ℕ} 0 1 = cc in omega arith);
-    }
+  beyond : (j : ℕ) → far ≤ j → getD w₁ j 0 ≡ getD w j 0
+  beyond j h = R .touched .past j (omega arith)
 
-    pub given-at : GivenAt m given w₁
-    given-at = record {
-      area = frame-room (R .touched .frame) (A .area);
-      clear = record { zero = λ p h. R .touched .frame .cell DONE refl (omega arith) p h ∙ clear-at DONE (omega arith) .zero p h };
-      pins = A .given-named;
-    }
+  pub begins-over : r ≡ reservation.Over → Begins m limit far given gs w Over w₁
+  unfolding reservationFor
+  begins-over d = record {
+    frame = framed;
+    past = beyond;
+    answer = λ K l. sym d ∙ R .answer K l;
+    first = λ words n b. absurd (let z : _≡_ {A = ℕ} 0 1 = cc in omega arith);
+  }
 
-    module _ {w₂ : List ℕ} (G : Given m given w₁ w₂) where
-      framed-2 : Frame opened m w w₂
-      framed-2 = frame-then framed (frame-more refl (G .frame))
+  pub given-at : GivenAt m given w₁
+  given-at = record { area = frame-room (R .touched .frame) (A .idle .area); clear = clear-frame (A .idle .done) (R .touched .frame) refl (omega arith); pins = A .given-named }
 
-      pub wait-all-at : WaitAllAt m records w₂
-      wait-all-at = record {
-        area = frame-room framed-2 (A .area);
-        right = A .right;
-        clear = record { zero = λ p h. G .frame .cell PLACE refl (omega arith) p h ∙ R .touched .frame .cell PLACE refl (omega arith) p h ∙ clear-at PLACE (omega arith) .zero p h };
+  module _ {w₂ : List ℕ} (G : Given m given w₁ w₂) where
+    framed-2 : Frame opened m w w₂
+    framed-2 = frame-then framed (frame-more refl (G .frame))
+
+    pub opened-room : Room m w₂
+    opened-room = frame-room framed-2 (A .idle .area)
+
+    pub opened-places : Clear PLACE m w₂
+    opened-places = clear-frame (clear-frame (A .idle .places) (R .touched .frame) refl (omega arith)) (G .frame) refl (omega arith)
+
+    -- past the columns only the reservation changed anything
+    pub opened-past : (j : ℕ) → far ≤ j → getD w₂ j 0 ≡ getD w j 0
+    opened-past j h = G .frame .past refl j (omega arith) ∙ beyond j h
+
+    module _ {w₃ : List ℕ} {n : ℕ} (W : AllWait m gs w₂ w₃ n) where
+      framed-3 : Frame opened m w w₃
+      framed-3 = frame-then framed-2 (frame-more refl (W .frame))
+
+      past-3 : (j : ℕ) → 16 * m ≤ j → getD w₃ j 0 ≡ getD w₁ j 0
+      past-3 j h = W .frame .past refl j h ∙ G .frame .past refl j h
+
+      pub first-stage : First m n given gs w₃
+      first-stage = record {
+        area = frame-room framed-3 (A .idle .area);
+        done = marks-frame (G .marks) (W .frame) refl (omega arith);
+        waiting = W .now;
+        fresh = record {
+          listed = clear-frame (A .idle .fresh .listed) framed-3 refl (omega arith);
+          levels = clear-frame (A .idle .fresh .levels) framed-3 refl (omega arith);
+          reverse = clear-frame (A .idle .fresh .reverse) framed-3 refl (omega arith);
+          starts = clear-frame (A .idle .fresh .starts) framed-3 refl (omega arith);
+          ends = clear-frame (A .idle .fresh .ends) framed-3 refl (omega arith);
+          spare = clear-frame (A .idle .fresh .spare) framed-3 refl (omega arith);
+        };
+        cells = clear-frame (A .idle .cells) framed-3 refl (omega arith);
+        marks = clear-frame (A .idle .marks) framed-3 refl (omega arith);
+        zeros = λ j h. past-3 (16 * m + j) (omega arith) ∙ R .touched .low j h ∙ A .idle .zeros j h;
       }
 
-      module _ {w₃ : List ℕ} {n : ℕ} (W : AllWait m records w₂ w₃ n) where
-        framed-3 : Frame opened m w w₃
-        framed-3 = frame-then framed-2 (frame-more refl (W .frame))
+      pub begins-ready : (words : ℕ) → r ≡ reservation.Words words → Begins m limit far given gs w (Ready words n) w₃
+      unfolding reservationFor
+      begins-ready words d = record {
+        frame = framed-3;
+        past = λ j h. past-3 j (omega arith) ∙ beyond j h;
+        answer = λ K l. sym d ∙ R .answer K l;
+        first = λ v k b. let z : k ≡ n = cc in rw z first-stage;
+      }
 
-        -- past the columns only the reservation changed anything
-        past-3 : (j : ℕ) → 16 * m ≤ j → getD w₃ j 0 ≡ getD w₁ j 0
-        past-3 j h = W .frame .past refl j h ∙ G .frame .past refl j h
+-- ---- over all records
 
-        pub first-stage : First m n given records w₃
-        first-stage = record {
-          area = frame-room framed-3 (A .area);
-          done = marks-frame (G .marks) (W .frame) refl (omega arith);
-          waiting = W .now;
-          clear = λ f e h. record { zero = λ p k. framed-3 .cell f e h p k ∙ clear-at f h .zero p k };
-          zeros = λ j h. past-3 (16 * m + j) (omega arith) ∙ R .touched .low j h ∙ A .zeros (16 * m + j) (omega arith);
-        }
+module _ {m : ℕ} {given records w : List ℕ} (A : BeginAt m given records w) where
+  pub begin-opens : Opens m given w
+  begin-opens = record { idle = zeros-idle (A .area) (λ j h. A .zeros j (omega arith)); given-named = A .given-named }
 
-        pub begins-ready : (words : ℕ) → r ≡ reservation.Words words → Begins m limit given records w (Ready words n) w₃
-        unfolding reservationFor
-        begins-ready words e = record {
-          frame = framed-3;
-          past = λ j h. past-3 j (omega arith) ∙ far j h;
-          answer = λ K l. sym e ∙ R .answer K l;
-          first = λ v k d. let z : k ≡ n = cc in rw z first-stage;
-        }
+  pub reserve-at : ReserveAt m records w
+  reserve-at = record { area = A .area; room = A .room; right = A .right; clear = begin-opens .idle .heads }
+
+  -- an index takes two numbers of a record number's eight
+  pub begin-within : 16 * m + RECORDS + 2 * length records ≤ 16 * m + RECORDS + 8 * length records
+  begin-within = omega arith

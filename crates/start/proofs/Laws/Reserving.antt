@@ -125,7 +125,7 @@ module _ {m limit : ℕ} {records w : List ℕ} (A : ReserveAt m records w) wher
         counted-small = record { few = omega (arith, C .few, A .right .short) }
 
         -- a limit is passed, and stays so
-        pub reserving-over : (r : Bool) → Judged c limit r → r ≡ true → Reserved m limit records w w₂ Over
+        pub reserving-over : (r : Bool) → Judged c limit r → r ≡ true → Reserved m limit (length records) (groupsOf records) w w₂ Over
         reserving-over r J e = record {
           touched = touched-then (omega arith) (R .touched) (touched-then (omega arith) (C .touched) touched-none);
           answer = λ K l. reservation-over K (groupsOf records) (rw all-more (reservable-more K more (next .rest) (is-false (reservable K more) (sym e ∙ J .is K more l (C .counts)))));
@@ -156,7 +156,7 @@ module _ {m limit : ℕ} {records w : List ℕ} (A : ReserveAt m records w) wher
             is-true true e = refl
             is-true false e = e
 
-    pub reserving-done : length records ≤ at → (r : ℕ) → SetAside count r → Reserved m limit records w w₁ (Words r)
+    pub reserving-done : length records ≤ at → (r : ℕ) → SetAside count r → Reserved m limit (length records) (groupsOf records) w w₁ (Words r)
     reserving-done h r S =
         let z = read-last records at (R .rest) (R .unread) h in
         let a : groupsOf records ≡ R .xs = R .all ∙ ap (λ (l : List Group). R .xs ++ l) z ∙ append-nil (R .xs) in

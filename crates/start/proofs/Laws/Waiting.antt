@@ -123,6 +123,6 @@ module _ {m : ℕ} {records w : List ℕ} (A : WaitAllAt m records w) where
         placed = rw (G .placed .held .is) at (W .now);
       }
 
-    pub gathering-done : length records ≤ at → AllWait m records w w₁ n
+    pub gathering-done : length records ≤ at → AllWait m (groupsOf records) w w₁ n
     unfolding waitingOf
     gathering-done h = let z = read-last records at (G .rest) (G .unread) h in record { frame = G .frame; now = rw (← G .left, z, waitingOf) (G .placed) }

@@ -1,5 +1,5 @@
 -- `start::begin` meets its contract: the reservation, the marks and the waiting list, one after the other. Assumes nothing.
-use Rattle.start.proofs.Laws.Opening.{reserve-at, begins-over, given-at, wait-all-at, begins-ready}
+use Rattle.start.proofs.Laws.Opening.{begin-opens, begin-within, reserve-at, begins-over, given-at, opened-room, opened-places, begins-ready}
 use borrow.Author.Needs.{needs}
 use Rattle.start.proofs.begin.Statement.{statement}
 use Rattle.start.proofs.begin.Tie as tie
@@ -14,22 +14,22 @@ enum-known-set-aside : tie.Need-enum-known-set-aside
 enum-known-set-aside c = search needs
 
 mark-given-requires : tie.Need-mark-given-requires
-mark-given-requires c κs = given-at (c .before .before .before .before .before .before .before .before .before .before .before .pre) (c .before .before .before .before .before .before .reserve .ensures)
+mark-given-requires c κs = let A = c .before .before .before .before .before .before .before .before .before .before .before .pre in given-at (begin-opens A) (c .before .before .before .before .before .before .reserve .ensures) (begin-within A)
 
 wait-all-requires : tie.Need-wait-all-requires
-wait-all-requires c κs = wait-all-at (c .before .before .before .before .before .before .before .before .before .before .before .before .before .before .before .pre) (c .before .before .before .before .before .before .before .before .before .before .reserve .ensures) (c .before .before .before .mark-given .ensures)
+wait-all-requires c κs = let A = c .before .before .before .before .before .before .before .before .before .before .before .before .before .before .before .pre in let R = c .before .before .before .before .before .before .before .before .before .before .reserve .ensures in let G = c .before .before .before .mark-given .ensures in record { area = opened-room (begin-opens A) R (begin-within A) G; right = A .right; clear = opened-places (begin-opens A) R (begin-within A) G }
 
 same-length : tie.Need-same-length
 same-length c = search needs
 
 returns : tie.Need-returns
-returns c = begins-over (c .before .before .before .before .before .before .before .before .before .pre) (c .before .before .before .before .reserve .ensures) (c .enum-told .given .1)
+returns c = let A = c .before .before .before .before .before .before .before .before .before .pre in begins-over (begin-opens A) (c .before .before .before .before .reserve .ensures) (begin-within A) (c .enum-told .given .1)
 
 same-length-2 : tie.Need-same-length-2
 same-length-2 c = search needs
 
 returns-2 : tie.Need-returns-2
-returns-2 c = begins-ready (c .before .before .before .before .before .before .before .before .before .before .before .before .before .before .before .before .before .before .pre) (c .before .before .before .before .before .before .before .before .before .before .before .before .before .reserve .ensures) (c .before .before .before .before .before .before .mark-given .ensures) (c .before .before .wait-all .ensures) _ (c .before .before .before .before .before .before .before .before .before .set-aside .given .1)
+returns-2 c = let A = c .before .before .before .before .before .before .before .before .before .before .before .before .before .before .before .before .before .before .pre in begins-ready (begin-opens A) (c .before .before .before .before .before .before .before .before .before .before .before .before .before .reserve .ensures) (begin-within A) (c .before .before .before .before .before .before .mark-given .ensures) (c .before .before .wait-all .ensures) _ (c .before .before .before .before .before .before .before .before .before .set-aside .given .1)
 
 pub begin-spec : {M : Type 1} → statement M
 begin-spec =
