@@ -16,7 +16,7 @@ use Rattle.rules.specs.Fold.{asNumber, stageBits, foldFrom, loadFrom}
 use Rattle.rules.proofs.Lists.Members.{In, split}
 use Rattle.rules.proofs.Build.Lengths.{length-stageBits}
 use Rattle.rules.proofs.Fold.Bits.{getD-stageBits}
-use Rattle.rules.proofs.Tree.Loads.{node}
+use Rattle.rules.proofs.Tree.Held.{node}
 use Rattle.rules.proofs.Demand.{Valid, Right}
 
 -- ---- numbers behind the pins' bits count for nothing
