@@ -1,5 +1,5 @@
 -- Membership in lists of numbers. Assumes nothing.
-use Prim.Native.Nat.{ℕ, zero, suc, _<_}
+use Prim.Native.Nat.{ℕ, zero, suc, _+_, _<_}
 use mathlib.Core.Path.{_≡_, refl, sym, subst}
 use mathlib.Core.Logic.{_⊎_, inl, inr, _≢_}
 use mathlib.Core.Bool.{Bool, true, false, _&&_, _||_}
@@ -7,7 +7,7 @@ use mathlib.Core.List.{List, [], _∷_, _++_, map, reverse, reverseAux}
 use native.Mathlib.Omega.{arith}
 use lib.Dec.{T, eqb, eqb→eq, eqb-refl}
 use lib.ListN.{length, getD}
-use Rattle.rules.specs.Lists.{mem, keep, insert, insertAll, distinct, gather, lastOf, init, swapOut, swapOutAll}
+use Rattle.rules.specs.Lists.{mem, keep, insert, insertAll, distinct, count, gather, lastOf, init, swapOut, swapOutAll}
 
 abbrev pub In : ℕ → List ℕ → Type 0
 In p xs = mem p xs ≡ true
@@ -258,3 +258,8 @@ pub insertAll-append : (xs ys zs : List ℕ) → insertAll (xs ++ ys) zs ≡ ins
 unfolding insertAll
 insertAll-append [] ys zs = refl
 insertAll-append (x ∷ xs) ys zs = insertAll-append xs ys (insert x zs)
+
+pub count-append : (f : ℕ → Bool) (xs ys : List ℕ) → count f (xs ++ ys) ≡ count f xs + count f ys
+unfolding count
+count-append f [] ys = omega arith
+count-append f (x ∷ xs) ys = split (f x) (λ e. rw (e, count) (omega (arith, count-append f xs ys))) (λ e. rw (e, count) (count-append f xs ys))
