@@ -1,3 +1,1 @@
 pub mod Heights
-pub mod Positions
-pub mod Rows

@@ -1,8 +1,7 @@
-// Heights, positions, and the row of a level in a lent plan. Every function takes any numbers: where there is no such height,
-// level, cell or row, the answer is 0 or empty.
+// Heights and the sizes that they give. Every function takes any numbers: where there is no such height, level or cell, the answer is 0.
 ghost use mathlib.Core.Path.{_≡_};
-ghost use Rattle.rules.specs.Cells.{isHeight, width, wordLimit, levelOneSize, stageSize, rowAt, position, log2, rowStart, levelOf, cellOf, firstLower, secondLower, rooms, hasRow, rowOf};
-ghost use Rattle.cells.specs.Answers.{heightOf, orZero, hasLevel, hasCell, spanOf};
+ghost use Rattle.rules.specs.Cells.{isHeight, width, wordLimit, levelOneSize, stageSize, rowAt, position, rooms};
+ghost use Rattle.cells.specs.Answers.{heightOf, orZero, hasLevel, hasCell};
 
 // The height K of a stage.
 pub struct Height(pub u32);
@@ -93,7 +92,8 @@ pub fn is_height(k: u32) -> bool
     k <= Height::GREATEST
 }
 
-fn has_level(height: u32, level: u32) -> bool
+// Does a stage of this height have this level?
+pub fn has_level(height: u32, level: u32) -> bool
     ensures { λ r. ⌜ r ≡ hasLevel height level ⌝ }
 {
     if is_height(height) {
@@ -101,44 +101,6 @@ fn has_level(height: u32, level: u32) -> bool
     } else {
         false
     }
-}
-
-// How many doublings lead from 1 to the start of the row of position p. (The definitions give position 0 the row of position 1.)
-fn log2(p: u32) -> u32
-    ensures { λ r. ⌜ r ≡ log2 p ⌝ }
-{
-    if p == 0 {
-        return 0;
-    }
-    31 - u32::leading_zeros(p)
-}
-
-// Where the row of position p begins: the greatest power of two not above p.
-pub fn row_start(p: u32) -> u32
-    ensures { λ r. ⌜ r ≡ rowStart p ⌝ }
-{
-    1u32 << log2(p)
-}
-
-// The level of position p.
-pub fn level_of(height: u32, p: u32) -> u32
-    ensures { λ r. ⌜ r ≡ levelOf height p ⌝ }
-{
-    let log = log2(p);
-    if height < log {
-        return 0;
-    }
-    height - log
-}
-
-// The cell of its level that stands at position p.
-pub fn cell_of(p: u32) -> u32
-    ensures { λ r. ⌜ r ≡ cellOf p ⌝ }
-{
-    if p == 0 {
-        return 0;
-    }
-    p - row_start(p)
 }
 
 // The position of a cell of a level.
@@ -152,77 +114,9 @@ pub fn position(height: u32, level: u32, cell: u32) -> usize
     wide(cell) + row
 }
 
-// The two lower cells of position p.
-pub fn first_lower(p: u32) -> usize
-    ensures { λ r. ⌜ r ≡ firstLower p ⌝ }
-{
-    wide(p) + wide(row_start(p))
-}
-
-pub fn second_lower(p: u32) -> usize
-    ensures { λ r. ⌜ r ≡ secondLower p ⌝ }
-{
-    wide(p) + 2 * wide(row_start(p))
-}
-
-fn wide(x: u32) -> usize
+// A number as an index.
+pub fn wide(x: u32) -> usize
     ensures { λ r. ⌜ r ≡ x ⌝ }
 {
     x as usize
-}
-
-// From start up to end.
-struct Span {
-    start: usize,
-    end: usize,
-}
-
-// Is there such a row in a plan of so many numbers? Stages count from 1.
-fn has_row(height: u32, stage: usize, level: u32, size: usize) -> bool
-    ensures { λ r. ⌜ r ≡ hasRow height stage level size ⌝ }
-{
-    if stage == 0 {
-        return false;
-    }
-    if has_level(height, level) {
-        stage <= Height(height).rooms(size)
-    } else {
-        false
-    }
-}
-
-// Where it stands.
-fn row_span(height: u32, stage: usize, level: u32, size: usize) -> Span
-    ensures { λ r. ⌜ r ≡ spanOf height stage level size ⌝ }
-{
-    if has_row(height, stage, level, size) {
-        let cells = Height(height).row_at(level);
-        let start = (stage - 1) * Height(height).stage_size() + cells;
-        Span {
-            start,
-            end: start + cells,
-        }
-    } else {
-        Span { start: 0, end: 0 }
-    }
-}
-
-// One level's row of the caller's plan.
-pub fn row(plan: &[u32], height: u32, stage: usize, level: u32) -> &[u32]
-    ensures { λ r. ⌜ now r ≡ rowOf height stage level (now (plan .entry)) ⌝ }
-{
-    let part = row_span(height, stage, level, plan.len());
-    let start = part.start;
-    let end = part.end;
-    &plan[start..end]
-}
-
-// The same, to be written. The plan is lent on with the part, so no clause can speak of it at exit.
-pub fn row_mut(plan: &mut [u32], height: u32, stage: usize, level: u32) -> &mut [u32]
-    ensures { λ r. ⌜ now r ≡ rowOf height stage level (now (plan .entry)) ⌝ }
-{
-    let span = row_span(height, stage, level, plan.len());
-    let start = span.start;
-    let end = span.end;
-    &mut plan[start..end]
 }

@@ -1,5 +1,6 @@
 // The lent work area: sixteen columns of m numbers, m = N + 1, and behind them the tail.
 // Field f of pin p stands at f * m + p. A list of pins is a column too.
+pub use cells::wide;
 ghost use mathlib.Core.Path.{_≡_};
 ghost use mathlib.Core.Bool.{not};
 ghost use Prim.Native.Nat.{_+_, _*_, _<_, _≤_};
@@ -65,12 +66,6 @@ pub const PINS: usize = 257;
 
 // From here on 8 numbers a record number.
 pub const RECORDS: usize = 512;
-
-pub fn wide(x: u32) -> usize
-    ensures { λ r. ⌜ r ≡ x ⌝ }
-{
-    x as usize
-}
 
 // Field f of pin p.
 pub fn get(work: &[u32], m: usize, p: usize, f: usize) -> usize

@@ -107,15 +107,15 @@ fn heights() {
 fn position(p: u32) {
     io::write_all(STDOUT_FILENO, b"position");
     say_u32(p);
-    say_u32(cells::row_start(p));
-    say_u32(cells::level_of(6, p));
-    say_u32(cells::cell_of(p));
+    say_u32(positions::row_start(p));
+    say_u32(positions::level_of(6, p));
+    say_u32(positions::cell_of(p));
     lower(p);
 }
 
 fn lower(p: u32) {
-    say(cells::first_lower(p));
-    say(cells::second_lower(p));
+    say(positions::first_lower(p));
+    say(positions::second_lower(p));
     end();
 }
 
@@ -154,7 +154,7 @@ fn positions() {
 // A row's length and its first number, 0 if it is empty.
 fn row(plan: &[u32], height: u32, stage: usize, level: u32) {
     io::write_all(STDOUT_FILENO, b"row");
-    let part = cells::row(plan, height, stage, level);
+    let part = rows::row(plan, height, stage, level);
     say(part.len());
     if 0 < part.len() {
         say_u32(part[0]);
@@ -215,7 +215,7 @@ fn mark(part: &mut [u32]) {
 fn row_writes() {
     io::write_all(STDOUT_FILENO, b"row_mut");
     let mut plan = [0u32; 256];
-    mark(cells::row_mut(&mut plan, 6, 2, 1));
+    mark(rows::row_mut(&mut plan, 6, 2, 1));
     say_u32(plan[159]);
     say_u32(plan[160]);
     say_u32(plan[161]);

@@ -1,5 +1,2 @@
-pub mod Cells
-pub mod Loads
-pub mod Parts
 pub mod Stages
 pub mod Checks

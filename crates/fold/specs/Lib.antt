@@ -1,4 +1,2 @@
 pub mod Answers
-pub mod Bits
-pub mod Loads
 pub mod Stages

@@ -1,7 +1,6 @@
 -- Stage after stage: what is asked and left of the result area. Assumes nothing.
 use Prim.Native.Nat.{ℕ, _+_, _-_, _*_, _%_, _^_, _≤_, _<_}
 use mathlib.Core.Path.{_≡_}
-use mathlib.Core.Logic.{_⊎_}
 use mathlib.Core.Bool.{Bool, true}
 use mathlib.Core.List.{List, _++_}
 use lib.ListN.{length, getD, take, drop}
@@ -10,14 +9,8 @@ use Rattle.rules.specs.Cells.{isHeight}
 use Rattle.rules.specs.Graph.{Node, pinCount}
 use Rattle.rules.specs.Fold.{stageBits, lowest, loadFrom, foldBits}
 use Rattle.rules.proofs.Lists.Members.{In}
-use Rattle.fold.specs.Bits.{StageAt}
-use Rattle.fold.specs.Loads.{held, AreaAt, FirstIn}
-
--- a stage's bits are there, and nothing outside the stage is changed
-pub record StageFolds (K : ℕ) (g : List Node) (cells : List ℕ) (at L m : ℕ) (w w′ : List ℕ) : Type 0 where
-  pub len : length w′ ≡ length w
-  pub bits : take (2 ^ (K + 1)) (drop at w′) ≡ stageBits K g cells (held L m w)
-  pub same : (i : ℕ) → (i < at) ⊎ (at + 2 ^ (K + 1) ≤ i) → getD w′ i 0 ≡ getD w i 0
+use Rattle.folding.specs.Bits.{StageAt}
+use Rattle.folding.specs.Loads.{held, AreaAt, FirstIn}
 
 -- the numbers behind the bits are 0 but for pins that stand above level 0 of some cells
 pub record Only (K : ℕ) (cells : List ℕ) (L m : ℕ) (w : List ℕ) : Type 0 where

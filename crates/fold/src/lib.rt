@@ -1,6 +1,4 @@
 // Folding: a plan, the graph and a bit a pin to one bit a position. It takes any numbers and slices.
-mod bits;
-mod loads;
 mod stages;
 
 use checks::refusal;

@@ -1,11 +1,11 @@
 // Stage after stage. From `looks` on, behind the bits, stands what the stage at hand loads: a number a pin.
-use crate::bits::fold_up;
-use crate::loads::first_loads;
-use crate::loads::forget;
-use crate::loads::load_row;
-use crate::loads::no_loads;
-use crate::loads::remember;
 use cells::Height;
+use folding::bits::fold_up;
+use folding::loads::first_loads;
+use folding::loads::forget;
+use folding::loads::load_row;
+use folding::loads::no_loads;
+use folding::loads::remember;
 use graph::pin_count;
 ghost use mathlib.Core.Path.{_≡_};
 ghost use mathlib.Core.List.{_++_};
@@ -14,8 +14,8 @@ ghost use lib.ListN.{length, take, replicate};
 ghost use Rattle.rules.specs.Lists.{laidOver};
 ghost use Rattle.rules.specs.Graph.{graphOf, pinCount};
 ghost use Rattle.rules.specs.Fold.{firstLoad, foldBits};
-ghost use Rattle.fold.specs.Loads.{held, AreaAt};
-ghost use Rattle.fold.specs.Stages.{StageFolds, OneAt, NextAt, Folds, PlanAt, InputAt, StepAt, stageFrom, AllFold};
+ghost use Rattle.folding.specs.Loads.{held, AreaAt, StageFolds};
+ghost use Rattle.fold.specs.Stages.{OneAt, NextAt, Folds, PlanAt, InputAt, StepAt, stageFrom, AllFold};
 
 // The bits of the stage at `at`.
 fn fold_stage(

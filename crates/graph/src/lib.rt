@@ -1,4 +1,5 @@
 // Pins, literals and the gates of a lent graph. Every exported function takes any numbers and slices.
+pub use cells::wide;
 ghost use mathlib.Core.Path.{_≡_};
 ghost use lib.ListN.{getD};
 ghost use Rattle.rules.specs.Graph.{leaf, pinOf, inversionOf, nodeOf, graphOf, pinCount};
@@ -86,11 +87,4 @@ pub fn node_at(gates: &[u32], pin: Pin) -> Node
         return Node::Leaf;
     }
     node_of(gates[2 * p], gates[2 * p + 1])
-}
-
-// A number as an index.
-pub fn wide(x: u32) -> usize
-    ensures { λ r. ⌜ r ≡ x ⌝ }
-{
-    x as usize
 }

@@ -24,8 +24,8 @@ use Rattle.walk.specs.Stands.{Context, Reversed, Set, Fresh}
 use Rattle.prepare.specs.Ranking.{Beyond}
 use Rattle.prepare.specs.Prepared.{atPins, ForgetAt, Unlisted, Forgot}
 use Rattle.walk.proofs.Contexts.{order-is}
-use Rattle.walk.proofs.levels.Order.{level-out}
-use Rattle.walk.proofs.levels.Lifting.{reverse-out}
+use Rattle.levels.proofs.Laws.Order.{level-out}
+use Rattle.levels.proofs.Laws.Lifting.{reverse-out}
 
 -- what holds of the three columns holds of each
 each : (P : ℕ → Type 0) → P LISTED → P LEVEL → P REVERSE → (f : ℕ) → among atPins f ≡ true → P f

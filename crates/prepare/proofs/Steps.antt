@@ -12,11 +12,11 @@ use Rattle.columns.proofs.Lists.Marks.{marks-frame}
 use Rattle.columns.proofs.Lists.Clears.{clear-frame}
 use Rattle.walk.specs.Stands.{Context, Begun}
 use Rattle.walk.specs.Machine.{walked, TraverseAt, Traversed}
-use Rattle.walk.specs.Levels.{Along, Becomes, LevelsAt, Levels, ReverseAt}
+use Rattle.levels.specs.Levels.{Along, Becomes, LevelsAt, Levels, ReverseAt}
 use Rattle.prepare.specs.Ranking.{ListsAt, Lists}
 use Rattle.prepare.specs.Prepared.{PrepareAt, Prepared}
 use Rattle.walk.proofs.traversal.Loops.{begun-reads, begun-frame}
-use Rattle.walk.proofs.levels.Rising.{along-frame}
+use Rattle.levels.proofs.Laws.Rising.{along-frame}
 
 pub step-traverse : {C : Context} {m n : ℕ} {gates w : List ℕ} → PrepareAt C m n gates w → TraverseAt C m n gates w
 step-traverse A = record { begun = A .begun; clear = A .fresh .listed }

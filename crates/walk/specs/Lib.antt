@@ -1,4 +1,3 @@
 pub mod Stands
 pub mod Machine
-pub mod Levels
 pub mod Choice

@@ -1,5 +1,5 @@
-// Rules 1 to 4 over the work area: traversal, levels, reverse levels, the choice from a ranked list. Each walk finds its columns empty
-// and is linear in the traversal.
+// Rule 1's traversal over the work area, and rule 4's choice from a ranked list. A walk finds its columns empty and is linear in the
+// traversal.
 use columns::DONE;
 use columns::is_in;
 use graph::operand;
@@ -10,7 +10,6 @@ ghost use Rattle.rules.specs.Graph.{below};
 ghost use Rattle.walk.specs.Stands.{Some, Every, Reads};
 
 pub mod choice;
-pub mod levels;
 pub mod traversal;
 
 // The k-th pin that is followed from pin p, counted from 0; m if there is none.
