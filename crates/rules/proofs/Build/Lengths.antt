@@ -5,14 +5,14 @@ use mathlib.Core.Bool.{Bool, _&&_}
 use mathlib.Core.List.{List, [], _∷_, _++_}
 use native.Mathlib.Nat.{suc-mul}
 use native.Mathlib.Omega.{arith}
-use lib.Dec.{ltb, leb}
+use lib.Dec.{leb}
 use lib.ListN.{length, take, drop, replicate, length-append, length-replicate, length-drop, length-map}
 use Rattle.rules.specs.Lists.{padded, laidOver, upTo}
-use Rattle.rules.specs.Cells.{empty, wordLimit, rooms, row, firstEmpty, stageSize}
+use Rattle.rules.specs.Cells.{empty, wordLimit, rooms, stageSize}
 use Rattle.rules.specs.Graph.{Node}
 use Rattle.rules.specs.Traversal.{Setting, setting}
 use Rattle.rules.specs.Placing.{filledPlan}
-use Rattle.rules.specs.Ending.{stage, finish, ending, close, written, rest, moreWords, lastStage, oneStage}
+use Rattle.rules.specs.Ending.{stage, finish, ending, close, written, moreWords, lastStage, oneStage}
 use Rattle.rules.specs.Build.{Stage, refusal, whole, stages, cellsOf, wordsOf, countsOf, Areas, areasAfter}
 use Rattle.rules.specs.Fold.{bitAt, asNumber, stageBits, foldFrom, loadFrom}
 use Rattle.rules.proofs.Lists.Members.{split, and-true}
@@ -21,8 +21,7 @@ use Rattle.rules.proofs.Needed.Needs.{Graph, Sound, setting-sound}
 use Rattle.rules.proofs.Needed.Lacks.{leb-true}
 use Rattle.rules.proofs.Tree.Loads.{ltb-false}
 use Rattle.rules.proofs.Tree.Invariant.{final}
-use Rattle.rules.proofs.Stage.Puts.{cell}
-use Rattle.rules.proofs.Stage.Staged.{rest-cases, never, the-end}
+use Rattle.rules.proofs.Stage.Staged.{the-end, not-refused}
 use Rattle.rules.proofs.Stage.Depth.{Ready, still-ready, stage-cases}
 use Rattle.rules.proofs.Written.Writes.{more-whole}
 
@@ -39,14 +38,7 @@ ending-fits X room pl pl2 plan2 words realised waiting h e = split (lastStage X 
 
 -- a stage writes no more words than it may
 pub words-fit : (X : Setting) (room : ℕ) (pl plan2 words realised waiting : List ℕ) → finish X room pl ≡ stage plan2 words realised waiting → length words ≤ room
-unfolding finish
-words-fit X room pl plan2 words realised waiting e = split (ltb room (length (written X pl .words)))
-    (λ b. never (rw (b, finish) at e))
-    (λ b. rest-cases (rest X pl)
-    (λ r. never (rw (b, r, finish) at e))
-    (λ pl2 r. cell (firstEmpty 0 (row (X .K) 1 pl2))
-    (λ c. never (rw (b, r, c, finish) at e))
-    (λ k c. ending-fits X room pl pl2 plan2 words realised waiting (ltb-false room (length (written X pl .words)) b) (rw (b, r, c, finish) at e))))
+words-fit X room pl plan2 words realised waiting e = not-refused X room pl e (λ pl2 b r f d. ending-fits X room pl pl2 plan2 words realised waiting (ltb-false room (length (written X pl .words)) b) d)
 
 module _ (K : ℕ) (g : List Node) (r : ℕ → ℕ) (G : Graph g r) (tall : 6 ≤ K) (small : length g ≤ empty) where
   low : 1 ≤ K

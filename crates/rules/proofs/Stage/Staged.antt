@@ -2,7 +2,7 @@
 use Prim.Native.Nat.{ℕ, zero, suc, pred, _+_, _-_, _*_, _^_, _≤_, _<_, min, zero-le}
 use mathlib.Core.Path.{_≡_, refl, _∙_}
 use mathlib.Core.Logic.{inl, inr}
-use mathlib.Core.Bool.{true, not, _&&_}
+use mathlib.Core.Bool.{true, not, _&&_, false}
 use mathlib.Core.List.{List, [], _∷_, _++_, map}
 use native.Mathlib.Omega.{arith}
 use native.Mathlib.Numerals.{add-one}
@@ -47,15 +47,20 @@ ended X room pl pl2 plan2 words realised waiting r fr e = split (lastStage X pl 
     (λ b. let d : close X pl2 (written X pl .words) (written X pl .real) ≡ stage plan2 words realised waiting = rw (b, ending) at e in
     (cc, record { rested = r; realises = cc; real = written X pl .real; early = λ q i. i; free = fr; waits = cc }))
 
-pub finished : (X : Setting) (room : ℕ) (pl plan2 words realised waiting : List ℕ) → finish X room pl ≡ stage plan2 words realised waiting → Ended X pl plan2 realised waiting
+-- a stage that is not refused: the words of rule 8 fit, rule 9 leaves an empty cell at level 1
+pub not-refused : {P : Type 0} (X : Setting) (room : ℕ) (pl : List ℕ) {plan2 words realised waiting : List ℕ} → finish X room pl ≡ stage plan2 words realised waiting
+    → ((pl2 : List ℕ) → ltb room (length (written X pl .words)) ≡ false → rest X pl ≡ plan pl2 → (c : ℕ) × (firstEmpty 0 (row (X .K) 1 pl2) ≡ found c) → ending X room pl pl2 ≡ stage plan2 words realised waiting → P) → P
 unfolding finish
-finished X room pl plan2 words realised waiting e = split (ltb room (length (written X pl .words)))
+not-refused X room pl e go = split (ltb room (length (written X pl .words)))
     (λ b. never (rw (b, finish) at e))
     (λ b. rest-cases (rest X pl)
     (λ r. never (rw (b, r, finish) at e))
     (λ pl2 r. cell (firstEmpty 0 (row (X .K) 1 pl2))
     (λ c. never (rw (b, r, c, finish) at e))
-    (λ k c. let h = ended X room pl pl2 plan2 words realised waiting r (k, c) (rw (b, r, c, finish) at e) in rw (h .0) (h .1))))
+    (λ k c. go pl2 b r (k, c) (rw (b, r, c, finish) at e))))
+
+pub finished : (X : Setting) (room : ℕ) (pl plan2 words realised waiting : List ℕ) → finish X room pl ≡ stage plan2 words realised waiting → Ended X pl plan2 realised waiting
+finished X room pl plan2 words realised waiting e = not-refused X room pl e (λ pl2 b r f d. let h = ended X room pl pl2 plan2 words realised waiting r f d in rw (h .0) (h .1))
 
 pub small-filled : (x : ℕ) → x < empty → filled x ≡ true
 unfolding filled

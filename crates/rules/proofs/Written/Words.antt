@@ -20,7 +20,7 @@ use Rattle.rules.proofs.Tree.Held.{length-place1, place1-other}
 use Rattle.rules.proofs.Stage.Puts.{list, cell, Runs, none, more, Keeps, cell-keeps, cells-keep, lowest}
 use Rattle.rules.proofs.Stage.Last.{Once, nobody, one, swapped}
 use Rattle.rules.proofs.Tree.Loads.{ltb-true, ltb-false, rows}
-use Rattle.rules.proofs.Stage.Staged.{two-step, rest-cases, never}
+use Rattle.rules.proofs.Stage.Staged.{two-step, not-refused}
 
 -- lists without repeats grow by inserting
 once-behind : (p : ℕ) {xs : List ℕ} → Once xs → Out p xs → Once (xs ++ (p ∷ []))
@@ -249,11 +249,4 @@ ended-words X room pl pl2 plan2 words realised waiting2 r e = split (lastStage X
     (cc, record { rested = r; either = inr (cc, cc) }))
 
 pub finished-words : (X : Setting) (room : ℕ) (pl plan2 words realised waiting2 : List ℕ) → finish X room pl ≡ stage plan2 words realised waiting2 → Finished X pl plan2 words waiting2
-unfolding finish
-finished-words X room pl plan2 words realised waiting2 e = split (ltb room (length (written X pl .words)))
-    (λ b. never (rw (b, finish) at e))
-    (λ b. rest-cases (rest X pl)
-    (λ r. never (rw (b, r, finish) at e))
-    (λ pl2 r. cell (firstEmpty 0 (row (X .K) 1 pl2))
-    (λ c. never (rw (b, r, c, finish) at e))
-    (λ k c. let h = ended-words X room pl pl2 plan2 words realised waiting2 r (rw (b, r, c, finish) at e) in rw (h .0) (h .1))))
+finished-words X room pl plan2 words realised waiting2 e = not-refused X room pl e (λ pl2 b r f d. let h = ended-words X room pl pl2 plan2 words realised waiting2 r d in rw (h .0) (h .1))
