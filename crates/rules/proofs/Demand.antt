@@ -34,6 +34,8 @@ use Rattle.rules.proofs.Fold.Folds.{value-own}
 use Rattle.rules.proofs.Fold.Whole.{Folded, folded, level-zero, zero-kept}
 use Rattle.rules.proofs.Written.Words.{once-insertAll}
 use Rattle.rules.proofs.Written.Writes.{Written, all-written, more-whole}
+use Rattle.rules.proofs.Build.Bounds as bounds
+use Rattle.rules.proofs.Build.Bounds.{Few}
 
 -- the document's rule for gates
 pub record Valid (g : List Node) : Type 0 where
@@ -220,3 +222,7 @@ module _ (K : ℕ) (g : List Node) (ok : Valid g) (tall : 6 ≤ K) (small : leng
     -- and every endpoint pin but the constant stands in a written word
     pub whole-written : (rooms : ℕ) (ss : List Stage) → build K g given groups rooms ≡ whole ss → (q : ℕ) → 0 < q → Ends q groups → Written K q ss
     whole-written rooms ss e q b i = all-written K g r G tall small rooms 1 given waiting ready (wordLimit K - reserved groups) ss (whole-stages rooms ss e) q (ends-wait q b i [])
+
+    -- a build answers with at most N + 1 stages and W words
+    pub build-few : (rooms : ℕ) → Few K g (build K g given groups rooms)
+    build-few = bounds.build-few K g r G tall small given groups ready

@@ -16,8 +16,8 @@ use Rattle.start.specs.declared.Opening.the-variants.{Over, Ready}
 use Rattle.start.specs.declared.reservation.Reservation.{Reservation}
 use Rattle.start.specs.declared.reservation.Reservation.the-variants as reservation
 use Rattle.start.specs.Given.{GivenAt, Given}
-use Rattle.start.specs.Waiting.{WaitAllAt, AllWait}
-use Rattle.start.specs.Reservation.{ReserveAt, Reserved}
+use Rattle.start.specs.Waiting.{AllWait}
+use Rattle.start.specs.Reservation.{Touched, ReserveAt, Reserved}
 use Rattle.start.specs.Opening.{BeginAt, Idle, Opens, reservationFor, opened, First, Begins}
 
 -- ---- what is 0 throughout is idle
@@ -47,72 +47,66 @@ module _ {m : ℕ} {w : List ℕ} (area : Room m w) (zeros : (j : ℕ) → j < 1
 
 -- ---- over any groups
 
+module _ {m : ℕ} {given w : List ℕ} (A : Opens m given w) {e : ℕ} {w₁ : List ℕ} (T : Touched m e w w₁) where
+  pub given-at : GivenAt m given w₁
+  given-at = record { area = frame-room (T .frame) (A .idle .area); clear = clear-frame (A .idle .done) (T .frame) refl (omega arith); pins = A .given-named }
+
+  module _ {w₂ : List ℕ} (G : Given m given w₁ w₂) where
+    framed : Frame opened m w w₂
+    framed = frame-then (frame-more refl (T .frame)) (frame-more refl (G .frame))
+
+    pub opened-room : Room m w₂
+    opened-room = frame-room framed (A .idle .area)
+
+    pub opened-places : Clear PLACE m w₂
+    opened-places = clear-frame (clear-frame (A .idle .places) (T .frame) refl (omega arith)) (G .frame) refl (omega arith)
+
+    module _ {gs : List Group} {w₃ : List ℕ} {n : ℕ} (W : AllWait m gs w₂ w₃ n) where
+      pub opened-frame : Frame opened m w w₃
+      opened-frame = frame-then framed (frame-more refl (W .frame))
+
+      -- past the columns only the reservation changed anything
+      pub opened-past : (j : ℕ) → 16 * m ≤ j → getD w₃ j 0 ≡ getD w₁ j 0
+      opened-past j h = W .frame .past refl j h ∙ G .frame .past refl j h
+
+      pub first-stage : First m n given gs w₃
+      first-stage =
+          let F = opened-frame in
+          record {
+            area = frame-room F (A .idle .area);
+            done = marks-frame (G .marks) (W .frame) refl (omega arith);
+            waiting = W .now;
+            fresh = record {
+              listed = clear-frame (A .idle .fresh .listed) F refl (omega arith);
+              levels = clear-frame (A .idle .fresh .levels) F refl (omega arith);
+              reverse = clear-frame (A .idle .fresh .reverse) F refl (omega arith);
+              starts = clear-frame (A .idle .fresh .starts) F refl (omega arith);
+              ends = clear-frame (A .idle .fresh .ends) F refl (omega arith);
+              spare = clear-frame (A .idle .fresh .spare) F refl (omega arith);
+            };
+            cells = clear-frame (A .idle .cells) F refl (omega arith);
+            marks = clear-frame (A .idle .marks) F refl (omega arith);
+            zeros = λ j h. opened-past (16 * m + j) (omega arith) ∙ T .low j h ∙ A .idle .zeros j h;
+          }
+
 module _ {m : ℕ} {given w : List ℕ} (A : Opens m given w) {limit e : ℕ} {gs : List Group} {r : Reservation} {w₁ : List ℕ} (R : Reserved m limit e gs w w₁ r) {far : ℕ} (within : 16 * m + RECORDS + 2 * e ≤ far) where
-  framed : Frame opened m w w₁
-  framed = frame-more refl (R .touched .frame)
-
-  beyond : (j : ℕ) → far ≤ j → getD w₁ j 0 ≡ getD w j 0
-  beyond j h = R .touched .past j (omega arith)
-
   pub begins-over : r ≡ reservation.Over → Begins m limit far given gs w Over w₁
   unfolding reservationFor
   begins-over d = record {
-    frame = framed;
-    past = beyond;
+    frame = frame-more refl (R .touched .frame);
+    past = λ j h. R .touched .past j (omega arith);
     answer = λ K l. sym d ∙ R .answer K l;
     first = λ words n b. absurd (let z : _≡_ {A = ℕ} 0 1 = cc in omega arith);
   }
 
-  pub given-at : GivenAt m given w₁
-  given-at = record { area = frame-room (R .touched .frame) (A .idle .area); clear = clear-frame (A .idle .done) (R .touched .frame) refl (omega arith); pins = A .given-named }
-
-  module _ {w₂ : List ℕ} (G : Given m given w₁ w₂) where
-    framed-2 : Frame opened m w w₂
-    framed-2 = frame-then framed (frame-more refl (G .frame))
-
-    pub opened-room : Room m w₂
-    opened-room = frame-room framed-2 (A .idle .area)
-
-    pub opened-places : Clear PLACE m w₂
-    opened-places = clear-frame (clear-frame (A .idle .places) (R .touched .frame) refl (omega arith)) (G .frame) refl (omega arith)
-
-    -- past the columns only the reservation changed anything
-    pub opened-past : (j : ℕ) → far ≤ j → getD w₂ j 0 ≡ getD w j 0
-    opened-past j h = G .frame .past refl j (omega arith) ∙ beyond j h
-
-    module _ {w₃ : List ℕ} {n : ℕ} (W : AllWait m gs w₂ w₃ n) where
-      framed-3 : Frame opened m w w₃
-      framed-3 = frame-then framed-2 (frame-more refl (W .frame))
-
-      past-3 : (j : ℕ) → 16 * m ≤ j → getD w₃ j 0 ≡ getD w₁ j 0
-      past-3 j h = W .frame .past refl j h ∙ G .frame .past refl j h
-
-      pub first-stage : First m n given gs w₃
-      first-stage = record {
-        area = frame-room framed-3 (A .idle .area);
-        done = marks-frame (G .marks) (W .frame) refl (omega arith);
-        waiting = W .now;
-        fresh = record {
-          listed = clear-frame (A .idle .fresh .listed) framed-3 refl (omega arith);
-          levels = clear-frame (A .idle .fresh .levels) framed-3 refl (omega arith);
-          reverse = clear-frame (A .idle .fresh .reverse) framed-3 refl (omega arith);
-          starts = clear-frame (A .idle .fresh .starts) framed-3 refl (omega arith);
-          ends = clear-frame (A .idle .fresh .ends) framed-3 refl (omega arith);
-          spare = clear-frame (A .idle .fresh .spare) framed-3 refl (omega arith);
-        };
-        cells = clear-frame (A .idle .cells) framed-3 refl (omega arith);
-        marks = clear-frame (A .idle .marks) framed-3 refl (omega arith);
-        zeros = λ j h. past-3 (16 * m + j) (omega arith) ∙ R .touched .low j h ∙ A .idle .zeros j h;
-      }
-
-      pub begins-ready : (words : ℕ) → r ≡ reservation.Words words → Begins m limit far given gs w (Ready words n) w₃
-      unfolding reservationFor
-      begins-ready words d = record {
-        frame = framed-3;
-        past = λ j h. past-3 j (omega arith) ∙ beyond j h;
-        answer = λ K l. sym d ∙ R .answer K l;
-        first = λ v k b. let z : k ≡ n = cc in rw z first-stage;
-      }
+  pub begins-ready : {w₂ w₃ : List ℕ} {n : ℕ} → Given m given w₁ w₂ → AllWait m gs w₂ w₃ n → (words : ℕ) → r ≡ reservation.Words words → Begins m limit far given gs w (Ready words n) w₃
+  unfolding reservationFor
+  begins-ready {w₂} {w₃} {n} G W words d = record {
+    frame = opened-frame A (R .touched) G W;
+    past = λ j h. opened-past A (R .touched) G W j (omega arith) ∙ R .touched .past j (omega arith);
+    answer = λ K l. sym d ∙ R .answer K l;
+    first = λ v k b. let z : k ≡ n = cc in rw z (first-stage A (R .touched) G W);
+  }
 
 -- ---- over all records
 

@@ -14,10 +14,10 @@ enum-known-set-aside : tie.Need-enum-known-set-aside
 enum-known-set-aside c = search needs
 
 mark-given-requires : tie.Need-mark-given-requires
-mark-given-requires c κs = let A = c .before .before .before .before .before .before .before .before .before .before .before .pre in given-at (begin-opens A) (c .before .before .before .before .before .before .reserve .ensures) (begin-within A)
+mark-given-requires c κs = let A = c .before .before .before .before .before .before .before .before .before .before .before .pre in given-at (begin-opens A) (c .before .before .before .before .before .before .reserve .ensures .touched)
 
 wait-all-requires : tie.Need-wait-all-requires
-wait-all-requires c κs = let A = c .before .before .before .before .before .before .before .before .before .before .before .before .before .before .before .pre in let R = c .before .before .before .before .before .before .before .before .before .before .reserve .ensures in let G = c .before .before .before .mark-given .ensures in record { area = opened-room (begin-opens A) R (begin-within A) G; right = A .right; clear = opened-places (begin-opens A) R (begin-within A) G }
+wait-all-requires c κs = let A = c .before .before .before .before .before .before .before .before .before .before .before .before .before .before .before .pre in let T = c .before .before .before .before .before .before .before .before .before .before .reserve .ensures .touched in let G = c .before .before .before .mark-given .ensures in record { area = opened-room (begin-opens A) T G; right = A .right; clear = opened-places (begin-opens A) T G }
 
 same-length : tie.Need-same-length
 same-length c = search needs

@@ -13,13 +13,17 @@ use Rattle.records.proofs.Reading.{Stands, standing}
 use Rattle.checks.proofs.Laws.Passed.{Next, read-next, read-last}
 use Rattle.unions.specs.Table.{Located, LocateAt, Locates}
 
--- what changed nothing from the table on keeps it
-pub located-kept : {table : ℕ} {gs : List Group} {records w w′ : List ℕ} → Located table gs records w → length w′ ≡ length w → ((j : ℕ) → table ≤ j → getD w′ j 0 ≡ getD w j 0) → Located table gs records w′
-located-kept {table} T l e = record {
+-- what changed none of its numbers keeps it
+pub located-same : {table : ℕ} {gs : List Group} {records w w′ : List ℕ} → Located table gs records w → length w′ ≡ length w → ((i : ℕ) → i < length gs → getD w′ (table + i) 0 ≡ getD w (table + i) 0) → Located table gs records w′
+located-same T l e = record {
   room = omega (arith, T .room);
-  whole = λ i h. rw (e (table + i) (omega arith)) (T .whole i h);
-  group = λ i h. rw (e (table + i) (omega arith)) (T .group i h);
+  whole = λ i h. rw (e i h) (T .whole i h);
+  group = λ i h. rw (e i h) (T .group i h);
 }
+
+-- so does what changed nothing from the table on
+pub located-kept : {table : ℕ} {gs : List Group} {records w w′ : List ℕ} → Located table gs records w → length w′ ≡ length w → ((j : ℕ) → table ≤ j → getD w′ j 0 ≡ getD w j 0) → Located table gs records w′
+located-kept {table} T l e = located-same T l (λ i h. e (table + i) (omega arith))
 
 -- the n records before an index are in the table
 pub record Locating (table at n : ℕ) (records w w′ : List ℕ) : Type 0 where

@@ -1,6 +1,6 @@
 -- `unions::table::locate` meets its contract: the records before an index are in the table. Assumes nothing.
 use mathlib.Core.Path.{refl}
-use Rattle.unions.proofs.Laws.Table.{Locating, locating-none, locating-stands, locating-room, locating-more, locating-done}
+use Rattle.unions.proofs.Laws.Table.{Locating, locating-none, locating-stands, locating-more, locating-done}
 use lib.ListN.{length}
 use native.Mathlib.Omega.{arith}
 use Prim.Native.Nat.{_-_}
