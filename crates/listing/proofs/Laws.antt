@@ -2,3 +2,4 @@ pub mod Laid
 pub mod Decimal
 pub mod Lines
 pub mod Answered
+pub mod Built
