@@ -11,7 +11,7 @@ use borrow.Author.Tests.{ltb-true, ltb-false, leb-true, leb-false, lt-ltb, le-lt
 use Rattle.rules.specs.Lists.{laidOver}
 use Rattle.rules.proofs.Lists.Members.{split}
 use Rattle.listing.specs.Laid.{step, along, over, Laid}
-use Rattle.listing.specs.Listing.{outcome, written}
+use Rattle.listing.specs.Listing.{Outcome, outcome, written}
 
 pub step-in : (limit at : ℕ) → at < limit → step limit at ≡ suc at
 unfolding step
@@ -113,3 +113,10 @@ module _ (text o : List ℕ) {o1 o2 : List ℕ} {limit r : ℕ} (l : limit ≡ l
       let e : r ≡ length text = omega (arith, m .cursor, along-in limit 0 text (omega arith)) in
       let f : o3 ≡ text ++ drop (length text) o = b .area ∙ over-in limit 0 text o (omega arith) ∙ (let z : 0 + length text ≡ length text = omega arith in rw z at (sets-eq text o 0 (omega arith))) in
       rw (le-leb (length text) (length o) k, e, f, written)
+
+-- the length that is answered is within the area
+pub written-within : (text o : List ℕ) (number size : ℕ) (o′ : List ℕ) → outcome number size o′ ≡ written text o → size ≤ length o
+unfolding outcome written
+written-within text o number size o′ e = split (leb (length text) (length o))
+    (λ t. let d : size ≡ length text = ap (λ (x : Outcome). x .length) (rw (t, written) at e) in omega (arith, leb-true (length text) (length o) t))
+    (λ f. let d : size ≡ 0 = ap (λ (x : Outcome). x .length) (rw (f, written) at e) in omega arith)
