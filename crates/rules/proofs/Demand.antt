@@ -176,7 +176,7 @@ module _ (K : ℕ) (g : List Node) (ok : Valid g) (tall : 6 ≤ K) (small : leng
     abbrev pub waiting : List ℕ
     waiting = waitingOf groups []
 
-    ready : Ready g r waiting
+    pub ready : Ready g r waiting
     ready = record {
       once = waitingOf-once groups nobody;
       bounded = λ x i. let h : x < length g = elim (wait-ends x groups [] i) [ inl a ↦ in-nil x a | inr a ↦ named x a ] in (h, h);

@@ -14,3 +14,4 @@ pub mod Demand
 pub mod Build
 pub mod Reservation
 pub mod Merge
+pub mod Job

@@ -1,0 +1,42 @@
+-- `listing::lay` meets its contract: measured first, then laid. Assumes nothing.
+use mathlib.Core.Path.{refl, sym}
+use native.Mathlib.Omega.{arith}
+use Rattle.rules.specs.Listing.{listing}
+use Rattle.listing.specs.Listing.{stagesIn}
+use Rattle.listing.proofs.Laws.Laid.{written-not, written-all}
+use borrow.Author.Needs.{needs}
+use Rattle.listing.proofs.lay.Statement.{statement}
+use Rattle.listing.proofs.lay.Tie as tie
+
+add-limit : tie.Need-add-limit
+add-limit c = search needs
+
+slice-aggregate-whole : tie.Need-slice-aggregate-whole
+slice-aggregate-whole c = search needs
+
+whole-requires : tie.Need-whole-requires
+whole-requires c κs = search needs
+
+returns : tie.Need-returns
+returns c = let a = c .before .before .before .before .before .before .before .before .args in sym (written-not (listing (a .height) (stagesIn (a .size) (a .n) (a .plan .now) (a .words .now) (a .counts .now))) (a .out .now) refl (c .before .before .whole .ensures) (omega (arith, c .if1 .taken)))
+
+whole-requires-2 : tie.Need-whole-requires-2
+whole-requires-2 c κs = search needs
+
+same-length : tie.Need-same-length
+same-length c = search needs
+
+returns-2 : tie.Need-returns-2
+returns-2 c = let a = c .before .before .before .before .before .before .before .before .before .before .before .before .args in written-all (listing (a .height) (stagesIn (a .size) (a .n) (a .plan .now) (a .words .now) (a .counts .now))) (a .out .now) refl (c .before .before .before .before .before .before .whole .ensures) (omega (arith, c .before .before .before .before .if1 .left)) (c .before .before .whole2 .ensures)
+
+pub lay-spec : {M : Type 1} → statement M
+lay-spec =
+    tie.close
+    (tie.spec
+    add-limit
+    slice-aggregate-whole
+    whole-requires
+    returns
+    whole-requires-2
+    same-length
+    returns-2)

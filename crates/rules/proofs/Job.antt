@@ -1,0 +1,5 @@
+pub mod Bits
+pub mod Fields
+pub mod Pins
+pub mod Records
+pub mod Files
