@@ -1,0 +1,71 @@
+//! Both builds on the same large inputs, in turns, and the ratio of their medians.
+use crate::case::Case;
+use crate::check;
+use crate::compare::compare;
+use crate::placer::{self, Areas};
+use crate::published;
+use crate::random::{self, Random};
+use std::time::Instant;
+
+const HEIGHT: u32 = 13;
+
+/// The last `count` pins that no gate uses are outputs.
+fn outputs(gates: Vec<u32>, count: usize) -> Case {
+    let pins = random::tops(&gates);
+    let records = pins[pins.len().saturating_sub(count)..].iter().flat_map(|&pin| [1, 2 * pin as u32]).collect();
+    Case { height: HEIGHT, gates, given: Vec::new(), records, rooms: 0, beyond: [0; 4], old: 1 }
+}
+
+fn inputs() -> Vec<(&'static str, Case)> {
+    let r = &mut Random::new(2024);
+    vec![
+        ("20,000 gates, near operands", outputs(random::scattered(r, 2000, 20_000, 1000, 0), 300)),
+        ("20,000 gates, far operands", outputs(random::scattered(r, 2000, 20_000, 1000, 20), 300)),
+        ("60,000 gates, near operands", outputs(random::scattered(r, 3000, 60_000, 3000, 0), 300)),
+        ("60,000 gates, far operands", outputs(random::scattered(r, 3000, 60_000, 3000, 20), 300)),
+        ("a chain of 5,000 gates", outputs(random::chain(r, 64, 5000), 1)),
+        ("40 adders of 64 bits", outputs(random::adders(64, 40), 2000)),
+    ]
+}
+
+fn median(mut seconds: Vec<f64>) -> f64 {
+    seconds.sort_by(|a, b| a.partial_cmp(b).unwrap());
+    seconds[seconds.len() / 2]
+}
+
+fn measure(case: &Case, stages: usize, turns: usize) -> (f64, f64) {
+    let graph = published::graph(case);
+    let mut areas = case.sizes(stages).map(|size| vec![1u32; size]);
+    let (mut theirs, mut ours) = (Vec::new(), Vec::new());
+    for _ in 0..turns {
+        theirs.push(published::timed(case.height, &graph));
+        let [plan, words, counts, work] = &mut areas;
+        let lent = Areas { plan, words, counts, work };
+        let start = Instant::now();
+        placer::build(case.height, &case.gates, &case.given, &case.records, lent);
+        ours.push(start.elapsed().as_secs_f64());
+    }
+    (median(theirs), median(ours))
+}
+
+/// Whether both sides agree on every input.
+pub fn bench(turns: usize) -> bool {
+    println!("height {HEIGHT}, medians of {turns} turns, both sides in turn");
+    println!("cleared first: no area is cleared for the library, which clears what it is lent within its time; the Rust takes new memory within its own");
+    for (name, case) in inputs() {
+        assert_eq!(check::input(&case), 0);
+        match compare(&case) {
+            Err((what, _)) => {
+                println!("{name}: a difference: {what}");
+                return false;
+            }
+            Ok(agreed) => {
+                let stages = agreed.stages;
+                let (theirs, ours) = measure(&case, stages, turns);
+                println!("{name}: answer {}, {} gates, {stages} stages: Rust {theirs:.3} s, library {ours:.3} s, ratio {:.1}",
+                         agreed.number, case.gate_count(), theirs / ours);
+            }
+        }
+    }
+    true
+}
