@@ -2,6 +2,7 @@
 use crate::case::Case;
 use crate::check;
 use crate::compare::compare;
+use crate::merge;
 use crate::placer::{self, Areas};
 use crate::published;
 use crate::random::{self, Random};
@@ -9,9 +10,9 @@ use std::time::Instant;
 
 const HEIGHT: u32 = 13;
 
-/// The last `count` pins that no gate uses are outputs.
-fn outputs(gates: Vec<u32>, count: usize) -> Case {
-    let pins = random::tops(&gates);
+/// The last `count` of the pins up to `last` that no gate uses are outputs. The Rust's time grows with the square of what they reach.
+fn outputs(gates: Vec<u32>, last: usize, count: usize) -> Case {
+    let pins: Vec<usize> = random::tops(&gates).into_iter().filter(|&pin| pin <= last).collect();
     let records = pins[pins.len().saturating_sub(count)..].iter().flat_map(|&pin| [1, 2 * pin as u32]).collect();
     Case { height: HEIGHT, gates, given: Vec::new(), records, rooms: 0, beyond: [0; 4], old: 1 }
 }
@@ -19,12 +20,12 @@ fn outputs(gates: Vec<u32>, count: usize) -> Case {
 fn inputs() -> Vec<(&'static str, Case)> {
     let r = &mut Random::new(2024);
     vec![
-        ("20,000 gates, near operands", outputs(random::scattered(r, 2000, 20_000, 1000, 0), 300)),
-        ("20,000 gates, far operands", outputs(random::scattered(r, 2000, 20_000, 1000, 20), 300)),
-        ("60,000 gates, near operands", outputs(random::scattered(r, 3000, 60_000, 3000, 0), 300)),
-        ("60,000 gates, far operands", outputs(random::scattered(r, 3000, 60_000, 3000, 20), 300)),
-        ("a chain of 5,000 gates", outputs(random::chain(r, 64, 5000), 1)),
-        ("40 adders of 64 bits", outputs(random::adders(64, 40), 2000)),
+        ("20,000 gates, near operands", outputs(random::scattered(r, 2000, 20_000, 1000, 0), 10_000, 50)),
+        ("20,000 gates, far operands", outputs(random::scattered(r, 2000, 20_000, 1000, 20), 10_000, 50)),
+        ("60,000 gates, near operands", outputs(random::scattered(r, 3000, 60_000, 3000, 0), 24_000, 50)),
+        ("60,000 gates, far operands", outputs(random::scattered(r, 3000, 60_000, 3000, 20), 24_000, 50)),
+        ("a chain of 3,000 gates", outputs(random::chain(r, 64, 3000), usize::MAX, 1)),
+        ("20 adders of 64 bits", outputs(random::adders(64, 20), usize::MAX, 1300)),
     ]
 }
 
@@ -48,6 +49,11 @@ fn measure(case: &Case, stages: usize, turns: usize) -> (f64, f64) {
     (median(theirs), median(ours))
 }
 
+fn reach(case: &Case) -> usize {
+    let records = case.split();
+    merge::reach(case, &records, &(0..records.len()).collect::<Vec<_>>())
+}
+
 /// Whether both sides agree on every input.
 pub fn bench(turns: usize) -> bool {
     println!("height {HEIGHT}, medians of {turns} turns, both sides in turn");
@@ -62,8 +68,8 @@ pub fn bench(turns: usize) -> bool {
             Ok(agreed) => {
                 let stages = agreed.stages;
                 let (theirs, ours) = measure(&case, stages, turns);
-                println!("{name}: answer {}, {} gates, {stages} stages: Rust {theirs:.3} s, library {ours:.3} s, ratio {:.1}",
-                         agreed.number, case.gate_count(), theirs / ours);
+                println!("{name}, {} pins reached: answer {}, {stages} stages: Rust {theirs:.3} s, library {ours:.3} s, ratio {:.1}",
+                         reach(&case), agreed.number, theirs / ours);
             }
         }
     }

@@ -3,16 +3,18 @@ mod bench;
 mod case;
 mod check;
 mod compare;
+mod merge;
 #[path = "../../ffi/rust/placer.rs"]
 mod placer;
 mod published;
 mod random;
+mod record;
 mod run;
 mod shrink;
 
 include!(concat!(env!("OUT_DIR"), "/published.rs"));
 
-const USAGE: &str = "usage: oracle run SECONDS CASES SEED LOW HIGH | oracle bench TURNS";
+const USAGE: &str = "usage: oracle run SECONDS CASES SEED LOW HIGH | oracle bench TURNS | oracle record VECTORS RECORDED";
 
 /// The published traversal calls itself as deep as the graph is.
 const STACK: usize = 512 << 20;
@@ -32,6 +34,7 @@ fn work(words: &[String]) -> bool {
             run::run(number(seconds), number(cases), number(seed), height(low), height(high))
         }
         ["bench", turns] => bench::bench(number(turns).max(1) as usize),
+        ["record", vectors, recorded] => record::record(vectors, recorded),
         _ => {
             eprintln!("{USAGE}");
             std::process::exit(2)
