@@ -68,6 +68,7 @@ fn steps(case: &Case) -> Vec<Case> {
     for span in spans(case.given.len()) {
         step(&|c| c.given = without(&case.given, span));
     }
+    step(&|c| c.gates.truncate(c.gates.len() / 2 * 2));
     step(&|c| *c = renumbered(c));
     for (from, to) in spans(case.gates.len() / 2) {
         step(&|c| c.gates[2 * from..2 * to].fill(EMPTY));
