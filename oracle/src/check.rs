@@ -1,0 +1,67 @@
+//! The scope document's refusals 1 to 5, read off its table.
+use crate::case::{record_size, Case, Sizes, EMPTY, GREATEST, LEAST};
+
+const MOST_PINS: usize = 65_535;
+const MOST_NUMBERS: usize = 65_536;
+
+fn sizes_fit(case: &Case, lent: Sizes) -> bool {
+    let [plan, words, counts, work] = lent;
+    plan % case.stage_size() == 0
+        && words >= case.word_limit()
+        && counts >= plan / case.stage_size()
+        && work >= case.work_size()
+}
+
+fn graph_fits(gates: &[u32]) -> bool {
+    let below = |literal: u32, pin: usize| literal / 2 > 0 && (literal as usize / 2) < pin;
+    if gates.is_empty() || gates.len() % 2 != 0 || gates.len() / 2 - 1 > MOST_PINS {
+        return false;
+    }
+    gates.chunks(2).enumerate().all(|(pin, gate)| {
+        (gate[0] == EMPTY && gate[1] == EMPTY) || (below(gate[0], pin) && below(gate[1], pin))
+    })
+}
+
+fn records_fit(records: &[u32], pins: usize) -> bool {
+    if records.len() > MOST_NUMBERS {
+        return false;
+    }
+    let mut at = 0;
+    while at < records.len() {
+        let kind = records[at];
+        let size = match record_size(kind) {
+            Some(size) if at + size <= records.len() => size,
+            _ => return false,
+        };
+        let pin = |number: u32| if kind == 4 { number } else { number / 2 };
+        if records[at + 1..at + size].iter().any(|&number| pin(number) as usize > pins) {
+            return false;
+        }
+        at += size;
+    }
+    true
+}
+
+/// The first of 1, 3, 4 and 5 that applies, whatever is lent; 0 if none does.
+pub fn input(case: &Case) -> u32 {
+    if !(LEAST..=GREATEST).contains(&case.height) {
+        1
+    } else if !graph_fits(&case.gates) {
+        3
+    } else if !records_fit(&case.records, case.pins()) {
+        4
+    } else if case.given.iter().any(|&pin| pin as usize > case.pins()) {
+        5
+    } else {
+        0
+    }
+}
+
+/// The first of 1 to 5 that applies; 0 if none does.
+pub fn number(case: &Case, lent: Sizes) -> u32 {
+    match input(case) {
+        1 => 1,
+        _ if !sizes_fit(case, lent) => 2,
+        number => number,
+    }
+}

@@ -1,0 +1,189 @@
+//! Recorded answers of the Rust: builds as numbers of 16 bits for crates/vectors, merges in the text of PROTOCOL.md.
+use crate::case::{Case, EMPTY};
+use crate::check;
+use crate::merge::{self, Answer, Merge};
+use crate::published::{self, Outcome, Stage};
+use crate::random::{self, Random};
+use std::collections::HashMap;
+use std::{fs, io, path::Path};
+
+const SEED: u64 = 2026;
+
+/// What crates/vectors has room for.
+const MOST_PINS: usize = 1023;
+const MOST_RECORDS: usize = 1024;
+const MOST_GIVEN: usize = 256;
+const MOST_ROOMS: usize = 32;
+const MOST_BODY: usize = 6000;
+
+const BUILDS: usize = 400;
+/// At most so many builds that are alike: of one height, number and marks.
+const ALIKE: usize = 6;
+const MOST_BYTES: usize = 800_000;
+
+/// Marks of a build, by bit.
+const TAKEN_BACK: u16 = 1;
+const TWICE: u16 = 2;
+const SEVERAL: u16 = 4;
+const GIVEN: u16 = 8;
+const KIND: u16 = 16; // times 1, 2, 4, 8 for the record kinds 1 to 4
+
+struct Build {
+    height: u32,
+    number: u32,
+    marks: u16,
+    numbers: Vec<u16>,
+}
+
+fn twice(stage: &Stage) -> bool {
+    (1..stage.words.len()).any(|i| stage.words[..i].contains(&stage.words[i]))
+}
+
+/// The cells in order: their position counted from the plan's start, and the pin.
+fn cells(case: &Case, stages: &[Stage]) -> Vec<u16> {
+    let mut out = Vec::new();
+    for (s, stage) in stages.iter().enumerate() {
+        for row in stage.rows.iter().rev() {
+            for (cell, &pin) in row.iter().enumerate().filter(|(_, &pin)| pin != usize::MAX) {
+                out.extend([(s * case.stage_size() + row.len() + cell) as u16, pin as u16]);
+            }
+        }
+    }
+    out
+}
+
+/// A build in the form that crates/vectors reads; None if it is damaged or too large.
+fn build(case: &Case) -> Option<Build> {
+    let fits = case.pins() <= MOST_PINS && case.records.len() <= MOST_RECORDS && case.given.len() <= MOST_GIVEN;
+    if !fits || check::input(case) != 0 {
+        return None;
+    }
+    let (outcome, seen) = published::build(case.height, &published::graph(case));
+    let (number, stage, stages) = match outcome {
+        Outcome::Panicked => panic!("the Rust panics"),
+        Outcome::Refused { number, stage } => (number, stage, Vec::new()),
+        Outcome::Whole(stages) => (0, 0, stages),
+    };
+    // Too few rooms where the case says so: 9 in the stage behind the last.
+    let taken = stages.len().max(stage);
+    let rooms = (taken as i64 + case.rooms).max(0) as usize;
+    let (number, stage, stages) = if taken > rooms { (9, rooms + 1, Vec::new()) } else { (number, stage, stages) };
+    if rooms > MOST_ROOMS {
+        return None;
+    }
+    let mut marks = 0;
+    marks |= TAKEN_BACK * (seen.reversed > 0) as u16;
+    marks |= TWICE * stages.iter().any(twice) as u16;
+    marks |= SEVERAL * (stages.len() > 1) as u16;
+    marks |= GIVEN * !case.given.is_empty() as u16;
+    for record in case.split() {
+        marks |= KIND << (record[0] - 1);
+    }
+    let words: Vec<u16> = stages.iter().flat_map(|stage| stage.words.iter().map(|&word| word as u16)).collect();
+    let counts: Vec<u16> = stages.iter().map(|stage| stage.words.len() as u16).collect();
+    let cells = cells(case, &stages);
+    let short = |numbers: &[u32]| numbers.iter().map(|&n| if n == EMPTY { 0 } else { n as u16 }).collect::<Vec<_>>();
+    let body = [&short(&case.gates)[..], &short(&case.given), &short(&case.records), &words, &counts, &cells].concat();
+    if body.len() > MOST_BODY {
+        return None;
+    }
+    let head = [body.len(), case.height as usize, case.gates.len(), case.given.len(), case.records.len(),
+                rooms * case.stage_size(), case.word_limit(), rooms, case.work_size(),
+                number as usize, counts.len(), words.len(), stage, cells.len() / 2, marks as usize];
+    let numbers = head.iter().map(|&n| u16::try_from(n).unwrap()).chain(body).collect();
+    Some(Build { height: case.height, number, marks, numbers })
+}
+
+/// What crates/vectors prints if all agree.
+fn tally(kept: &[Build]) -> String {
+    let names = ["pins taken back", "a word twice in a stage", "several stages", "given pins",
+                 "with outputs", "with flip-flops", "with memories", "with staged pins"];
+    let count = |has: &dyn Fn(&Build) -> bool| kept.iter().filter(|build| has(build)).count();
+    let mut out = format!("whole {}\n", count(&|build| build.number == 0));
+    for number in 6..=9 {
+        out += &format!("refused with {number}: {}\n", count(&|build| build.number == number));
+    }
+    for (bit, name) in names.iter().enumerate() {
+        out += &format!("{name} {}\n", count(&|build| build.marks >> bit & 1 == 1));
+    }
+    for height in 6..=9 {
+        out += &format!("height {height}: {}\n", count(&|build| build.height == height));
+    }
+    out + &format!("{} builds agree, 0 differ\n", kept.len())
+}
+
+/// The builds to `stdin` and what is to be printed to `stdout` in this folder.
+fn builds(folder: &Path) -> io::Result<()> {
+    let (mut alike, mut size, mut kept) = (HashMap::new(), 0, Vec::new());
+    for index in 0.. {
+        let height = 6 + (index % 4) as u32;
+        let found = match build(&random::case(SEED, index, height)) {
+            Some(found) if size + 2 * found.numbers.len() <= MOST_BYTES => found,
+            Some(_) => break,
+            None => continue,
+        };
+        let so_far = alike.entry((height, found.number, found.marks)).or_insert(0);
+        if *so_far < ALIKE {
+            *so_far += 1;
+            size += 2 * found.numbers.len();
+            kept.push(found);
+        }
+        if kept.len() == BUILDS {
+            break;
+        }
+    }
+    println!("{} builds, {size} bytes", kept.len());
+    let bytes: Vec<u8> = kept.iter().flat_map(|build| build.numbers.iter().flat_map(|n| n.to_le_bytes())).collect();
+    fs::write(folder.join("stdin"), bytes)?;
+    fs::write(folder.join("stdout"), tally(&kept))
+}
+
+const MERGES: usize = 120;
+const MERGE_GATES: usize = 150;
+const MERGE_RECORDS: usize = 60;
+/// At most so many that are refused, that examine no union, and that examine one or two.
+const DULL: [usize; 3] = [12, 8, 24];
+
+fn merges(folder: &Path) -> io::Result<()> {
+    let (mut asked, mut told, mut count, mut dull, mut trials, mut parts) = (String::new(), String::new(), 0, [0; 3], 0, 0);
+    for index in 0.. {
+        let case = random::case(SEED + 1, index, 6 + (index % 4) as u32);
+        let records = case.split().len();
+        if check::input(&case) != 0 || case.gate_count() > MERGE_GATES || records < 2 || records > MERGE_RECORDS {
+            continue;
+        }
+        let merge: Merge = merge::random(&mut Random::new(index), case);
+        let answer = merge::answer(&merge);
+        let kind = match &answer {
+            Answer::Refused { .. } => Some(0),
+            Answer::Whole { trials: 0, .. } => Some(1),
+            Answer::Whole { trials: 1 | 2, .. } => Some(2),
+            Answer::Whole { .. } => None,
+        };
+        if let Some(kind) = kind {
+            dull[kind] += 1;
+            if dull[kind] > DULL[kind] {
+                continue;
+            }
+        }
+        if let Answer::Whole { trials: n, .. } = answer {
+            trials += n;
+        }
+        parts += merge.parts.len();
+        count += 1;
+        asked += &merge.text(&format!("m{count}"));
+        told += &answer.text(&format!("m{count}"));
+        if count == MERGES {
+            break;
+        }
+    }
+    println!("{count} merges of {parts} partitions, {trials} unions examined");
+    fs::write(folder.join("merges.cases"), asked)?;
+    fs::write(folder.join("merges.answers"), told)
+}
+
+pub fn record(vectors: &str, recorded: &str) -> bool {
+    builds(Path::new(vectors)).expect(vectors);
+    merges(Path::new(recorded)).expect(recorded);
+    true
+}

@@ -1,0 +1,119 @@
+//! Makes a case smaller as long as it still fails.
+use crate::case::{Case, EMPTY, LEAST};
+use std::time::{Duration, Instant};
+
+/// Spans of a list to leave out: halves first, then ever smaller ones.
+fn spans(n: usize) -> Vec<(usize, usize)> {
+    let (mut out, mut size) = (Vec::new(), n);
+    while size > 0 {
+        out.extend((0..n).step_by(size).map(|from| (from, (from + size).min(n))));
+        size /= 2;
+    }
+    out
+}
+
+fn without<T: Clone>(items: &[T], (from, to): (usize, usize)) -> Vec<T> {
+    [&items[..from], &items[to..]].concat()
+}
+
+/// The case without the pins that nothing names.
+fn renumbered(case: &Case) -> Case {
+    let pins = case.gates.len() / 2;
+    let mut used = vec![false; pins];
+    let mut mark = |pin: u32| {
+        if let Some(u) = used.get_mut(pin as usize) {
+            *u = true
+        }
+    };
+    mark(0);
+    case.gates.iter().filter(|&&literal| literal != EMPTY).for_each(|&literal| mark(literal / 2));
+    case.given.iter().for_each(|&pin| mark(pin));
+    for record in case.split() {
+        record[1..].iter().for_each(|&number| mark(if record[0] == 4 { number } else { number / 2 }));
+    }
+    let mut kept = 0;
+    let number: Vec<u32> = used.iter().map(|&u| { kept += u as u32; kept.wrapping_sub(1) }).collect();
+    // A pin past the last stays as far past it.
+    let pin = |pin: u32| number.get(pin as usize).copied().unwrap_or_else(|| pin - (pins as u32 - kept));
+    let literal = |literal: u32| if literal == EMPTY { EMPTY } else { 2 * pin(literal / 2) + literal % 2 };
+    let mut out = case.clone();
+    out.gates = Vec::new();
+    for (p, gate) in case.gates.chunks(2).enumerate() {
+        if p >= pins || used[p] {
+            out.gates.extend(gate.iter().map(|&l| literal(l)));
+        }
+    }
+    out.given = case.given.iter().map(|&p| pin(p)).collect();
+    out.records = Vec::new();
+    for record in case.split() {
+        out.records.push(record[0]);
+        out.records.extend(record[1..].iter().map(|&n| if record[0] == 4 { pin(n) } else { literal(n) }));
+    }
+    out
+}
+
+fn steps(case: &Case) -> Vec<Case> {
+    let mut out = Vec::new();
+    let mut step = |change: &dyn Fn(&mut Case)| {
+        let mut next = case.clone();
+        change(&mut next);
+        if next != *case {
+            out.push(next);
+        }
+    };
+    let records = case.split();
+    for span in spans(records.len()) {
+        step(&|c| c.records = without(&records, span).concat());
+    }
+    for span in spans(case.given.len()) {
+        step(&|c| c.given = without(&case.given, span));
+    }
+    step(&|c| c.gates.truncate(c.gates.len() / 2 * 2));
+    step(&|c| *c = renumbered(c));
+    for (from, to) in spans(case.gates.len() / 2) {
+        step(&|c| c.gates[2 * from..2 * to].fill(EMPTY));
+    }
+    step(&|c| c.height -= (c.height > LEAST) as u32);
+    step(&|c| c.rooms = 0);
+    step(&|c| c.old = 0);
+    for area in 0..4 {
+        step(&|c| c.beyond[area] = 0);
+    }
+    for i in 0..case.gates.len().min(400) {
+        step(&|c| c.gates[i] &= if c.gates[i] == EMPTY { EMPTY } else { !1 });
+    }
+    out
+}
+
+/// The smallest case found in the time at hand.
+pub fn shrink(case: &Case, fails: &dyn Fn(&Case) -> bool, most: Duration) -> Case {
+    let (start, mut best) = (Instant::now(), case.clone());
+    while let Some(next) = steps(&best).into_iter().take_while(|_| start.elapsed() < most).find(|c| fails(c)) {
+        best = next;
+    }
+    best
+}
+
+#[cfg(test)]
+mod tests {
+    use super::*;
+    use crate::random;
+
+    #[test]
+    fn keeps_only_what_fails() {
+        // Fails with a flip-flop at a gate: one gate, one record, two pins are needed.
+        let fails = |c: &Case| {
+            c.split().iter().any(|r| r[0] == 2 && r.len() == 3 && c.gates.get(r[2] as usize & !1).map_or(false, |&l| l != EMPTY))
+        };
+        let mut shrunk = 0;
+        for index in 0..300 {
+            let case = random::case(1, index, 7);
+            if fails(&case) {
+                let least = shrink(&case, &fails, Duration::from_secs(60));
+                assert_eq!((least.split().len(), least.gate_count(), least.height, least.given.len()), (1, 1, 6, 0), "case {index}");
+                shrunk += 1;
+            }
+        }
+        assert!(shrunk > 20);
+    }
+}
