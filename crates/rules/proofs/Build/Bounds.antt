@@ -41,7 +41,7 @@ module _ (K : ℕ) (g : List Node) (r : ℕ → ℕ) (G : Graph g r) (tall : 6 �
   stages-few zero k done (w ∷ ws) R room d h ss e = absurd (let z : _≡_ {A = ℕ} 0 1 = cc in omega arith)
   stages-few (suc rooms) k done [] R room d h ss e = let z : ss ≡ [] = cc in rw z (omega arith)
   stages-few (suc rooms) k done (w ∷ ws) R room d (inl a) ss e = absurd (let z : _≡_ {A = ℕ} 0 1 = cc in omega arith)
-  stages-few (suc rooms) k done (w ∷ ws) R room d (inr a) ss e = stage-cases K g r G tall small (oneStage K g done (w ∷ ws) room)
+  stages-few (suc rooms) k done (w ∷ ws) R room d (inr a) ss e = stage-cases (oneStage K g done (w ∷ ws) room)
       (λ n b. absurd (let c : refusal n k ≡ whole ss = rw (b, stages) at e in let z : _≡_ {A = ℕ} 0 1 = cc in omega arith))
       (λ plan2 words realised waiting2 b.
       let m = more-whole K g r G tall small (record { plan = plan2; words = words }) (stages K g rooms (suc k) (realised ++ done) waiting2 (room - length words)) ss (rw (b, stages) at e) in
