@@ -1,20 +1,19 @@
 -- The same for the code: what the contracts of `placer::build` and `fold::fold` say, by the theorems. Assumes nothing.
 use Prim.Native.Nat.{ℕ, zero, suc, _+_, _*_, _<_}
 use mathlib.Core.Path.{_≡_, refl, sym, _∙_, ap}
-use mathlib.Core.Logic.{_⊎_, inl, inr, _≢_}
+use mathlib.Core.Logic.{_⊎_, inl, inr}
 use mathlib.Core.List.{List, _++_, append-assoc}
 use native.Mathlib.Omega.{arith}
 use native.Mathlib.Nat.{mul-le-mul-right, suc-mul}
 use lib.ListN.{length, getD, replicate, length-append, List·getD-append}
 use Rattle.rules.specs.Lists.{padded, laidOver}
 use Rattle.rules.specs.Cells.{empty, wordLimit, stageSize, rooms}
-use Rattle.rules.specs.Graph.{Node, graphOf, pinCount, value}
+use Rattle.rules.specs.Graph.{graphOf, pinCount, value}
 use Rattle.rules.specs.Records.{groupsOf}
 use Rattle.rules.specs.Checks.{refusalOf}
 use Rattle.rules.specs.Build as rules
 use Rattle.rules.specs.Fold.{asNumber, foldBits, foldRefusal, foldResult}
-use Rattle.rules.specs.Capacity.{Stops, nine, over}
-use Rattle.rules.proofs.Stage.Over.{seven-or-eight}
+use Rattle.rules.proofs.Stage.Refusals.{refused-some}
 use Rattle.rules.proofs.Stage.Staged.{two-step}
 use Rattle.rules.proofs.Build.Lengths.{length-fold}
 use Rattle.rules.proofs.Demand.{Ends}
@@ -22,7 +21,7 @@ use Rattle.placer.specs.declared.Answer.{Answer}
 use Rattle.placer.specs.Answers.{told, areas, outcome}
 use Rattle.demand.specs.Inputs.{Input, D, built}
 use Rattle.demand.specs.Reading.{Read}
-use Rattle.demand.proofs.Rooms.{rooms-enough, refused-where}
+use Rattle.demand.proofs.Rooms.{rooms-enough}
 use Rattle.demand.proofs.Reading.{endpoints-read}
 
 -- a call of `build`, by its contract
@@ -73,14 +72,6 @@ passed-checks C z = number (checked C) refl
     number zero e = refl
     number (suc n) e = absurd (let E = ap (λ (o : rules.Outcome). o .reply .number) (rw (e, rules.placer) at (C .ensures)) in omega arith)
 
--- no refusal has number 0
-stops-some : {K rms s room n : ℕ} {g : List Node} {done waiting : List ℕ} → Stops K g rms s done waiting room n → n ≢ 0
-stops-some (nine h) z = omega arith
-stops-some (over h c) z = elim (seven-or-eight _ _ _ c) [ inl d ↦ omega arith | inr d ↦ omega arith ]
-
-refused-some : (I : Input) (rms n k : ℕ) → built I rms ≡ rules.refusal n k → n ≢ 0
-refused-some I rms n k e = elim (refused-where I rms n k e) [ inl a ↦ λ z. omega (arith, a .0) | inr a ↦ stops-some (a .stops) ]
-
 -- ---- a whole plan
 
 -- what an answer of 0 leaves: the stages of the rules, with their words and counts
@@ -96,7 +87,7 @@ pub record Whole (C : Call) : Type 0 where
 
 whole-told : (C : Call) (e : checked C ≡ 0) (b : rules.Answer) → built (input C e) (roomsOf C) ≡ b → C .answer .number ≡ 0 → Told C b → Whole C
 unfolding told rules.reply rules.refuse rules.stagesOf padded laidOver
-whole-told C e (rules.refusal n k) d z t = absurd (refused-some (input C e) (roomsOf C) n k d (ap (λ (r : rules.Reply). r .number) (sym (t .reply)) ∙ z))
+whole-told C e (rules.refusal n k) d z t = absurd (refused-some (C .height) (graphOf (C .gates)) (C .given) (groupsOf (C .records)) (roomsOf C) n k d (ap (λ (r : rules.Reply). r .number) (sym (t .reply)) ∙ z))
 whole-told C e (rules.whole ss) d z t = record {
   passes = e;
   ss = ss;

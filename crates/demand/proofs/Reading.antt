@@ -1,7 +1,7 @@
 -- What follows for a user: reading the written words of a folded whole plan gives every endpoint's graph value. Assumes nothing.
 use Prim.Native.Nat.{ℕ, zero, suc, _+_, _*_, _/_, _≤_, _<_}
 use mathlib.Core.Path.{_≡_, refl, _∙_, ap}
-use mathlib.Core.Bool.{Bool, true}
+use mathlib.Core.Bool.{true}
 use mathlib.Core.List.{List, [], _∷_, _++_, append-assoc}
 use native.Mathlib.Omega.{arith}
 use native.Mathlib.Nat.{suc-mul}
@@ -10,28 +10,22 @@ use lib.Dec.{eqb}
 use lib.Seq.{getD-append-add, take-append-le}
 use Rattle.rules.specs.Lists.{sum, padded}
 use Rattle.rules.specs.Cells.{filled, empty, stageSize, rooms}
-use Rattle.rules.specs.Graph.{Node}
 use Rattle.rules.specs.Build.{Stage, whole, stageOf, cellsOf, wordsOf, countsOf}
-use Rattle.rules.specs.Fold.{firstLoad, asNumber, foldBits}
+use Rattle.rules.specs.Fold.{asNumber, foldBits}
 use Rattle.rules.proofs.Lists.Members.{In, split, eqb-true, getD-in}
 use Rattle.rules.proofs.Stage.Staged.{two-step}
-use Rattle.rules.proofs.Build.Lengths.{length-padded}
-use Rattle.rules.proofs.Demand.{Ends, Right}
+use Rattle.rules.proofs.Build.Lengths.{length-padded, Sized}
+use Rattle.rules.proofs.Demand.{Ends, whole-sized}
 use Rattle.demand.specs.Inputs.{Input, graph, groups, built, graphValue}
 use Rattle.demand.specs.Reading.{Read}
-use Rattle.demand.proofs.Passing.{small, named}
-use Rattle.demand.proofs.Folding.{Loaded, right, few, cells-fit, cells-fold}
+use Rattle.demand.proofs.Passing.{tall, small, valid, named}
+use Rattle.demand.proofs.Folding.{few, cells-fit, cells-fold}
 use Rattle.demand.proofs.Writing.{endpoints-written}
 
 -- ---- stages in flat areas
 
 module _ (size : ℕ) where
-  -- every stage has so many cells
-  abbrev Sized : List Stage → Type 0
-  Sized [] = Unit {0}
-  Sized (s ∷ ss) = (length (s .plan) ≡ size) × Sized ss
-
-  cell-at : (ss : List Stage) → Sized ss → (more : List ℕ) (i p : ℕ) → i < length ss → p < size → getD (cellsOf ss ++ more) (i * size + p) empty ≡ getD (stageOf ss i .plan) p empty
+  cell-at : (ss : List Stage) → Sized size ss → (more : List ℕ) (i p : ℕ) → i < length ss → p < size → getD (cellsOf ss ++ more) (i * size + p) empty ≡ getD (stageOf ss i .plan) p empty
   unfolding cellsOf stageOf
   cell-at [] z more i p b h = absurd (omega arith)
   cell-at (s ∷ ss) z more zero p b h =
@@ -57,10 +51,6 @@ word-at (s ∷ ss) more w zero b e =
 word-at (s ∷ ss) more w (suc i) b e =
     let t = word-at ss more w i (omega arith) e in
     record { at = length (s .words) + t .at; from = omega (arith, t .from); to = omega (arith, t .to); word = rw append-assoc (getD-append-add (s .words) (wordsOf ss ++ more) (t .at) empty ∙ t .word) }
-
-sized : (K : ℕ) (g : List Node) (given bits : List ℕ) (load : ℕ → Bool) (held : ℕ → Type 0) (ss : List Stage) → Right K g given bits load held ss → Sized (stageSize K) ss
-sized K g given bits load held [] R = tt
-sized K g given bits load held (s ∷ ss) R = (R .0 .size, sized K g given bits _ _ ss (R .1))
 
 length-counts : (ss : List Stage) → length (countsOf ss) ≡ length ss
 unfolding countsOf
@@ -88,7 +78,7 @@ endpoints-read I L ss e bits more more′ q b i =
     let h : c .position < stageSize (I .K) = omega (arith, c .high, two-step (I .K)) in
     let w = word-at ss more (c .position / 32) (t .stage) (t .built) (t .written) in
     let f : filled (getD (stageOf ss (t .stage) .plan) (c .position) empty) ≡ true = rw (c .holds) (filled-pin q (omega (arith, named I q i, small I))) in
-    let z = sized (I .K) (graph I) (I .given) [] (firstLoad (graph I) (I .given) []) (Loaded I) ss (right I (rooms (I .K) L) ss e []) in
+    let z = whole-sized (I .K) (graph I) (valid I) (tall I) (small I) (I .given) [] (groups I) (named I) (rooms (I .K) L) ss e in
     record {
       stage = t .stage;
       at = w .at;

@@ -27,7 +27,7 @@ use Rattle.rules.proofs.Stage.Last.{Once, nobody}
 use Rattle.rules.proofs.Stage.Flat.{blank-replicate}
 use Rattle.rules.proofs.Stage.Staged.{Ended, the-end, stage-holds, remaining-least, remaining-above}
 use Rattle.rules.proofs.Stage.Depth.{Ready, still-ready, stage-cases, shallow, rooms-suffice}
-use Rattle.rules.proofs.Build.Lengths.{Sizes, sizes}
+use Rattle.rules.proofs.Build.Lengths.{Sizes, sizes, Sized, all-sized}
 use Rattle.rules.proofs.Tree.Invariant.{final}
 use Rattle.rules.proofs.Tree.Loads.{Fine, fine-kept, fine-first, ltb-true, ltb-false}
 use Rattle.rules.proofs.Fold.Folds.{value-own}
@@ -176,7 +176,7 @@ module _ (K : ℕ) (g : List Node) (ok : Valid g) (tall : 6 ≤ K) (small : leng
     abbrev pub waiting : List ℕ
     waiting = waitingOf groups []
 
-    pub ready : Ready g r waiting
+    ready : Ready g r waiting
     ready = record {
       once = waitingOf-once groups nobody;
       bounded = λ x i. let h : x < length g = elim (wait-ends x groups [] i) [ inl a ↦ in-nil x a | inr a ↦ named x a ] in (h, h);
@@ -209,6 +209,9 @@ module _ (K : ℕ) (g : List Node) (ok : Valid g) (tall : 6 ≤ K) (small : leng
 
     pub whole-sizes : (rooms : ℕ) (ss : List Stage) → build K g given groups rooms ≡ whole ss → Sizes K g r G tall small rooms (wordLimit K - reserved groups) ss
     whole-sizes rooms ss e = sizes K g r G tall small rooms 1 given waiting ready (wordLimit K - reserved groups) ss (whole-stages rooms ss e)
+
+    pub whole-sized : (rooms : ℕ) (ss : List Stage) → build K g given groups rooms ≡ whole ss → Sized (2 ^ (K + 1)) ss
+    whole-sized rooms ss e = all-sized K g r G tall small rooms 1 given waiting ready (wordLimit K - reserved groups) ss (whole-stages rooms ss e)
 
     -- a whole plan folds right, and loads right: first leaves and given pins, then pins held above level 0 one stage before
     pub whole-right : (rooms : ℕ) (ss : List Stage) → build K g given groups rooms ≡ whole ss → Right K g given bits (firstLoad g given bits) (λ n. In n given ⊎ (getD g n leaf ≡ leaf)) ss

@@ -1,19 +1,17 @@
 -- What the areas hold, tested in order, and what is answered. Assumes nothing.
-use mathlib.Core.Path.{_≡_, refl, sym, _∙_, ap}
-use mathlib.Core.Bool.{Bool, true, false, _&&_}
-use mathlib.Core.List.{List, [], _∷_}
-use Prim.Native.Nat.{ℕ, zero, suc, _+_, _*_, _^_, _/_, _≤_, _<_}
+use mathlib.Core.Path.{_≡_, refl, sym}
+use mathlib.Core.Bool.{true, false, _&&_}
+use mathlib.Core.List.{List}
+use Prim.Native.Nat.{ℕ, suc, _+_, _/_, _≤_, _<_}
 use native.Mathlib.Nat.{mul-le-mul-right, div-mul-le-self}
-use native.Mathlib.Numerals.{add-one}
 use native.Mathlib.Omega.{arith}
-use lib.Dec.{leb, eqb}
+use lib.Dec.{leb}
 use lib.ListN.{length, take, getD}
 use borrow.Author.Tests.{leb-true, le-leb, lt-leb, ne-eqb, eq-eqb}
 use Rattle.rules.specs.Lists.{sum}
 use Rattle.rules.specs.Cells.{isHeight, stageSize, rooms}
 use Rattle.rules.specs.Listing.{listing, refusedLine}
 use Rattle.rules.proofs.Lists.Members.{and-true}
-use Rattle.rules.proofs.Bools.{and-none}
 use Rattle.cells.specs.Answers.{orZero}
 use Rattle.listing.specs.Listing.{outcome, written, stagesIn, hold, Holds, listed, answered}
 use Rattle.listing.proofs.Laws.Lines.{sum-next, sum-less, sum-add}

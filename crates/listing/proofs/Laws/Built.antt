@@ -1,41 +1,30 @@
 -- The stages that a build leaves in its areas are those that the listing prints. Assumes nothing.
 use mathlib.Core.Path.{_≡_, refl, sym, _∙_, ap}
-use mathlib.Core.Bool.{Bool, true, false, _&&_}
+use mathlib.Core.Bool.{true}
 use mathlib.Core.List.{List, [], _∷_, _++_, append-assoc}
-use mathlib.Core.Logic.{_⊎_, inl, inr}
-use Prim.Native.Nat.{ℕ, zero, suc, _+_, _-_, _*_, _^_, _/_, _≤_, _<_}
+use Prim.Native.Nat.{ℕ, _+_, _-_, _*_, _/_, _≤_, _<_}
 use native.Mathlib.Nat.{mul-le-mul-right, div-mul-le-self}
 use native.Mathlib.Omega.{arith}
 use lib.Dec.{leb}
-use lib.ListN.{length, take, drop, getD, replicate, length-append, length-replicate}
+use lib.ListN.{length, take, drop, replicate, length-append}
 use lib.Seq.{take-at, drop-at, take-append-seam, drop-append-seam}
 use borrow.Author.Tests.{le-leb}
 use Rattle.rules.specs.Lists.{sum, padded, laidOver}
 use Rattle.rules.specs.Cells.{empty, isHeight, wordLimit, stageSize, rooms}
 use Rattle.rules.specs.Graph.{Node}
-use Rattle.rules.specs.Records.{Group, waitingOf}
-use Rattle.rules.specs.Reservation.{reserved, reservable}
-use Rattle.rules.specs.Traversal.{setting}
-use Rattle.rules.specs.Placing.{filledPlan}
-use Rattle.rules.specs.Ending.{refused, stage, oneStage}
-use Rattle.rules.specs.Build.{Stage, Answer, refusal, whole, more, stages, build, cellsOf, wordsOf, countsOf, reply, refuse, stagesOf, Areas, areasAfter}
-use Rattle.rules.specs.Listing.{listing, refusedLine, answerText}
-use Rattle.rules.proofs.Lists.Members.{split}
+use Rattle.rules.specs.Records.{Group}
+use Rattle.rules.specs.Ending.{stage}
+use Rattle.rules.specs.Build.{Stage, Answer, refusal, whole, stages, build, cellsOf, wordsOf, countsOf, reply, refuse, stagesOf, Areas, areasAfter}
+use Rattle.rules.specs.Listing.{listing, answerText}
 use Rattle.rules.proofs.Demand as demand
-use Rattle.rules.proofs.Needed.Needs.{Graph}
-use Rattle.rules.proofs.Stage.Depth.{Ready, still-ready, stage-cases, seven-or-eight}
-use Rattle.rules.proofs.Written.Writes.{more-whole}
-use Rattle.rules.proofs.Build.Lengths.{Sizes, sizes, stage-length, length-padded, length-laidOver}
-use Rattle.listing.specs.Listing.{written, stagesIn, hold, listed, answered}
+use Rattle.rules.proofs.Stage.Refusals.{refused-some}
+use Rattle.rules.proofs.Build.Lengths.{Sized, length-padded}
+use Rattle.listing.specs.Listing.{written, stagesIn, hold, answered}
 use Rattle.listing.proofs.Laws.Answered.{listed-all, answered-no, answered-yes}
 
 -- ---- areas with stages at their front
 
-abbrev pub Each : ℕ → List Stage → Type 0
-Each size [] = Unit {0}
-Each size (s ∷ ss) = (length (s .plan) ≡ size) × Each size ss
-
-stages-back : (size : ℕ) (ss : List Stage) → Each size ss → (a b c : List ℕ) → stagesIn size (length ss) (cellsOf ss ++ a) (wordsOf ss ++ b) (countsOf ss ++ c) ≡ ss
+stages-back : (size : ℕ) (ss : List Stage) → Sized size ss → (a b c : List ℕ) → stagesIn size (length ss) (cellsOf ss ++ a) (wordsOf ss ++ b) (countsOf ss ++ c) ≡ ss
 unfolding stagesIn cellsOf wordsOf countsOf
 stages-back size [] e a b c = refl
 stages-back size (s ∷ ss) e a b c =
@@ -49,43 +38,12 @@ counts-sum (s ∷ ss) c = ap (λ (n : ℕ). length (s .words) + n) (counts-sum s
 long-front : (n : ℕ) (xs ys : List ℕ) → n ≤ length xs → leb n (length (xs ++ ys)) ≡ true
 long-front n xs ys h = le-leb n (length (xs ++ ys)) (omega (arith, length-append xs ys))
 
--- ---- a build
-
-module _ (K : ℕ) (g : List Node) (r : ℕ → ℕ) (G : Graph g r) (tall : 6 ≤ K) (small : length g ≤ empty) where
-  -- each stage has a number a position
-  each : (rooms k : ℕ) (done waiting : List ℕ) → Ready g r waiting → (room : ℕ) (ss : List Stage) → stages K g rooms k done waiting room ≡ whole ss → Each (2 ^ (K + 1)) ss
-  unfolding stages
-  each zero k done [] R room ss e = let z : ss ≡ [] = cc in rw z tt
-  each zero k done (w ∷ ws) R room ss e = absurd (let z : _≡_ {A = ℕ} 0 1 = cc in omega arith)
-  each (suc rooms) k done [] R room ss e = let z : ss ≡ [] = cc in rw z tt
-  each (suc rooms) k done (w ∷ ws) R room ss e = stage-cases K g r G tall small (oneStage K g done (w ∷ ws) room)
-      (λ n d. absurd (let c : refusal n k ≡ whole ss = rw (d, stages) at e in let z : _≡_ {A = ℕ} 0 1 = cc in omega arith))
-      (λ plan2 words realised waiting2 d.
-      let m = more-whole K g r G tall small (record { plan = plan2; words = words }) (stages K g rooms (suc k) (realised ++ done) waiting2 (room - length words)) ss (rw (d, stages) at e) in
-      rw (m .2) (stage-length K g r G tall small done (w ∷ ws) R room plan2 words realised waiting2 d, each rooms (suc k) (realised ++ done) waiting2 (still-ready K g r G tall small done (w ∷ ws) R room plan2 words realised waiting2 d) (room - length words) (m .0) (m .1)))
-
-  more-refused : (s : Stage) (a : Answer) (n j : ℕ) → more s a ≡ refusal n j → a ≡ refusal n j
-  unfolding more
-  more-refused s (refusal m k) n j e = e
-  more-refused s (whole ss) n j e = absurd (let z : _≡_ {A = ℕ} 0 1 = cc in omega arith)
-
-  -- no refusal has number 0
-  numbered : (rooms k : ℕ) (done waiting : List ℕ) (room : ℕ) (n j : ℕ) → stages K g rooms k done waiting room ≡ refusal n j → 0 < n
-  unfolding stages oneStage
-  numbered zero k done [] room n j e = absurd (let z : _≡_ {A = ℕ} 0 1 = cc in omega arith)
-  numbered zero k done (w ∷ ws) room n j e = let z : n ≡ 9 = cc in omega arith
-  numbered (suc rooms) k done [] room n j e = absurd (let z : _≡_ {A = ℕ} 0 1 = cc in omega arith)
-  numbered (suc rooms) k done (w ∷ ws) room n j e = stage-cases K g r G tall small (oneStage K g done (w ∷ ws) room)
-      (λ m d. let c : refusal m k ≡ refusal n j = rw (d, stages) at e in let b : n ≡ m = cc in
-      elim (seven-or-eight (setting K g done (w ∷ ws)) room (filledPlan (setting K g done (w ∷ ws))) m d) [ inl x ↦ omega arith | inr x ↦ omega arith ])
-      (λ plan2 words realised waiting2 d. numbered rooms (suc k) (realised ++ done) waiting2 (room - length words) n j (more-refused _ _ n j (rw (d, stages) at e)))
-
 answer-cases : {P : Type 0} (b : Answer) → ((n k : ℕ) → b ≡ refusal n k → P) → ((ss : List Stage) → b ≡ whole ss → P) → P
 answer-cases (refusal n k) f h = f n k refl
 answer-cases (whole ss) f h = h ss refl
 
 -- whole stages in areas of the right sizes
-module _ (K : ℕ) (ss : List Stage) (a : Areas) (need : ℕ) (each-sized : Each (stageSize K) ss)
+module _ (K : ℕ) (ss : List Stage) (a : Areas) (need : ℕ) (each-sized : Sized (stageSize K) ss)
     (cells : length (cellsOf ss) ≡ length ss * stageSize K) (few : length ss ≤ rooms K (length (a .plan))) (counted : length (countsOf ss) ≡ length ss) where
   abbrev after : Areas
   after = areasAfter K need ss a
@@ -120,24 +78,11 @@ module _ (K : ℕ) (g : List Node) (ok : demand.Valid g) (height : isHeight K �
   abbrev b : Answer
   b = build K g given groups (rooms K (length (a .plan)))
 
-  started : (x : Answer) → b ≡ x → (x ≡ refusal 6 0) ⊎ (stages K g (rooms K (length (a .plan))) 1 given (waitingOf groups []) (wordLimit K - reserved groups) ≡ x)
-  unfolding build
-  started x e = split (reservable K groups) (λ t. inr (rw (t, build) at e)) (λ t. inl (sym (rw (t, build) at e)))
-
-  ready : Ready g (λ p. p) (waitingOf groups [])
-  ready = demand.ready K g ok tall small given [] groups named
-
   pub answer-printed : answered K (reply b .number) (reply b .stages) (reply b .stage) (areasAfter K need (stagesOf b) a .plan) (areasAfter K need (stagesOf b) a .words) (areasAfter K need (stagesOf b) a .counts) out ≡ written (answerText K b) out
   unfolding reply refuse stagesOf answerText
   answer-printed = answer-cases b
-      (λ n k e. rw e (sym (answered-no K 0 _ _ _ out n k (λ z. elim (started (refusal n k) e) [
-        | inl d ↦ let y : n ≡ 6 = cc in omega arith
-        | inr d ↦ let y = numbered K g (λ p. p) (demand.graph g ok) tall small (rooms K (length (a .plan))) 1 given (waitingOf groups []) (wordLimit K - reserved groups) n k d in omega arith
-      ]))))
-      (λ ss e. elim (started (whole ss) e) [
-        | inl d ↦ absurd (let z : _≡_ {A = ℕ} 0 1 = cc in omega arith)
-        | inr d ↦
-            let S = sizes K g (λ p. p) (demand.graph g ok) tall small (rooms K (length (a .plan))) 1 given (waitingOf groups []) ready (wordLimit K - reserved groups) ss d in
-            let E = each K g (λ p. p) (demand.graph g ok) tall small (rooms K (length (a .plan))) 1 given (waitingOf groups []) ready (wordLimit K - reserved groups) ss d in
-            rw e (sym (answered-yes K (length ss) _ _ _ out 0 0 refl) ∙ sym (listed-all K (length ss) _ _ _ out height (after-hold K ss a need E (S .cells) (S .few) (S .counts))) ∙ rw (after-stages K ss a need E (S .cells) (S .few) (S .counts)))
-      ])
+      (λ n k e. rw e (sym (answered-no K 0 _ _ _ out n k (refused-some K g given groups (rooms K (length (a .plan))) n k e))))
+      (λ ss e.
+      let S = demand.whole-sizes K g ok tall small given [] groups named (rooms K (length (a .plan))) ss e in
+      let E = demand.whole-sized K g ok tall small given [] groups named (rooms K (length (a .plan))) ss e in
+      rw e (sym (answered-yes K (length ss) _ _ _ out 0 0 refl) ∙ sym (listed-all K (length ss) _ _ _ out height (after-hold K ss a need E (S .cells) (S .few) (S .counts))) ∙ rw (after-stages K ss a need E (S .cells) (S .few) (S .counts))))

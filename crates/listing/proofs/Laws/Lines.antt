@@ -1,19 +1,19 @@
 -- The lines of a listing, one entry after the other. Assumes nothing.
 use mathlib.Core.Path.{_≡_, refl, sym, _∙_, ap}
-use mathlib.Core.Bool.{Bool, true, false}
+use mathlib.Core.Bool.{true, false}
 use mathlib.Core.List.{List, [], _∷_, _++_, append-assoc, append-nil}
 use Prim.Native.Nat.{ℕ, zero, suc, _+_, _*_, _^_, _≤_, _<_}
 use native.Mathlib.Nat.{suc-mul, zero-mul, mul-le-mul-right}
 use native.Mathlib.Numerals.{add-one}
 use native.Mathlib.Omega.{arith}
-use lib.ListN.{length, take, drop, getD, length-take}
+use lib.ListN.{length, take, drop, getD}
 use lib.Seq.{take-suc, take-all, take-nil, drop-drop, length-take-le}
 use borrow.Author.Tests.{eq-eqb, ne-eqb}
 use Rattle.rules.specs.Lists.{count, sum}
 use Rattle.rules.specs.Cells.{empty, filled}
 use Rattle.rules.specs.Build as rules
-use Rattle.rules.specs.Listing.{text, decimal, spaced, wordsText, cellLines, stageLines, stagesLines, listing, refusedLine}
-use Rattle.rules.proofs.Lists.Members.{split}
+use Rattle.rules.specs.Listing.{text, decimal, spaced, wordsText, cellLines, stageLines, stagesLines, listing}
+use Rattle.rules.proofs.Lists.Members.{split, count-append}
 use Rattle.listing.specs.Laid.{Laid}
 use Rattle.listing.specs.Listing.{stagesIn, stageIn, Holds, HoldsOne}
 use Rattle.listing.proofs.Laws.Laid.{laid-none, laid-as, laid-more}
@@ -27,11 +27,6 @@ unfolding filled empty
 filled-no c h = rw (eq-eqb c 4294967295 h)
 
 -- ---- how many are filled
-
-count-append : (f : ℕ → Bool) (xs ys : List ℕ) → count f (xs ++ ys) ≡ count f xs + count f ys
-unfolding count
-count-append f [] ys = omega arith
-count-append f (x ∷ xs) ys = split (f x) (λ t. rw (t, count, count-append f xs ys) (omega arith)) (λ t. rw (t, count, count-append f xs ys))
 
 count-next : (cs : List ℕ) (i : ℕ) → i < length cs → count filled (take (i + 1) cs) ≡ count filled (take i cs) + count filled (getD cs i 0 ∷ [])
 count-next cs i h = rw (add-one i, take-suc cs i 0 h) (count-append filled (take i cs) (getD cs i 0 ∷ []))

@@ -40,6 +40,11 @@ ending-fits X room pl pl2 plan2 words realised waiting h e = split (lastStage X 
 pub words-fit : (X : Setting) (room : ℕ) (pl plan2 words realised waiting : List ℕ) → finish X room pl ≡ stage plan2 words realised waiting → length words ≤ room
 words-fit X room pl plan2 words realised waiting e = not-refused X room pl e (λ pl2 b r f d. ending-fits X room pl pl2 plan2 words realised waiting (ltb-false room (length (written X pl .words)) b) d)
 
+-- every stage has so many cells
+abbrev pub Sized : ℕ → List Stage → Type 0
+Sized size [] = Unit {0}
+Sized size (s ∷ ss) = (length (s .plan) ≡ size) × Sized size ss
+
 module _ (K : ℕ) (g : List Node) (r : ℕ → ℕ) (G : Graph g r) (tall : 6 ≤ K) (small : length g ≤ empty) where
   low : 1 ≤ K
   low = omega arith
@@ -88,6 +93,17 @@ module _ (K : ℕ) (g : List Node) (r : ℕ → ℕ) (G : Graph g r) (tall : 6 �
       let m = more-whole K g r G tall small (record { plan = plan2; words = words }) (stages K g rooms (suc k) (realised ++ done) waiting2 (room - length words)) ss (rw (d, stages) at e) in
       rw (m .2) (one-more rooms room (record { plan = plan2; words = words }) (m .0) (stage-length done (w ∷ ws) R room plan2 words realised waiting2 d) (stage-words done (w ∷ ws) R room plan2 words realised waiting2 d)
       (sizes rooms (suc k) (realised ++ done) waiting2 (still-ready K g r G tall small done (w ∷ ws) R room plan2 words realised waiting2 d) (room - length words) (m .0) (m .1))))
+
+  pub all-sized : (rooms k : ℕ) (done waiting : List ℕ) → Ready g r waiting → (room : ℕ) (ss : List Stage) → stages K g rooms k done waiting room ≡ whole ss → Sized (2 ^ (K + 1)) ss
+  unfolding stages
+  all-sized zero k done [] R room ss e = let z : ss ≡ [] = cc in rw z tt
+  all-sized zero k done (w ∷ ws) R room ss e = absurd (let z : _≡_ {A = ℕ} 0 1 = cc in omega arith)
+  all-sized (suc rooms) k done [] R room ss e = let z : ss ≡ [] = cc in rw z tt
+  all-sized (suc rooms) k done (w ∷ ws) R room ss e = stage-cases (oneStage K g done (w ∷ ws) room)
+      (λ n d. absurd (let c : refusal n k ≡ whole ss = rw (d, stages) at e in let z : _≡_ {A = ℕ} 0 1 = cc in omega arith))
+      (λ plan2 words realised waiting2 d.
+      let m = more-whole K g r G tall small (record { plan = plan2; words = words }) (stages K g rooms (suc k) (realised ++ done) waiting2 (room - length words)) ss (rw (d, stages) at e) in
+      rw (m .2) (stage-length done (w ∷ ws) R room plan2 words realised waiting2 d, all-sized rooms (suc k) (realised ++ done) waiting2 (still-ready K g r G tall small done (w ∷ ws) R room plan2 words realised waiting2 d) (room - length words) (m .0) (m .1)))
 
 -- ---- the lent areas keep their lengths
 

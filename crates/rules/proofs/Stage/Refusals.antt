@@ -19,7 +19,7 @@ use Rattle.rules.specs.States.{state, afterFrom, after}
 use Rattle.rules.specs.Capacity.{ReservationOver, no-word-left, over-limit, Stops, nine, over, Refused}
 use Rattle.rules.proofs.Lists.Members.{split, true-false}
 use borrow.Author.Tests.{leb-true, leb-false, ltb-true, ltb-false}
-use Rattle.rules.proofs.Stage.Over.{stage-over, over-refused}
+use Rattle.rules.proofs.Stage.Over.{stage-over, over-refused, seven-or-eight}
 use Rattle.rules.proofs.Stage.Depth.{stage-cases, more-refused}
 
 -- ---- the stages completed so far
@@ -139,6 +139,10 @@ over-reservation K groups (over-limit h) = split (leb (4 * memories groups + dup
     (λ a. absurd (omega (arith, leb-true (4 * memories groups + duplicates groups) (wordLimit K) a)))
     (λ a. split (ltb (reserved groups) (wordLimit K)) (λ b. rw (a, b, reservable)) (λ b. rw (a, b, reservable)))
 
+stops-some : {K rooms s room n : ℕ} {g : List Node} {done waiting : List ℕ} → Stops K g rooms s done waiting room n → n ≢ 0
+stops-some (nine h) z = omega arith
+stops-some (over h c) z = elim (seven-or-eight _ _ _ c) [ inl d ↦ omega arith | inr d ↦ omega arith ]
+
 module _ (K : ℕ) (g : List Node) (given : List ℕ) (groups : List Group) (rooms : ℕ) where
   -- a refused build: the reservation is over, or a stage is
   pub build-refused : (n k : ℕ) → build K g given groups rooms ≡ refusal n k → ((n ≡ 6) × (k ≡ 0) × ReservationOver K groups) ⊎ Refused K g given groups rooms n k
@@ -148,6 +152,10 @@ module _ (K : ℕ) (g : List Node) (given : List ℕ) (groups : List Group) (roo
       let t = stops-where K g rooms 1 given (waitingOf groups []) (wordLimit K - reserved groups) n k (rw (c, build) at e) in
       inr (record { s = t .s; done = t .done2; waiting = t .waiting2; room = t .room2; completed = rw (c, after) (t .completed); wait = t .wait; stage = omega (arith, t .stage); stops = t .stops }))
       (λ c. let d : refusal 6 0 ≡ refusal n k = rw (c, build) at e in inl (cc, cc, reservation-over K groups c))
+
+  -- no refusal has number 0
+  pub refused-some : (n k : ℕ) → build K g given groups rooms ≡ refusal n k → n ≢ 0
+  refused-some n k e = elim (build-refused n k e) [ inl a ↦ λ z. omega (arith, a .0) | inr a ↦ stops-some (a .stops) ]
 
   pub six-build : ReservationOver K groups → build K g given groups rooms ≡ refusal 6 0
   unfolding build
