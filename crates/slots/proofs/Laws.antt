@@ -6,3 +6,4 @@ pub mod Picks
 pub mod Splits
 pub mod Sorting
 pub mod Rounds
+pub mod Accepts
