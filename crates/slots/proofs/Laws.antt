@@ -7,3 +7,4 @@ pub mod Splits
 pub mod Sorting
 pub mod Rounds
 pub mod Accepts
+pub mod Stores
