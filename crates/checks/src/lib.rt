@@ -112,7 +112,7 @@ fn records_right(pins: usize, records: &[u32]) -> bool
     true
 }
 
-fn given_right(pins: usize, given: &[u32]) -> bool
+pub fn given_right(pins: usize, given: &[u32]) -> bool
     ensures { λ r. ⌜ r ≡ givenRight pins (now (given .entry)) ⌝ }
 {
     let mut i = 0;

@@ -191,10 +191,15 @@ mergeSized K gates records l a =
     && eqb (length (l .lengths)) (length (l .stages))
     && eqb (sum (l .lengths)) (length (l .indices))
 
--- 10. no partitions, over 1,024, a group index out of range, or allowed extra stages over 255
+-- 10. no partitions, over 1,024, a group index out of range, or allowed extra stages over 255; also more group indices than a length,
+-- which is a 32-bit number, can count
 unfoldable pub mergeable : List ℕ → GroupList → ℕ → Bool
 mergeable records l extra =
-    leb 1 (length (l .lengths)) && leb (length (l .lengths)) 1024 && every (λ i. ltb i (length (groupsOf records))) (l .indices) && leb extra 255
+    leb 1 (length (l .lengths))
+    && leb (length (l .lengths)) 1024
+    && every (λ i. ltb i (length (groupsOf records))) (l .indices)
+    && leb extra 255
+    && leb (length (l .indices)) 4294967295
 
 -- the answer of a merge; stages and words are sums
 pub record MergeReply : Type 0 where

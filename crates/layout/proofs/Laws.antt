@@ -1,0 +1,4 @@
+pub mod Orders
+pub mod Gathers
+pub mod Tables
+pub mod Whole

@@ -1,0 +1,4 @@
+pub mod Slots
+pub mod Moves
+pub mod Sorts
+pub mod Stores
