@@ -2,10 +2,13 @@
 use crate::Answer;
 use stage::Outcome;
 use stage::build_one_stage;
+use tally::Tally;
+use tally::spend;
 ghost use mathlib.Core.Path.{_≡_};
+ghost use Rattle.tally.specs.Spending.{room, Counted};
 ghost use Rattle.placer.specs.Stages.{Some, Every, OneAt, One, StagesAt, Ran};
 
-// Stage k + 1, in its own part of the plan, for n waiting pins and `room` words behind `at`.
+// Stage k + 1, in its own part of the plan, for n waiting pins and the words that the tally leaves.
 fn next_stage(
     gates: &[u32],
     plan: &mut [u32],
@@ -17,11 +20,10 @@ fn next_stage(
     half: usize,
     k: usize,
     n: usize,
-    at: usize,
-    room: usize,
+    tally: Tally,
 ) -> Outcome
-    requires { ⌜ Some (λ C. OneAt C m height half k n at room (now gates) (now plan) (now words) (now counts) (now work)) ⌝ }
-    ensures { λ r. ⌜ Every (λ C. OneAt C m height half k n at room (now (gates .entry)) (now (plan .entry)) (now (words .entry)) (now (counts .entry)) (now (work .entry))) (λ C. One C m k at (now (plan .entry)) (now (words .entry)) (now (counts .entry)) (now (work .entry)) (r .number) (r .words) (r .waiting) (now (plan .exit)) (now (words .exit)) (now (counts .exit)) (now (work .exit))) ⌝ }
+    requires { ⌜ Counted tally × Some (λ C. OneAt C m height half k n (tally .spent) (room tally) (now gates) (now plan) (now words) (now counts) (now work)) ⌝ }
+    ensures { λ r. ⌜ Every (λ C. OneAt C m height half k n (tally .spent) (room tally) (now (gates .entry)) (now (plan .entry)) (now (words .entry)) (now (counts .entry)) (now (work .entry))) (λ C. One C m k (tally .spent) (now (plan .entry)) (now (words .entry)) (now (counts .entry)) (now (work .entry)) (r .number) (r .words) (r .waiting) (now (plan .exit)) (now (words .exit)) (now (counts .exit)) (now (work .exit))) ⌝ }
 {
     let size = 4 * half;
     let a = k * size;
@@ -35,8 +37,7 @@ fn next_stage(
         height,
         half,
         n,
-        at,
-        room,
+        tally,
     );
     if s.number != 0 {
         return s;
@@ -45,7 +46,7 @@ fn next_stage(
     s
 }
 
-// The stages from the first on, for n waiting pins.
+// The stages from the first on, for n waiting pins: one tally over them all, of which `room` words are not reserved.
 pub fn stages(
     gates: &[u32],
     plan: &mut [u32],
@@ -62,8 +63,13 @@ pub fn stages(
     requires { ⌜ Some (λ C. StagesAt C m height half rooms 0 0 n room (now gates) (now plan) (now words) (now counts) (now work)) ⌝ }
     ensures { λ r. ⌜ Every (λ C. StagesAt C m height half rooms 0 0 n room (now (gates .entry)) (now (plan .entry)) (now (words .entry)) (now (counts .entry)) (now (work .entry))) (λ C. Ran C (now (plan .entry)) (now (words .entry)) (now (counts .entry)) (now (work .entry)) r (now (plan .exit)) (now (words .exit)) (now (counts .exit)) (now (work .exit))) ⌝ }
 {
+    let limit = words.len();
+    let mut tally = Tally {
+        spent: 0,
+        reserved: limit - room,
+        limit: limit,
+    };
     let mut k = 0;
-    let mut at = 0;
     let mut left = n;
     while left > 0 {
         if k == rooms {
@@ -85,8 +91,7 @@ pub fn stages(
             half,
             k,
             left,
-            at,
-            room - at,
+            tally,
         );
         let number = s.number;
         if number != 0 {
@@ -97,14 +102,14 @@ pub fn stages(
                 stage: k + 1,
             };
         }
-        at = at + s.words;
+        tally = spend(tally, s.words);
         left = s.waiting;
         k += 1;
     }
     Answer {
         number: 0,
         stages: k,
-        words: at,
+        words: tally.spent,
         stage: 0,
     }
 }

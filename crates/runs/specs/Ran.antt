@@ -39,4 +39,5 @@ pub record Ran (C : Context) (m at room : ℕ) (gates pl w words : List ℕ) (e 
   pub realised : Marked STACK MARK m (e .real) (written (C .X) pl .real) w′
   pub waits : (x : ℕ) → In x (written (C .X) pl .real) → In x (C .X .waiting)
   pub count : e .words ≡ length (written (C .X) pl .words)
+  pub few : e .words ≤ 128
   pub wrote : words′ ≡ noted at room (written (C .X) pl .words) words

@@ -6,6 +6,11 @@ use ending::last::last_words;
 use ending::rest::fill_rest;
 use runs::Spent;
 use runs::write_runs;
+use tally::Tally;
+use tally::is_over;
+use tally::left;
+use tally::spend;
+ghost use Rattle.tally.specs.Spending.{room, Counted};
 ghost use Rattle.rules.specs.Ending as rules;
 ghost use Rattle.walk.specs.Stands.{Some, Every, SomePlan, EveryPlan};
 ghost use Rattle.stage.specs.Finish.{FinishAt, Finished, RestingAt, LastingAt, Lasting, Ends};
@@ -99,7 +104,7 @@ fn finish_rest(
     }
 }
 
-// Rules 8 to 11.
+// Rules 8 to 11. Test 7 asks the tally with the runs' words.
 pub fn finish(
     gates: &[u32],
     stage: &mut [u32],
@@ -111,14 +116,15 @@ pub fn finish(
     o: usize,
     n: usize,
     q: usize,
-    at: usize,
-    room: usize,
+    tally: Tally,
 ) -> Outcome
-    requires { ⌜ Some (λ C. FinishAt C m height half o n q at room (now gates) (now stage) (now work) (now words)) ⌝ }
-    ensures { λ r. ⌜ Every (λ C. FinishAt C m height half o n q at room (now (gates .entry)) (now (stage .entry)) (now (work .entry)) (now (words .entry))) (λ C. Finished C m at room (rules.finish (C .X) room (now (stage .entry))) (now (stage .entry)) (now (work .entry)) (now (words .entry)) r (now (stage .exit)) (now (work .exit)) (now (words .exit))) ⌝ }
+    requires { ⌜ Counted tally × Some (λ C. FinishAt C m height half o n q (tally .spent) (room tally) (now gates) (now stage) (now work) (now words)) ⌝ }
+    ensures { λ r. ⌜ Every (λ C. FinishAt C m height half o n q (tally .spent) (room tally) (now (gates .entry)) (now (stage .entry)) (now (work .entry)) (now (words .entry))) (λ C. Finished C m (tally .spent) (room tally) (rules.finish (C .X) (room tally) (now (stage .entry))) (now (stage .entry)) (now (work .entry)) (now (words .entry)) r (now (stage .exit)) (now (work .exit)) (now (words .exit))) ⌝ }
 {
+    let at = tally.spent;
+    let room = left(tally);
     let s = write_runs(gates, stage, work, words, m, height, half, n, at, room);
-    if room < s.words {
+    if is_over(spend(tally, s.words)) {
         return Outcome {
             number: 7,
             words: 0,

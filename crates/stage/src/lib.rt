@@ -3,6 +3,8 @@ use finish::finish;
 use lean::filling::fill_tree;
 use prepare::forget;
 use prepare::prepare;
+use tally::Tally;
+ghost use Rattle.tally.specs.Spending.{room, Counted};
 ghost use Rattle.walk.specs.Stands.{Some, Every};
 ghost use Rattle.stage.specs.Stage.{StageAt, Staged};
 
@@ -10,8 +12,8 @@ mod finish;
 
 pub use finish::Outcome;
 
-// Builds a stage for n waiting pins in `stage`, which is empty; its words go behind `at`, where there is room for so many. m = N + 1, and
-// level 1 has `half` cells.
+// Builds a stage for n waiting pins in `stage`, which is empty; its words go behind those spent, as many as the tally leaves. m = N + 1,
+// and level 1 has `half` cells.
 pub fn build_one_stage(
     gates: &[u32],
     stage: &mut [u32],
@@ -21,11 +23,10 @@ pub fn build_one_stage(
     height: usize,
     half: usize,
     n: usize,
-    at: usize,
-    room: usize,
+    tally: Tally,
 ) -> Outcome
-    requires { ⌜ Some (λ C. StageAt C m height half n at room (now gates) (now stage) (now work) (now words)) ⌝ }
-    ensures { λ r. ⌜ Every (λ C. StageAt C m height half n at room (now (gates .entry)) (now (stage .entry)) (now (work .entry)) (now (words .entry))) (λ C. Staged C m at room (now (stage .entry)) (now (work .entry)) (now (words .entry)) r (now (stage .exit)) (now (work .exit)) (now (words .exit))) ⌝ }
+    requires { ⌜ Counted tally × Some (λ C. StageAt C m height half n (tally .spent) (room tally) (now gates) (now stage) (now work) (now words)) ⌝ }
+    ensures { λ r. ⌜ Every (λ C. StageAt C m height half n (tally .spent) (room tally) (now (gates .entry)) (now (stage .entry)) (now (work .entry)) (now (words .entry))) (λ C. Staged C m (tally .spent) (room tally) (now (stage .entry)) (now (work .entry)) (now (words .entry)) r (now (stage .exit)) (now (work .exit)) (now (words .exit))) ⌝ }
 {
     let walk = prepare(gates, work, m, n);
     let listed = walk.listed;
@@ -41,8 +42,7 @@ pub fn build_one_stage(
         listed,
         n,
         q,
-        at,
-        room,
+        tally,
     );
     forget(work, m, listed);
     r

@@ -9,9 +9,10 @@ use lib.Pow.{pow-mono}
 use lib.ListN.{length, length-append}
 use Rattle.rules.specs.Graph.{Node}
 use Rattle.rules.specs.Ending.{refused, stage, oneStage}
-use Rattle.rules.specs.Cells.{wordLimit}
+use Rattle.rules.specs.Cells.{empty, wordLimit}
 use Rattle.rules.specs.Build.{Stage, Answer, refusal, whole, more, before, stages, cellsOf, wordsOf, countsOf, refuse, reply, stagesOf}
 use Rattle.rules.proofs.Stage.Refusals.{before-refusal}
+use Rattle.rules.proofs.Build.Lengths.{length-padded}
 use Rattle.placer.specs.Answers.{told}
 use Rattle.placer.specs.Stages.{Course, answer, OneAt, One, StagesAt, Whole}
 
@@ -77,8 +78,8 @@ pub limit-small : (K : ℕ) → K ≤ 13 → 2 ^ (K - 5) ≤ 256
 limit-small K h = pow-mono {i = K - 5} {j = 8} (omega arith)
 
 module _ {C : Course} {m K half rooms k at n room : ℕ} {gates pl ws cs w : List ℕ} (A : StagesAt C m K half rooms k at n room gates pl ws cs w) where
-  pub next-at : 0 < n → k ≢ rooms → OneAt C m K half k n at (room - at) gates pl ws cs w
-  next-at h r = record { known = A .known; now = A .now; left = ap (λ (i : ℕ). i - at) (A .left); waits = h; more = omega (arith, A .now .few, A .all) }
+  pub next-at : {b : ℕ} → b ≡ room → 0 < n → k ≢ rooms → OneAt C m K half k n at (b - at) gates pl ws cs w
+  next-at e h r = record { known = A .known; now = A .now; left = ap (λ (i : ℕ). i - at) (e ∙ A .left); waits = h; more = omega (arith, A .now .few, A .all) }
 
   pub spent-within : at ≤ room
   spent-within = omega (arith, A .now .fits, A .left)
@@ -86,6 +87,12 @@ module _ {C : Course} {m K half rooms k at n room : ℕ} {gates pl ws cs w : Lis
   pub room-small : room ≤ 256
   unfolding wordLimit
   room-small = omega (arith, A .left, C .limit, limit-small (C .K) (C .high))
+
+  words-all : length ws ≡ wordLimit (C .K)
+  words-all = rw (A .now .words) (length-padded (wordLimit (C .K)) empty (wordsOf (A .now .ss)) (omega (arith, A .now .spent, A .now .fits, C .limit)))
+
+  pub room-within : room ≤ length ws
+  room-within = omega (arith, A .left, C .limit, words-all)
 
   pub rooms-nine : 0 < n → k ≡ rooms → answer C ≡ refusal 9 (suc k)
   rooms-nine h e =
@@ -104,8 +111,8 @@ module _ {C : Course} {m K half rooms k at n room : ℕ} {gates pl ws cs w : Lis
   pub still-rooms : 0 < n → k ≢ rooms → k < rooms
   still-rooms h r = omega (arith, A .now .few, A .all)
 
-  pub one-on : {number written left : ℕ} {pl′ ws′ cs′ w′ : List ℕ} → One C m k at pl ws cs w number written left pl′ ws′ cs′ w′ → number ≡ 0 → StagesAt C m K half rooms (k + 1) (at + written) left room gates pl′ ws′ cs′ w′
-  one-on O z = rw (add-one k) (record { known = A .known; now = O .on z; all = A .all; short = A .short; left = A .left })
+  pub one-on : {number written left : ℕ} {pl′ ws′ cs′ w′ : List ℕ} → One C m k at pl ws cs w number written left pl′ ws′ cs′ w′ → number ≡ 0 → {spent : ℕ} → spent ≡ at + written → StagesAt C m K half rooms (k + 1) spent left room gates pl′ ws′ cs′ w′
+  one-on O z e = rw (e, add-one k) (record { known = A .known; now = O .on z; all = A .all; short = A .short; left = A .left })
 
 -- what the answers tell
 pub refused-told : (C : Course) (number k : ℕ) → answer C ≡ refusal number (suc k) → told (record { number = number; stages = 0; words = 0; stage = k + 1 }) ≡ reply (answer C)

@@ -216,5 +216,6 @@ module _ {C : Context} {m K half n at room : ℕ} {gates pl w words : List ℕ} 
           realised = rw real-is (W .now .real);
           waits = rw real-is (W .now .waits);
           count = rw (words-are, length-map, length-take-le (e .words) (listed R) (rw (listed-length R (omega (arith, Q .size, Q .few))) (W .upto))) refl;
+          few = omega (arith, W .upto, Q .few);
           wrote = rw words-are (W .wrote);
         }

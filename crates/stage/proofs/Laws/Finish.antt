@@ -116,6 +116,10 @@ module _ {C : Context} {pl : List ℕ} {m K half o n q at room : ℕ} {s : Spent
 -- ---- rule 8 and test 7
 
 module _ {C : Context} {m K half o n q at room : ℕ} {gates pl w words : List ℕ} (A : FinishAt C m K half o n q at room gates pl w words) where
+  -- the same, where the room has another name
+  pub room-as : {r : ℕ} → r ≡ room → FinishAt C m K half o n q at r gates pl w words
+  room-as e = rw e A
+
   pub end-at : EndAt C m K half n at room gates pl w words
   end-at = record { stands = A .stands; begun = A .set .begun; height = A .height; row = A .row; marks = A .marks .zero; spare = A .spare .zero; fits = A .fits }
 
@@ -207,3 +211,9 @@ module _ {C : Context} {m K half o n q at room : ℕ} {gates pl w words : List �
               tail = W .tail;
             };
       }
+
+pub finished-as : {C : Context} {m at room r : ℕ} {pl w words : List ℕ} {e : Outcome} {pl′ w′ words′ : List ℕ} → r ≡ room → Finished C m at r (finish (C .X) r pl) pl w words e pl′ w′ words′ → Finished C m at room (finish (C .X) room pl) pl w words e pl′ w′ words′
+finished-as e F = rw (sym e) F
+
+pub fits-as : {n room r : ℕ} → r ≡ room → n ≤ room → n ≤ r
+fits-as e h = omega (arith, e, h)

@@ -7,16 +7,16 @@ use Rattle.placer.proofs.stages.next_stage.Statement.{statement}
 use Rattle.placer.proofs.stages.next_stage.Tie as tie
 
 mul-size : tie.Need-mul-size
-mul-size c = let A = c .before .before .before .before .before .pre .at in omega (arith, stage-size A, size-small A)
+mul-size c = let A = c .before .before .before .before .before .pre .1 .at in omega (arith, stage-size A, size-small A)
 
 mul-a : tie.Need-mul-a
-mul-a c = let A = c .before .before .before .before .before .pre .at in omega (arith, part-inside-plan A, c .before .before .before .before .before .good .1 .0 .0)
+mul-a c = let A = c .before .before .before .before .before .pre .1 .at in omega (arith, part-inside-plan A, c .before .before .before .before .before .good .1 .0 .0)
 
 add-e : tie.Need-add-e
-add-e c = let A = c .before .before .before .before .before .pre .at in omega (arith, part-inside-plan A, c .before .before .before .before .before .good .1 .0 .0)
+add-e c = let A = c .before .before .before .before .before .pre .1 .at in omega (arith, part-inside-plan A, c .before .before .before .before .before .good .1 .0 .0)
 
 mul-build-one-stage : tie.Need-mul-build-one-stage
-mul-build-one-stage c = let A = c .before .before .before .before .before .pre .at in omega (arith, part-inside-plan A, c .before .before .before .before .before .good .1 .0 .1)
+mul-build-one-stage c = let A = c .before .before .before .before .before .pre .1 .at in omega (arith, part-inside-plan A, c .before .before .before .before .before .good .1 .0 .1)
 
 sub-build-one-stage : tie.Need-sub-build-one-stage
 sub-build-one-stage c = search needs
@@ -25,10 +25,10 @@ part-build-one-stage-start : tie.Need-part-build-one-stage-start
 part-build-one-stage-start c = search needs
 
 part-build-one-stage-end : tie.Need-part-build-one-stage-end
-part-build-one-stage-end c = part-inside-plan (c .before .before .before .before .before .pre .at)
+part-build-one-stage-end c = part-inside-plan (c .before .before .before .before .before .pre .1 .at)
 
 build-one-stage-requires : tie.Need-build-one-stage-requires
-build-one-stage-requires c κs = record { C = _; at = stage-at (c .before .before .before .before .before .before .before .before .pre .at) refl refl }
+build-one-stage-requires c κs = (c .before .before .before .before .before .before .before .before .pre .0, record { C = _; at = stage-at (c .before .before .before .before .before .before .before .before .pre .1 .at) refl refl })
 
 same-length : tie.Need-same-length
 same-length c = search needs
@@ -43,13 +43,13 @@ returns : tie.Need-returns
 returns c = record { all = λ C A. refused-part A refl refl (c .before .before .before .before .before .before .before .before .build-one-stage .ensures .all (ctx A) (stage-at A refl refl)) (omega (arith, c .if1 .taken)) }
 
 cast-counts : tie.Need-cast-counts
-cast-counts c = let A = c .before .before .before .before .before .before .before .before .before .before .before .before .before .before .before .before .before .before .pre .at in record { fits = words-few A refl refl (c .before .before .before .before .before .before .before .before .before .build-one-stage .ensures .all (ctx A) (stage-at A refl refl)) (c .before .if1 .left) }
+cast-counts c = let A = c .before .before .before .before .before .before .before .before .before .before .before .before .before .before .before .before .before .before .pre .1 .at in record { fits = words-few A refl refl (c .before .before .before .before .before .before .before .before .before .build-one-stage .ensures .all (ctx A) (stage-at A refl refl)) (c .before .if1 .left) }
 
 mul-counts : tie.Need-mul-counts
-mul-counts c = let A = c .before .before .before .before .before .before .before .before .before .before .before .before .before .before .before .before .before .before .pre .at in omega (arith, counts-length A, A .more, c .before .before .before .before .before .before .before .before .before .before .before .before .before .before .before .before .before .before .good .1 .1 .1 .0 .1)
+mul-counts c = let A = c .before .before .before .before .before .before .before .before .before .before .before .before .before .before .before .before .before .before .pre .1 .at in omega (arith, counts-length A, A .more, c .before .before .before .before .before .before .before .before .before .before .before .before .before .before .before .before .before .before .good .1 .1 .1 .0 .1)
 
 slice-write-counts : tie.Need-slice-write-counts
-slice-write-counts c = let A = c .before .before .before .before .before .before .before .before .before .before .before .before .before .before .before .before .before .before .pre .at in omega (arith, counts-length A, A .more)
+slice-write-counts c = let A = c .before .before .before .before .before .before .before .before .before .before .before .before .before .before .before .before .before .before .pre .1 .at in omega (arith, counts-length A, A .more)
 
 same-length-4 : tie.Need-same-length-4
 same-length-4 c = search needs

@@ -1,27 +1,35 @@
--- `placer::stages::stages` meets its contract: one stage more, until no pin waits or one is refused. Assumes nothing.
-use Rattle.placer.proofs.Laws.Course.{still-rooms}
-use Prim.Native.Nat.{_-_}
-use mathlib.Core.Path.{_≡_, refl}
-use native.Mathlib.Omega.{arith}
-use lib.ListN.{length}
+use Rattle.tally.proofs.Laws.Tests.{counted-more, bound-same, spent-more}
+use Rattle.tally.specs.Spending.{bound, Counted}
+use Rattle.placer.proofs.Laws.Course.{still-rooms, next-at, spent-within, room-small, room-within, rooms-nine, one-on, refused-told, whole-told, whole-stands}
 use Rattle.placer.specs.Stages.{Every, StagesAt}
-use Rattle.placer.proofs.Laws.Course.{next-at, spent-within, room-small, rooms-nine, one-on, refused-told, whole-told, whole-stands}
+use lib.ListN.{length}
+use native.Mathlib.Omega.{arith}
+use mathlib.Core.Path.{_≡_, refl, _∙_}
+use Prim.Native.Nat.{_-_}
+-- `placer::stages::stages` meets its contract: one stage more, its words spent, until no pin waits or one is refused. Assumes nothing.
 use borrow.Author.Needs.{needs}
 use Rattle.placer.proofs.stages.stages.Statement.{statement}
 use Rattle.placer.proofs.stages.stages.Tie as tie
+use Rattle.placer.proofs.stages.stages.Reads as reads
+use Rattle.placer.proofs.stages.stages.Lts as lts
+use Rattle.placer.proofs.stages.next_stage.Reads as next-stage-reads
+use Rattle.tally.proofs.spend.Reads as spend-reads
 
 abbrev Inv-loop : tie.InvT-loop
-Inv-loop gates plan₀ words₀ counts₀ work₀ m height half rooms n room k₀ at₀ left₀ plan words counts work k at left =
-    Every (λ C. StagesAt C m height half rooms 0 0 n room gates plan₀ words₀ counts₀ work₀) (λ C. StagesAt C m height half rooms k at left room gates plan words counts work) × (length plan ≡ length plan₀) × (length words ≡ length words₀) × (length counts ≡ length counts₀) × (length work ≡ length work₀)
+Inv-loop gates plan₀ words₀ counts₀ work₀ m height half rooms n room limit tally₀ k₀ left₀ plan words counts work tally k left =
+    Every (λ C. StagesAt C m height half rooms 0 0 n room gates plan₀ words₀ counts₀ work₀) (λ C. StagesAt C m height half rooms k (tally .spent) left room gates plan words counts work) × (length plan ≡ length plan₀) × (length words ≡ length words₀) × (length counts ≡ length counts₀) × (length work ≡ length work₀) × Counted tally × (bound tally ≡ room)
 
 abbrev μ-loop : tie.MeasureT-loop
-μ-loop gates plan₀ words₀ counts₀ work₀ m height half rooms n room k₀ at₀ left₀ plan words counts work k at left = rooms - k
+μ-loop gates plan₀ words₀ counts₀ work₀ m height half rooms n room limit tally₀ k₀ left₀ plan words counts work tally k left = rooms - k
+
+sub-t18 : tie.Need-sub-t18 Inv-loop μ-loop
+sub-t18 c = room-within (c .before .before .before .before .before .pre .at)
 
 loop-holds : tie.Need-loop-holds Inv-loop μ-loop
-loop-holds c = (record { all = λ C A. A }, refl, refl, refl, refl)
+loop-holds c = (record { all = λ C A. A }, refl, refl, refl, refl, record { within = omega arith; spent = omega arith; small = omega (arith, c .before .before .before .before .before .good .1 .1 .0 .1) }, omega (arith, room-within (c .before .before .before .before .before .pre .at)))
 
-add-t18 : tie.Need-add-t18 Inv-loop μ-loop
-add-t18 c = let s = c .before .before .before .before .before .before .before .before .pre in let A = c .before .before .loop .inv .0 .all (s .C) (s .at) in omega (arith, A .now .few, A .all, A .short)
+add-t20 : tie.Need-add-t20 Inv-loop μ-loop
+add-t20 c = let s = c .before .before .before .before .before .before .before .before .pre in let A = c .before .before .loop .inv .0 .all (s .C) (s .at) in omega (arith, A .now .few, A .all, A .short)
 
 same-length : tie.Need-same-length Inv-loop μ-loop
 same-length c = search needs
@@ -38,14 +46,11 @@ same-length-4 c = search needs
 returns : tie.Need-returns Inv-loop μ-loop
 returns c = record { all = λ C A. let B = c .before .before .loop .inv .0 .all C A in let e = rooms-nine B (c .before .loop-test .taken) (c .if1 .taken) in record { kept = record { plan = c .before .before .loop .inv .1; words = c .before .before .loop .inv .2; counts = c .before .before .loop .inv .3; work = c .before .before .loop .inv .4 }; reply = refused-told C 9 _ e; whole = λ z. absurd (omega arith) } }
 
-sub-next-stage : tie.Need-sub-next-stage Inv-loop μ-loop
-sub-next-stage c = let s = c .before .before .before .before .before .before .before .before .before .before .before .before .pre in omega (arith, spent-within (c .before .before .before .before .before .before .loop .inv .0 .all (s .C) (s .at)))
-
 next-stage-requires : tie.Need-next-stage-requires Inv-loop μ-loop
-next-stage-requires c κs = let s = c .before .before .before .before .before .before .before .before .before .before .before .before .pre in record { C = s .C; at = next-at (c .before .before .before .before .before .before .loop .inv .0 .all (s .C) (s .at)) (c .before .before .before .before .before .loop-test .taken) (c .before .before .before .before .if1 .left) }
+next-stage-requires c κs = let s = c .before .before .before .before .before .before .before .before .before .before .before .before .pre in (c .before .before .before .before .before .before .loop .inv .5, record { C = s .C; at = next-at (c .before .before .before .before .before .before .loop .inv .0 .all (s .C) (s .at)) (c .before .before .before .before .before .before .loop .inv .6) (c .before .before .before .before .before .loop-test .taken) (c .before .before .before .before .if1 .left) })
 
-add-t28 : tie.Need-add-t28 Inv-loop μ-loop
-add-t28 c = let s = c .before .before .before .before .before .before .before .before .before .before .before .before .before .before .before .before .before .before .before .before .before .before .pre in let A = c .before .before .before .before .before .before .before .before .before .before .before .before .before .before .before .before .loop .inv .0 .all (s .C) (s .at) in omega (arith, still-rooms A (c .before .before .before .before .before .before .before .before .before .before .before .before .before .before .before .loop-test .taken) (c .before .before .before .before .before .before .before .before .before .before .before .before .before .before .if1 .left), c .before .before .before .before .before .before .before .before .before .before .before .before .before .before .before .before .before .before .before .before .before .before .fits .rooms)
+add-t29 : tie.Need-add-t29 Inv-loop μ-loop
+add-t29 c = let s = c .before .before .before .before .before .before .before .before .before .before .before .before .before .before .before .before .before .before .before .before .before .before .pre in let A = c .before .before .before .before .before .before .before .before .before .before .before .before .before .before .before .before .loop .inv .0 .all (s .C) (s .at) in omega (arith, still-rooms A (c .before .before .before .before .before .before .before .before .before .before .before .before .before .before .before .loop-test .taken) (c .before .before .before .before .before .before .before .before .before .before .before .before .before .before .if1 .left), c .before .before .before .before .before .before .before .before .before .before .before .before .before .before .before .before .before .before .before .before .before .before .fits .rooms)
 
 same-length-5 : tie.Need-same-length-5 Inv-loop μ-loop
 same-length-5 c = search needs
@@ -60,10 +65,10 @@ same-length-8 : tie.Need-same-length-8 Inv-loop μ-loop
 same-length-8 c = search needs
 
 returns-2 : tie.Need-returns-2 Inv-loop μ-loop
-returns-2 c = record { all = λ C A. let B = c .before .before .before .before .before .before .before .before .before .before .before .before .before .before .before .before .loop .inv .0 .all C A in let O = c .before .before .before .before .before .before .before .before .before .next-stage .ensures .all C (next-at B (c .before .before .before .before .before .before .before .before .before .before .before .before .before .before .before .loop-test .taken) (c .before .before .before .before .before .before .before .before .before .before .before .before .before .before .if1 .left)) in record { kept = record { plan = omega (arith, c .before .before .before .before .before .before .before .before .before .before .before .before .before .before .before .before .loop .inv .1, O .kept .plan); words = omega (arith, c .before .before .before .before .before .before .before .before .before .before .before .before .before .before .before .before .loop .inv .2, O .kept .words); counts = omega (arith, c .before .before .before .before .before .before .before .before .before .before .before .before .before .before .before .before .loop .inv .3, O .kept .counts); work = omega (arith, c .before .before .before .before .before .before .before .before .before .before .before .before .before .before .before .before .loop .inv .4, O .kept .work) }; reply = refused-told C _ _ (O .refused (omega (arith, c .if2 .taken))); whole = λ z. absurd (c .if2 .taken z) } }
+returns-2 c = record { all = λ C A. let I = c .before .before .before .before .before .before .before .before .before .before .before .before .before .before .before .before .loop .inv in let B = I .0 .all C A in let O = c .before .before .before .before .before .before .before .before .before .next-stage .ensures .all C (next-at B (I .6) (c .before .before .before .before .before .before .before .before .before .before .before .before .before .before .before .loop-test .taken) (c .before .before .before .before .before .before .before .before .before .before .before .before .before .before .if1 .left)) in record { kept = record { plan = omega (arith, I .1, O .kept .plan); words = omega (arith, I .2, O .kept .words); counts = omega (arith, I .3, O .kept .counts); work = omega (arith, I .4, O .kept .work) }; reply = refused-told C _ _ (O .refused (omega (arith, c .if2 .taken))); whole = λ z. absurd (c .if2 .taken z) } }
 
-add-at : tie.Need-add-at Inv-loop μ-loop
-add-at c = let s = c .before .before .before .before .before .before .before .before .before .before .before .before .before .before .before .before .before .before .before .before .before .before .before .pre in let A = c .before .before .before .before .before .before .before .before .before .before .before .before .before .before .before .before .before .loop .inv .0 .all (s .C) (s .at) in let O = c .before .before .before .before .before .before .before .before .before .before .next-stage .ensures .all (s .C) (next-at A (c .before .before .before .before .before .before .before .before .before .before .before .before .before .before .before .before .loop-test .taken) (c .before .before .before .before .before .before .before .before .before .before .before .before .before .before .before .if1 .left)) in let B = one-on A O (c .before .if2 .left) in omega (arith, spent-within B, room-small B)
+spend-requires : tie.Need-spend-requires Inv-loop μ-loop
+spend-requires c κs = let s = c .before .before .before .before .before .before .before .before .before .before .before .before .before .before .before .before .before .before .before .before .before .before .pre in let I = c .before .before .before .before .before .before .before .before .before .before .before .before .before .before .before .before .loop .inv in let A = I .0 .all (s .C) (s .at) in let O = c .before .before .before .before .before .before .before .before .before .next-stage .ensures .all (s .C) (next-at A (I .6) (c .before .before .before .before .before .before .before .before .before .before .before .before .before .before .before .loop-test .taken) (c .before .before .before .before .before .before .before .before .before .before .before .before .before .before .if1 .left)) in let B = one-on A O (c .if2 .left) refl in omega (arith, spent-within B, room-small B)
 
 add-k : tie.Need-add-k Inv-loop μ-loop
 add-k c = let s = c .before .before .before .before .before .before .before .before .before .before .before .before .before .before .before .before .before .before .before .before .before .before .before .pre in let A = c .before .before .before .before .before .before .before .before .before .before .before .before .before .before .before .before .before .loop .inv .0 .all (s .C) (s .at) in omega (arith, A .now .few, A .all, A .short)
@@ -72,7 +77,7 @@ loop-less : tie.Need-loop-less Inv-loop μ-loop
 loop-less c = let s = c .before .before .before .before .before .before .before .before .before .before .before .before .before .before .before .before .before .before .before .before .before .before .before .pre in let A = c .before .before .before .before .before .before .before .before .before .before .before .before .before .before .before .before .before .loop .inv .0 .all (s .C) (s .at) in omega (arith, still-rooms A (c .before .before .before .before .before .before .before .before .before .before .before .before .before .before .before .before .loop-test .taken) (c .before .before .before .before .before .before .before .before .before .before .before .before .before .before .before .if1 .left))
 
 loop-again : tie.Need-loop-again Inv-loop μ-loop
-loop-again c = (record { all = λ C A. let B = c .before .before .before .before .before .before .before .before .before .before .before .before .before .before .before .before .before .loop .inv .0 .all C A in one-on B (c .before .before .before .before .before .before .before .before .before .before .next-stage .ensures .all C (next-at B (c .before .before .before .before .before .before .before .before .before .before .before .before .before .before .before .before .loop-test .taken) (c .before .before .before .before .before .before .before .before .before .before .before .before .before .before .before .if1 .left))) (c .before .if2 .left) }, search needs, search needs, search needs, search needs)
+loop-again c = let s = c .before .before .before .before .before .before .before .before .before .before .before .before .before .before .before .before .before .before .before .before .before .before .before .pre in let I = c .before .before .before .before .before .before .before .before .before .before .before .before .before .before .before .before .before .loop .inv in let A = I .0 .all (s .C) (s .at) in let O = c .before .before .before .before .before .before .before .before .before .before .next-stage .ensures .all (s .C) (next-at A (I .6) (c .before .before .before .before .before .before .before .before .before .before .before .before .before .before .before .before .loop-test .taken) (c .before .before .before .before .before .before .before .before .before .before .before .before .before .before .before .if1 .left)) in let B = one-on A O (c .before .if2 .left) refl in (record { all = λ C A. let B = I .0 .all C A in one-on B (c .before .before .before .before .before .before .before .before .before .before .next-stage .ensures .all C (next-at B (I .6) (c .before .before .before .before .before .before .before .before .before .before .before .before .before .before .before .before .loop-test .taken) (c .before .before .before .before .before .before .before .before .before .before .before .before .before .before .before .if1 .left))) (c .before .if2 .left) (spent-more (I .5) _ (c .spend .ensures)) }, search needs, search needs, search needs, search needs, counted-more (I .5) _ (c .spend .ensures) (omega (arith, spent-within B, I .6)), bound-same (I .5) _ (c .spend .ensures) ∙ I .6)
 
 same-length-9 : tie.Need-same-length-9 Inv-loop μ-loop
 same-length-9 c = search needs
@@ -95,22 +100,22 @@ stages-spec =
     (tie.spec
     Inv-loop
     μ-loop
+    sub-t18
     loop-holds
-    add-t18
+    add-t20
     same-length
     same-length-2
     same-length-3
     same-length-4
     returns
-    sub-next-stage
     next-stage-requires
-    add-t28
+    add-t29
     same-length-5
     same-length-6
     same-length-7
     same-length-8
     returns-2
-    add-at
+    spend-requires
     add-k
     loop-less
     loop-again
