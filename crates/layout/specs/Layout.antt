@@ -4,8 +4,8 @@ use mathlib.Core.List.{List, [], map}
 use mathlib.Core.Path.{_≡_}
 use lib.ListN.{length, getD, take, drop}
 use Rattle.rules.specs.Lists.{sum, padded}
-use Rattle.rules.specs.Merge.{Part, addPart, splitBy, indicesOf, lengthsOf, stagesIn, wordsFor}
-use Rattle.slots.specs.Slots.{gathered, own, full, held, joined}
+use Rattle.rules.specs.Merge.{Part, addPart, splitBy, indicesOf, lengthsOf, stagesIn, wordsFor, joined}
+use Rattle.slots.specs.Slots.{gathered, own, full, held}
 use Rattle.slots.specs.Sorts.{order}
 use Rattle.layout.specs.declared.Totals.{Totals}
 

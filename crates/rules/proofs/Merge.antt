@@ -13,7 +13,7 @@ use Rattle.rules.specs.Cells.{rooms}
 use Rattle.rules.specs.Graph.{Node, graphOf}
 use Rattle.rules.specs.Records.{Group, output, groupsOf}
 use Rattle.rules.specs.Build.{Stage, Answer, refusal, whole, build, reply, wordsOf}
-use Rattle.rules.specs.Merge.{Common, Part, Rank, Round, none, some, Merged, Result, builtOf, partOf, rankOf, addRank, before, ranking, accepted, attempt, without, rounds, addPart, merging, Parts, bad, good, cons, original, sizeFor, mostStages, occupied, begun, named, MergeAnswer, turned, merged, merge, GroupList, splitBy, indicesOf, groupListAfter, mergeAnswerOf}
+use Rattle.rules.specs.Merge.{Common, Part, Rank, Round, none, some, Merged, Result, builtOf, partOf, rankOf, addRank, before, ranking, accepted, attempt, without, rounds, addPart, merging, Parts, bad, good, cons, original, sizeFor, mostStages, occupied, begun, named, MergeAnswer, turned, merged, merge, GroupList, splitBy, joined, indicesOf, groupListAfter, mergeAnswerOf}
 use Rattle.rules.proofs.Lists.Members.{In, split, true-false, eqb-true, eqb-same, in-here, in-there, in-cons, in-nil, count-append}
 use Rattle.rules.proofs.Stage.Last.{Once, nobody, one}
 
@@ -245,10 +245,6 @@ merging-ends J (suc f) (p ∷ ps) t h B (one a o) =
     }
 
 -- ---- the partitions as they are given
-
-unfoldable pub joined : List (List ℕ) → List ℕ
-joined [] = []
-joined (is ∷ rest) = is ++ joined rest
 
 record Given (J : Common) (i : ℕ) (parts : List (List ℕ)) (ps : List Part) : Type 0 where
   pub indices : indicesOf ps ≡ joined parts

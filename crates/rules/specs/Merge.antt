@@ -181,6 +181,11 @@ unfoldable pub splitBy : List ℕ → List ℕ → List (List ℕ)
 splitBy [] is = []
 splitBy (n ∷ ns) is = take n is ∷ splitBy ns (drop n is)
 
+-- and back
+unfoldable pub joined : List (List ℕ) → List ℕ
+joined [] = []
+joined (is ∷ rest) = is ++ joined rest
+
 -- for a merge the work area has 8 more numbers per partition and per group index
 unfoldable pub mergeWorkSize : (gates records : List ℕ) → GroupList → ℕ
 mergeWorkSize gates records l = workSize gates records + 8 * length (l .lengths) + 8 * length (l .indices)

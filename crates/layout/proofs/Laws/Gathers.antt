@@ -8,8 +8,8 @@ use native.Mathlib.Omega.{arith}
 use lib.ListN.{length, getD, take, drop, length-append, length-drop, length-map, take-append-drop}
 use lib.Seq.{take-suc, take-take, take-at, take-all, drop-drop, drop-nil, take-nil, length-take-le, getD-drop}
 use Rattle.rules.specs.Lists.{sum}
-use Rattle.rules.specs.Merge.{splitBy}
-use Rattle.slots.specs.Slots.{joined, own}
+use Rattle.rules.specs.Merge.{splitBy, joined}
+use Rattle.slots.specs.Slots.{own}
 use Rattle.slots.specs.Sorts.{order}
 use Rattle.slots.specs.Moves.{StartAt}
 use Rattle.slots.proofs.Laws.Sums.{sum-append, sum-next, sum-part}

@@ -9,9 +9,9 @@ use lib.ListN.{length, getD, take, drop, replicate, length-append, length-drop, 
 use lib.Seq.{ext-getD, getD-drop, getD-take, length-take-le, getD-append-add, drop-cons, take-all, take-take, drop-drop, drop-at, take-at, take-append-le, drop-append-le, drop-append-add}
 use borrow.Author.Tests.{ltb-true, ltb-false, eqb-true, not-false}
 use Rattle.rules.specs.Lists.{sum, padded}
-use Rattle.rules.specs.Merge.{Part, addPart, splitBy, indicesOf, lengthsOf, stagesIn, wordsFor}
+use Rattle.rules.specs.Merge.{Part, addPart, splitBy, indicesOf, lengthsOf, stagesIn, wordsFor, joined}
 use Rattle.rules.proofs.Lists.Members.{split}
-use Rattle.slots.specs.Slots.{gathered, own, full, held, joined}
+use Rattle.slots.specs.Slots.{gathered, own, full, held}
 use Rattle.slots.specs.Sorts.{order}
 use Rattle.slots.proofs.Laws.Best.{gathered-in, gathered-out}
 use Rattle.slots.proofs.Laws.Splits.{lengths-split}

@@ -7,9 +7,8 @@ use native.Mathlib.Omega.{arith}
 use lib.ListN.{length, getD, set, take, drop, length-append, length-drop, length-set, length-map, length-take, take-append-drop, drop-of-length-le, List·getD-map}
 use lib.Seq.{take-append-seam, drop-append-seam, length-take-le, take-take, take-set-lt, drop-set-lt, split-at, set-split, getD-take, take-at, drop-at, take-append-le, drop-append-le}
 use Rattle.rules.specs.Lists.{sum, every}
-use Rattle.rules.specs.Merge.{splitBy}
+use Rattle.rules.specs.Merge.{splitBy, joined}
 use Rattle.rules.proofs.Lists.Members.{split, and-true}
-use Rattle.slots.specs.Slots.{joined}
 use Rattle.slots.specs.Moves.{TurnAt, TakeAt, Taken}
 use Rattle.slots.proofs.Laws.Sums.{sum-part, sum-next}
 
