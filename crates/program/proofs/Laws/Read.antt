@@ -13,7 +13,7 @@ use Rattle.rules.specs.Graph.{graphOf, pinCount}
 use Rattle.rules.specs.Records.{Group}
 use Rattle.rules.specs.Job.{Job, mostBytes, mostHeight, mostPins, mostNumbers, bitsOf, numberOf, fitsProgram, noJob, job, readJob, jobBits, pinsBits, groupsBits, toByte, bytesOf, gatesFit, isMark, nodesFit}
 use Rattle.rules.proofs.Lists.Members.{and-true}
-use Rattle.rules.proofs.Build.Lengths.{length-upTo}
+use Rattle.rules.proofs.Lists.Lengths.{length-upTo}
 use Rattle.rules.proofs.Job.Bits.{Bytes, gather-width}
 use Rattle.rules.proofs.Job.Files.{Written, written, only-written}
 use Rattle.rules.specs.Listing.{refusedLine, jobText, printed}

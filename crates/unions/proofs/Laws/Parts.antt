@@ -9,7 +9,7 @@ use Rattle.columns.specs.Fields.{DONE, LEVEL, WAITING, CELLS, RANKED, STARTS, E
 use Rattle.columns.specs.Area.{Room}
 use Rattle.columns.specs.Lists.{list, Holds, Marks, Clear, Placed}
 use Rattle.columns.proofs.Area.Columns.{inside, same-col}
-use Rattle.walk.specs.Prepared.{Fresh}
+use Rattle.walk.specs.Stands.{Fresh}
 use Rattle.start.specs.Opening.{Idle, First}
 
 module _ {m : ℕ} (w v : List ℕ) (same : (j : ℕ) → j < 16 * m + RECORDS → getD v j 0 ≡ getD w j 0) where
