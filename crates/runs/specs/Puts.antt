@@ -18,8 +18,8 @@ use Rattle.tree.specs.Bits.{Standing}
 use Rattle.rules.proofs.Stage.Puts as rules-puts
 use Rattle.runs.specs.declared.puts.Puts.{Puts}
 use Rattle.runs.specs.declared.puts.Written.{Written}
-use Rattle.runs.specs.declared.sparse.Runs.{Runs}
-use Rattle.runs.specs.Runs.{listed}
+use Rattle.sparse.specs.declared.Runs.{Runs}
+use Rattle.sparse.specs.Runs.{listed}
 use Rattle.runs.specs.Laid.{noted}
 
 -- only what placing counts, and the realised pins, changed

@@ -8,7 +8,6 @@ ghost use Rattle.runs.specs.Ran.{EndAt, Ran};
 
 mod classes;
 mod puts;
-mod sparse;
 
 // What rule 8 leaves: is no waiting pin untouched, how many pins are realised, how many words written.
 pub struct Spent {

@@ -1,5 +1,4 @@
 // Rules 8 and 9: needed pins go into the empty cells of level 1. m = N + 1, and level 1 has `half` cells from position `half` on.
-use crate::sparse::Runs;
 use columns::MARK;
 use columns::PHASE;
 use columns::PLACE;
@@ -8,6 +7,7 @@ use columns::enlist;
 use columns::get;
 use columns::is_in;
 use columns::wide;
+use sparse::Runs;
 use tree::place_bit;
 ghost use mathlib.Core.Path.{_≡_};
 ghost use mathlib.Core.Bool.{_||_};

@@ -17,7 +17,8 @@ use Rattle.rules.proofs.Stage.Last.{nobody}
 use Rattle.rules.proofs.Written.Words.{once-insert}
 use Rattle.columns.proofs.Area.Frames.{frame-none, frame-then, frame-set-tail, frame-room}
 use Rattle.columns.proofs.Lists.Swap.{once-few, insert-old, insert-new}
-use Rattle.runs.proofs.Laws.Plain.{row-high, row-inside}
+use Rattle.runs.proofs.Laws.Plain.{row-high}
+use Rattle.sparse.proofs.Laws.Plain.{row-inside}
 use Rattle.ending.specs.Words.{isEnd, Spots, Kept, WordAt, Worded, Pins, CellAt, wordsAt, Celled, RowAt, part, Rowed, UpAt, wordsFrom, Rising, Upped}
 use Rattle.tree.proofs.Bits.Cells.{getD-any}
 

@@ -1,13 +1,12 @@
 -- Tests and rows. Assumes nothing.
 use mathlib.Core.Path.{_≡_, refl}
 use mathlib.Core.Bool.{Bool, true, false, not}
-use Prim.Native.Nat.{ℕ, zero, suc, _+_, _-_, _*_, _^_, _≤_}
+use Prim.Native.Nat.{ℕ, zero, suc, _-_, _*_, _≤_}
 use native.Mathlib.Omega.{arith}
 use lib.Dec.{eqb, ltb}
 use lib.Pow.{pow-mono}
 use borrow.Author.Tests.{ne-eqb, lt-ltb}
 use Rattle.rules.specs.Cells.{rowAt}
-use Rattle.rules.proofs.Stage.Staged.{two-step}
 
 pub not-not : (b : Bool) → not (not b) ≡ b
 not-not true = refl
@@ -20,7 +19,3 @@ not-zero (suc x) = rw (ne-eqb (suc x) 0 (λ e. omega arith), lt-ltb 0 (suc x) (o
 pub row-high : (K h : ℕ) → 1 ≤ h → h ≤ K → K ≤ 13 → 2 * rowAt K h ≤ 8192
 unfolding rowAt
 row-high K h l b k = omega (arith, pow-mono {i = K - h} {j = 12} (omega arith))
-
-pub row-inside : (K h n : ℕ) → n ≡ 2 ^ (K + 1) → 2 * rowAt K h ≤ n
-unfolding rowAt
-row-inside K h n e = omega (arith, two-step K, pow-mono {i = K - h} {j = K} (omega arith))

@@ -34,12 +34,12 @@ use Rattle.tree.specs.Bits.{Standing}
 use Rattle.tree.proofs.Bits.Standing.{stands-frame}
 use Rattle.runs.specs.declared.puts.Puts.{Puts}
 use Rattle.runs.specs.declared.puts.Written.{Written}
-use Rattle.runs.specs.declared.sparse.Runs.{Runs}
+use Rattle.sparse.specs.declared.Runs.{Runs}
 use Rattle.runs.specs.Classes.{isNeeded, isUntouched, SplitAt, Classes}
-use Rattle.runs.specs.Runs.{listed, RunsAt, Sorted}
+use Rattle.sparse.specs.Runs.{listed, RunsAt, Sorted}
 use Rattle.runs.specs.Puts.{putOf, wordsOf, WriteAt, Wrote}
 use Rattle.runs.specs.Ran.{EndAt, Ran}
-use Rattle.runs.proofs.Laws.Runs.{listed-length}
+use Rattle.sparse.proofs.Laws.Runs.{listed-length}
 use Rattle.runs.proofs.Laws.Plain.{not-not, not-zero}
 use Rattle.runs.proofs.Laws.Written.{noted-length}
 

@@ -19,12 +19,12 @@ use Rattle.columns.specs.Lists.{span}
 use Rattle.columns.proofs.Lists.Entries.{length-list}
 use Rattle.walk.specs.Stands.{Context}
 use Rattle.runs.specs.declared.puts.Puts.{Puts}
-use Rattle.runs.specs.declared.sparse.Sparse.{Sparse}
-use Rattle.runs.specs.declared.sparse.Runs.{Runs}
-use Rattle.runs.specs.Runs.{known, listed}
+use Rattle.sparse.specs.declared.Sparse.{Sparse}
+use Rattle.sparse.specs.declared.Runs.{Runs}
+use Rattle.sparse.specs.Runs.{known, listed}
 use Rattle.runs.specs.Puts.{putOf, RunAt, Noted, RecordAt, PutRecord, wordsOf, WriteAt, Writing, Wrote}
 use Rattle.runs.specs.Laid.{noted}
-use Rattle.runs.proofs.Laws.Runs.{map-append, listed-length, listed-next, listed-take}
+use Rattle.sparse.proofs.Laws.Runs.{map-append, listed-length, listed-next, listed-take}
 use Rattle.runs.proofs.Laws.Plain.{row-high}
 use Rattle.runs.proofs.Laws.Laid.{laid-none, laid-length, laid-more}
 use Rattle.runs.proofs.Laws.Puts.{moved-none, moved-then}
