@@ -13,3 +13,4 @@ pub mod Lean
 pub mod Demand
 pub mod Build
 pub mod Reservation
+pub mod Job

@@ -1,0 +1,209 @@
+-- The records of a job file: a reader takes exactly the bits that the writer makes. Assumes nothing.
+use Prim.Native.Nat.{ℕ, zero, suc, _+_, _-_, _*_, _/_, _%_, _^_, _≤_, _<_}
+use mathlib.Core.Path.{_≡_, refl, sym, ap, _∙_}
+use mathlib.Core.Bool.{Bool, true, false, _&&_}
+use mathlib.Core.List.{List, [], _∷_, _++_, append-assoc, append-nil}
+use native.Mathlib.Omega.{arith}
+use lib.Dec.{leb, ltb, eqb}
+use lib.ListN.{length, getD, take, drop, length-append, take-append-drop}
+use lib.Seq.{take-at, drop-at, length-take-le}
+use borrow.Author.Tests.{lt-ltb, ltb-true, ne-eqb}
+use Rattle.rules.specs.Lists.{every, gather}
+use Rattle.rules.specs.Records.{Group, output, flipFlop, memory, stagedPin, Groups?, unreadable, groups, sizeOf, groupAt, wholeAt, andThen, readFrom, read}
+use Rattle.rules.specs.Job.{bitsOf, Read, cut, got, next, field, fields, numberWidth, readRecord, readRecords, groupBits, groupsBits, literalFits, pinFits, groupFits, groupsFit}
+use Rattle.rules.proofs.Lists.Members.{split, and-true, eqb-true, eqb-false, true-false}
+use Rattle.rules.proofs.Job.Bits.{Bits}
+use Rattle.rules.proofs.Job.Fields.{every-parts, Through, through, no-cut, same-got, joined, Taken, field-got, field-only, fitsIn, AllTaken, fields-got, fields-only}
+
+-- ---- a record is its kind and the numbers behind it
+
+kinds : {P : Type 0} (k : ℕ) → 0 < sizeOf k → (k ≡ 1 → P) → (k ≡ 2 → P) → (k ≡ 3 → P) → (k ≡ 4 → P) → P
+unfolding sizeOf
+kinds k h a b c d = split (eqb k 1) (λ t. a (eqb-true k 1 t)) (λ t. split (eqb k 2) (λ u. b (eqb-true k 2 u)) (λ u. split (eqb k 3) (λ v. c (eqb-true k 3 v)) (λ v. split (eqb k 4) (λ w. d (eqb-true k 4 w))
+    (λ w. absurd (omega (arith, rw (t, sizeOf, u, v, w) at h))))))
+
+record Whole (k : ℕ) (xs : List ℕ) : Type 0 where
+  some : 0 < sizeOf k
+  inside : sizeOf k ≤ length xs
+
+whole : (k : ℕ) (xs : List ℕ) → wholeAt (k ∷ xs) ≡ true → Whole k xs
+unfolding wholeAt
+whole k xs e =
+    let h = and-true (ltb 0 (sizeOf k)) (ltb (sizeOf k) (suc (length xs))) e in
+    record { some = ltb-true 0 (sizeOf k) (h .0); inside = omega (arith, ltb-true (sizeOf k) (suc (length xs)) (h .1)) }
+
+-- its bits and its test, of whatever kind
+record Plain (k : ℕ) (xs : List ℕ) : Type 0 where
+  bits : groupBits (groupAt (k ∷ xs)) ≡ bitsOf 3 k ++ gather (bitsOf (numberWidth k)) (take (sizeOf k) xs)
+  fits : groupFits (groupAt (k ∷ xs)) ≡ every (fitsIn (numberWidth k)) (take (sizeOf k) xs)
+
+one-fits : (f : ℕ → Bool) (x : ℕ) → f x ≡ every f (x ∷ [])
+unfolding every
+one-fits f x = split (f x) (λ t. rw (t, every)) (λ t. rw (t, every))
+
+two-fit : (f : ℕ → Bool) (x y : ℕ) → f x && f y ≡ every f (x ∷ y ∷ [])
+unfolding every
+two-fit f x y = split (f x) (λ t. rw (t, every) (one-fits f y)) (λ t. rw (t, every))
+
+plain-one : (xs : List ℕ) → 1 ≤ length xs → Plain 1 xs
+unfolding groupBits groupFits groupAt sizeOf numberWidth gather literalFits
+plain-one [] h = absurd (omega arith)
+plain-one (l ∷ xs) h = record { bits = rw (append-nil (bitsOf 17 l)); fits = one-fits literalFits l }
+
+plain-two : (xs : List ℕ) → 2 ≤ length xs → Plain 2 xs
+unfolding groupBits groupFits groupAt sizeOf numberWidth gather literalFits
+plain-two [] h = absurd (omega arith)
+plain-two (e ∷ []) h = absurd (omega arith)
+plain-two (e ∷ d ∷ xs) h = record { bits = rw (append-nil (bitsOf 17 d), append-assoc (bitsOf 3 2) (bitsOf 17 e) (bitsOf 17 d)); fits = two-fit literalFits e d }
+
+plain-three : (xs : List ℕ) → Plain 3 xs
+unfolding groupBits groupFits groupAt sizeOf numberWidth literalFits
+plain-three xs = record { bits = refl; fits = refl }
+
+plain-four : (xs : List ℕ) → 1 ≤ length xs → Plain 4 xs
+unfolding groupBits groupFits groupAt sizeOf numberWidth gather pinFits
+plain-four [] h = absurd (omega arith)
+plain-four (p ∷ xs) h = record { bits = rw (append-nil (bitsOf 16 p)); fits = one-fits pinFits p }
+
+plain : (k : ℕ) (xs : List ℕ) → Whole k xs → Plain k xs
+unfolding sizeOf
+plain k xs W =
+    let h = W .inside in
+    kinds k (W .some)
+    (λ e. rw e (plain-one xs (omega (arith, ap sizeOf e))))
+    (λ e. rw e (plain-two xs (omega (arith, ap sizeOf e))))
+    (λ e. rw e (plain-three xs))
+    (λ e. rw e (plain-four xs (omega (arith, ap sizeOf e))))
+
+below-eight : (k : ℕ) → 0 < sizeOf k → k < 2 ^ 3
+below-eight k h = kinds k h (λ e. omega arith) (λ e. omega arith) (λ e. omega arith) (λ e. omega arith)
+
+-- ---- one record
+
+record-got : (k : ℕ) (xs rest : List ℕ) → Whole k xs → groupFits (groupAt (k ∷ xs)) ≡ true → readRecord (groupBits (groupAt (k ∷ xs)) ++ rest) ≡ got (k ∷ take (sizeOf k) xs) rest
+unfolding readRecord next
+record-got k xs rest W e =
+    let P = plain k xs W in
+    let w = numberWidth k in
+    let ys = take (sizeOf k) xs in
+    let h = W .some in
+    let n : eqb (sizeOf k) 0 ≡ false = ne-eqb (sizeOf k) 0 (λ z. omega arith) in
+    let l : length ys ≡ sizeOf k = length-take-le (sizeOf k) xs (W .inside) in
+    let f : fields (sizeOf k) w (gather (bitsOf w) ys ++ rest) ≡ got ys rest = rw l at (fields-got w ys rest (sym (P .fits) ∙ e)) in
+    rw (P .bits, append-assoc (bitsOf 3 k) (gather (bitsOf w) ys) rest, field-got 3 k (gather (bitsOf w) ys ++ rest) (below-eight k (W .some)), next, n, f, next)
+
+record RecordTaken (bs xs rest : List ℕ) : Type 0 where
+  k : ℕ
+  ys : List ℕ
+  these : xs ≡ k ∷ ys
+  size : length ys ≡ sizeOf k
+  some : 0 < sizeOf k
+  is : bs ≡ bitsOf 3 k ++ gather (bitsOf (numberWidth k)) ys ++ rest
+  below : every (fitsIn (numberWidth k)) ys ≡ true
+  bits : Bits rest
+
+record-only : (bs : List ℕ) {xs rest : List ℕ} → Bits bs → readRecord bs ≡ got xs rest → RecordTaken bs xs rest
+unfolding readRecord
+record-only bs {xs} {rest} B e =
+    let t = through (field 3 bs) (λ k cs. elim (eqb (sizeOf k) 0) [ true ↦ cut | false ↦ next (fields (sizeOf k) (numberWidth k) cs) (λ ys ds. got (k ∷ ys) ds) ]) e in
+    let k = t .a in
+    let f = field-only 3 bs B (t .first) in
+    split (eqb (sizeOf k) 0)
+    (λ z. no-cut (rw z at (t .second)))
+    (λ z.
+    let u = through (fields (sizeOf k) (numberWidth k) (t .b)) (λ ys ds. got (k ∷ ys) ds) (rw z at (t .second)) in
+    let g = fields-only (sizeOf k) (numberWidth k) (t .b) (f .bits) (u .first) in
+    same-got (RecordTaken bs) (u .second) (record {
+      k = k;
+      ys = u .a;
+      these = refl;
+      size = g .count;
+      some = let v = eqb-false (sizeOf k) 0 z in omega arith;
+      is = joined (bitsOf 3 k) (gather (bitsOf (numberWidth k)) (u .a)) (u .b) (f .is) (g .is);
+      below = g .below;
+      bits = g .bits;
+    }))
+
+-- ---- records in a row
+
+record Then (g : Group) (r : Groups?) (gs : List Group) : Type 0 where
+  rest : List Group
+  read : r ≡ groups rest
+  all : gs ≡ g ∷ rest
+
+and-then : (g : Group) (r : Groups?) {gs : List Group} → andThen g r ≡ groups gs → Then g r gs
+unfolding andThen
+and-then g unreadable e = absurd (let z : _≡_ {A = ℕ} 0 1 = cc in omega arith)
+and-then g (groups rest) e = record { rest = rest; read = refl; all = cc }
+
+from-got : (f : ℕ) (xs : List ℕ) (gs : List Group) (rest : List ℕ) → readFrom f xs ≡ groups gs → groupsFit gs ≡ true → readRecords (length gs) (groupsBits gs ++ rest) ≡ got xs rest
+unfolding readFrom readRecords groupsBits groupsFit next
+from-got zero [] gs rest e h = let z : gs ≡ [] = cc in rw z
+from-got zero (x ∷ xs) gs rest e h = absurd (let z : _≡_ {A = ℕ} 0 1 = cc in omega arith)
+from-got (suc f) [] gs rest e h = let z : gs ≡ [] = cc in rw z
+from-got (suc f) (k ∷ xs) gs rest e h = split (wholeAt (k ∷ xs))
+    (λ t.
+    let T = and-then (groupAt (k ∷ xs)) (readFrom f (drop (sizeOf k) xs)) (rw (t, readFrom) at e) in
+    let d = and-true (groupFits (groupAt (k ∷ xs))) (groupsFit (T .rest)) (rw (T .all, groupsFit) at h) in
+    let one = record-got k xs (groupsBits (T .rest) ++ rest) (whole k xs t) (d .0) in
+    let more = from-got f (drop (sizeOf k) xs) (T .rest) rest (T .read) (d .1) in
+    rw (T .all, append-assoc (groupBits (groupAt (k ∷ xs))) (groupsBits (T .rest)) rest, one, next, more, next, take-append-drop (sizeOf k) xs))
+    (λ t. absurd (let d : unreadable ≡ groups gs = rw (t, readFrom) at e in let z : _≡_ {A = ℕ} 0 1 = cc in omega arith))
+
+pub records-got : (xs : List ℕ) (gs : List Group) (rest : List ℕ) → read xs ≡ groups gs → groupsFit gs ≡ true → readRecords (length gs) (groupsBits gs ++ rest) ≡ got xs rest
+unfolding read
+records-got xs gs rest e h = from-got (length xs) xs gs rest e h
+
+pub record RecordsTaken (n : ℕ) (bs xs rest : List ℕ) : Type 0 where
+  pub all : List Group
+  pub count : length all ≡ n
+  pub read : (f : ℕ) → length xs ≤ f → readFrom f xs ≡ groups all
+  pub is : bs ≡ groupsBits all ++ rest
+  pub below : groupsFit all ≡ true
+  pub bits : Bits rest
+
+none-read : (f : ℕ) → readFrom f [] ≡ groups []
+unfolding readFrom
+none-read zero = refl
+none-read (suc f) = refl
+
+module _ (k : ℕ) (ys zs : List ℕ) (size : length ys ≡ sizeOf k) (some : 0 < sizeOf k) where
+  front : Whole k (ys ++ zs)
+  front = record { some = some; inside = omega (arith, length-append ys zs) }
+
+  front-whole : wholeAt (k ∷ (ys ++ zs)) ≡ true
+  unfolding wholeAt
+  front-whole = rw (lt-ltb 0 (sizeOf k) some, lt-ltb (sizeOf k) (suc (length (ys ++ zs))) (omega (arith, length-append ys zs)))
+
+  front-read : {all : List Group} → ((f : ℕ) → length zs ≤ f → readFrom f zs ≡ groups all) → (f : ℕ) → length (k ∷ (ys ++ zs)) ≤ f → readFrom f (k ∷ (ys ++ zs)) ≡ groups (groupAt (k ∷ (ys ++ zs)) ∷ all)
+  unfolding readFrom andThen
+  front-read r zero h = absurd (omega arith)
+  front-read r (suc f) h = rw (front-whole, readFrom, drop-at ys zs (sizeOf k) size, r f (omega (arith, length-append ys zs)))
+
+more-records : {bs cs xs : List ℕ} → RecordTaken bs xs cs → {n : ℕ} {zs rest : List ℕ} → RecordsTaken n cs zs rest → RecordsTaken (suc n) bs (xs ++ zs) rest
+unfolding groupsBits groupsFit
+more-records R {n} {zs} {rest} Q =
+    let k = R .k in
+    let ys = R .ys in
+    let P = plain k (ys ++ zs) (front k ys zs (R .size) (R .some)) in
+    let t : take (sizeOf k) (ys ++ zs) ≡ ys = take-at ys zs (sizeOf k) (R .size) in
+    let b : groupBits (groupAt (k ∷ (ys ++ zs))) ≡ bitsOf 3 k ++ gather (bitsOf (numberWidth k)) ys = rw t at (P .bits) in
+    let f : groupFits (groupAt (k ∷ (ys ++ zs))) ≡ true = (rw t at (P .fits)) ∙ R .below in
+    rw (R .these) (record {
+      all = groupAt (k ∷ (ys ++ zs)) ∷ Q .all;
+      count = ap suc (Q .count);
+      read = front-read k ys zs (R .size) (R .some) (Q .read);
+      is = rw b (joined (bitsOf 3 k ++ gather (bitsOf (numberWidth k)) ys) (groupsBits (Q .all)) rest (R .is) (Q .is));
+      below = rw (f, Q .below);
+      bits = Q .bits;
+    })
+
+pub records-only : (n : ℕ) (bs : List ℕ) {xs rest : List ℕ} → Bits bs → readRecords n bs ≡ got xs rest → RecordsTaken n bs xs rest
+unfolding readRecords groupsBits groupsFit
+records-only zero bs B e = same-got (RecordsTaken zero bs) e (record { all = []; count = refl; read = λ f h. none-read f; is = refl; below = refl; bits = B })
+records-only (suc n) bs B e =
+    let t = through (readRecord bs) (λ x cs. next (readRecords n cs) (λ ys ds. got (x ++ ys) ds)) e in
+    let f = record-only bs B (t .first) in
+    let u = through (readRecords n (t .b)) (λ ys ds. got (t .a ++ ys) ds) (t .second) in
+    let g = records-only n (t .b) (f .bits) (u .first) in
+    same-got (RecordsTaken (suc n) bs) (u .second) (more-records f g)
