@@ -2,3 +2,4 @@ pub mod Bits
 pub mod Fields
 pub mod Pins
 pub mod Records
+pub mod Files

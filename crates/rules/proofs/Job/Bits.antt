@@ -88,7 +88,7 @@ number-bits zero n m bs = let e : m ≡ m * 1 + n % 1 = omega arith in ap (numbe
 number-bits (suc w) n m bs =
     let d = n / 2 ^ w % 2 in
     let e : (2 * m + d) * 2 ^ w + n % 2 ^ w ≡ m * 2 ^ suc w + n % 2 ^ suc w =
-      rw (← one-add w, mod-pow-add n 1 w, pow-add 2 1 w) (omega (arith, add-mul (2 * m) d (2 ^ w), mul-assoc 2 m (2 ^ w), mul-assoc m 2 (2 ^ w), mul-comm m 2)) in
+    rw (← one-add w, mod-pow-add n 1 w, pow-add 2 1 w) (omega (arith, add-mul (2 * m) d (2 ^ w), mul-assoc 2 m (2 ^ w), mul-assoc m 2 (2 ^ w), mul-comm m 2)) in
     number-bits w n (2 * m + d) bs ∙ ap (numberOf bs) e
 
 pub number-of : (w n : ℕ) → n < 2 ^ w → numberOf (bitsOf w n) 0 ≡ n

@@ -26,7 +26,7 @@ unfolding readPin pinBits nodeFits literalFits next bitsOf gather every
 gate-got a b rest e =
     let h = and-true (ltb a (2 ^ 17)) (ltb b (2 ^ 17)) e in
     let f : fields 2 17 (gather (bitsOf 17) (a ∷ b ∷ []) ++ rest) ≡ got (a ∷ b ∷ []) rest =
-      fields-got 17 (a ∷ b ∷ []) rest (every-cons (fitsIn 17) a (b ∷ []) (h .0) (every-cons (fitsIn 17) b [] (h .1) refl)) in
+    fields-got 17 (a ∷ b ∷ []) rest (every-cons (fitsIn 17) a (b ∷ []) (h .0) (every-cons (fitsIn 17) b [] (h .1) refl)) in
     rw (field-got 1 1 (bitsOf 17 a ++ bitsOf 17 b ++ rest) (omega arith), next) f
 
 pin-got : (a b : ℕ) (rest : List ℕ) → nodeFits (nodeOf a b) ≡ true → readPin (pinBits (nodeOf a b) ++ rest) ≡ got (a ∷ b ∷ []) rest

@@ -5,7 +5,7 @@ use mathlib.Core.Bool.{Bool, true, false, _&&_}
 use mathlib.Core.List.{List, [], _∷_, _++_, append-assoc, append-nil}
 use native.Mathlib.Omega.{arith}
 use lib.Dec.{leb, ltb, eqb}
-use lib.ListN.{length, getD, take, drop, length-append, take-append-drop}
+use lib.ListN.{length, getD, take, drop, length-append, length-drop, take-append-drop}
 use lib.Seq.{take-at, drop-at, length-take-le}
 use borrow.Author.Tests.{lt-ltb, ltb-true, ne-eqb}
 use Rattle.rules.specs.Lists.{every, gather}
@@ -149,6 +149,22 @@ from-got (suc f) (k ∷ xs) gs rest e h = split (wholeAt (k ∷ xs))
     let more = from-got f (drop (sizeOf k) xs) (T .rest) rest (T .read) (d .1) in
     rw (T .all, append-assoc (groupBits (groupAt (k ∷ xs))) (groupsBits (T .rest)) rest, one, next, more, next, take-append-drop (sizeOf k) xs))
     (λ t. absurd (let d : unreadable ≡ groups gs = rw (t, readFrom) at e in let z : _≡_ {A = ℕ} 0 1 = cc in omega arith))
+
+-- a record takes a number at least
+from-length : (f : ℕ) (xs : List ℕ) (gs : List Group) → readFrom f xs ≡ groups gs → length gs ≤ length xs
+unfolding readFrom
+from-length zero [] gs e = let z : gs ≡ [] = cc in rw z (omega arith)
+from-length zero (x ∷ xs) gs e = absurd (let z : _≡_ {A = ℕ} 0 1 = cc in omega arith)
+from-length (suc f) [] gs e = let z : gs ≡ [] = cc in rw z (omega arith)
+from-length (suc f) (k ∷ xs) gs e = split (wholeAt (k ∷ xs))
+    (λ t.
+    let T = and-then (groupAt (k ∷ xs)) (readFrom f (drop (sizeOf k) xs)) (rw (t, readFrom) at e) in
+    rw (T .all) (omega (arith, from-length f (drop (sizeOf k) xs) (T .rest) (T .read), length-drop (sizeOf k) xs)))
+    (λ t. absurd (let d : unreadable ≡ groups gs = rw (t, readFrom) at e in let z : _≡_ {A = ℕ} 0 1 = cc in omega arith))
+
+pub read-length : (xs : List ℕ) (gs : List Group) → read xs ≡ groups gs → length gs ≤ length xs
+unfolding read
+read-length xs gs e = from-length (length xs) xs gs e
 
 pub records-got : (xs : List ℕ) (gs : List Group) (rest : List ℕ) → read xs ≡ groups gs → groupsFit gs ≡ true → readRecords (length gs) (groupsBits gs ++ rest) ≡ got xs rest
 unfolding read
