@@ -1,0 +1,4 @@
+pub mod Many
+pub mod Steps
+pub mod Walk
+pub mod Answers
