@@ -1,9 +1,9 @@
--- `job::steps::number_width` meets its contract. Assumes nothing.
+-- `bits::number_width` meets its contract. Assumes nothing.
 use Rattle.rules.specs.Job.{numberWidth}
 use borrow.Author.Tests.{eq-eqb, ne-eqb}
 use borrow.Author.Needs.{needs}
-use Rattle.job.proofs.steps.number_width.Statement.{statement}
-use Rattle.job.proofs.steps.number_width.Tie as tie
+use Rattle.bits.proofs.number_width.Statement.{statement}
+use Rattle.bits.proofs.number_width.Tie as tie
 
 returns : tie.Need-returns
 unfolding numberWidth
