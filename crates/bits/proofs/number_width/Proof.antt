@@ -1,7 +1,6 @@
 -- `bits::number_width` meets its contract. Assumes nothing.
 use Rattle.rules.specs.Job.{numberWidth}
 use borrow.Author.Tests.{eq-eqb, ne-eqb}
-use borrow.Author.Needs.{needs}
 use Rattle.bits.proofs.number_width.Statement.{statement}
 use Rattle.bits.proofs.number_width.Tie as tie
 

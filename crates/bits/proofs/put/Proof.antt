@@ -1,5 +1,4 @@
 -- `bits::put` meets its contract: the bits that are left give the number's. Assumes nothing.
-use native.Mathlib.Omega.{arith}
 use Rattle.bits.proofs.Laws.Putting.{Going, going-all, going-bit, going-none}
 use borrow.Author.Needs.{needs}
 use Rattle.bits.proofs.put.Statement.{statement}

@@ -1,6 +1,6 @@
 -- `bits::with_bit` meets its contract: the new bit's weight comes, the old one's goes. Assumes nothing.
 use native.Mathlib.Omega.{arith}
-use Rattle.bits.proofs.Laws.Putting.{Weighed, weigh, with-bit}
+use Rattle.bits.proofs.Laws.Putting.{weigh, with-bit}
 use borrow.Author.Needs.{needs}
 use Rattle.bits.proofs.with_bit.Statement.{statement}
 use Rattle.bits.proofs.with_bit.Tie as tie
