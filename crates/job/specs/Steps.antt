@@ -1,7 +1,7 @@
 -- A step of the walk through a job file: where it ends, and the area with what was read. Assumes nothing.
 use mathlib.Core.Path.{_≡_}
 use mathlib.Core.List.{List, [], _∷_}
-use Prim.Native.Nat.{ℕ, _+_, _*_, _^_, _<_, _≤_}
+use Prim.Native.Nat.{ℕ, _+_, _*_, _<_, _≤_}
 use lib.ListN.{length, drop}
 use lib.Seq.{sets}
 use Rattle.rules.specs.Job.{Read, cut, got, next, field}

@@ -1,13 +1,12 @@
 -- The walk through a whole job file, and whether what it met is a job. Assumes nothing.
 use mathlib.Core.Path.{_≡_}
 use mathlib.Core.Bool.{Bool, _&&_}
-use mathlib.Core.List.{List, [], _∷_}
-use Prim.Native.Nat.{ℕ, _+_, _*_, _/_, _<_, _≤_}
+use mathlib.Core.List.{List}
+use Prim.Native.Nat.{ℕ, _*_, _/_, _<_, _≤_}
 use lib.Dec.{leb}
 use lib.ListN.{length, drop}
 use lib.Seq.{sets}
-use Rattle.rules.specs.Cells.{empty}
-use Rattle.rules.specs.Job.{Job, Read, cut, got, isPadding, readFields}
+use Rattle.rules.specs.Job.{Job, cut, got, isPadding, readFields}
 use Rattle.bits.specs.Fields.{bitsIn}
 
 -- the job that was read, and how many numbers its lists have

@@ -1,13 +1,14 @@
 // The walk through a job file. A number is stored where the area reaches so far, so that an area of length 0 only measures. A step
 // that ends past the end met a cut.
 use bits::field;
+use bits::number_width;
 use graph::EMPTY;
 use records::kind_of;
 use records::size_of;
 ghost use mathlib.Core.Path.{_≡_};
 ghost use Prim.Native.Nat.{_≤_};
 ghost use lib.ListN.{length, set};
-ghost use Rattle.rules.specs.Job.{fields, readPin, readPins, numberWidth, readRecord, readRecords};
+ghost use Rattle.rules.specs.Job.{fields, readPin, readPins, readRecord, readRecords};
 ghost use Rattle.job.specs.Steps.{oneField, counted, At, FieldsAt, SectionAt, Took, Counted};
 
 // The bit behind what was read, and how many numbers are stored.
@@ -117,13 +118,6 @@ fn read_pins(bytes: &[u8], from: usize, n: usize, area: &mut [u32], s: usize) ->
         at: at,
         count: count,
     }
-}
-
-// The bits of a number behind a kind.
-fn number_width(kind: u32) -> usize
-    ensures { λ r. ⌜ r ≡ numberWidth kind ⌝ }
-{
-    if kind == 4 { 16 } else { 17 }
 }
 
 // A kind and its numbers.

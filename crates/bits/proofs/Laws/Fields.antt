@@ -1,5 +1,5 @@
 -- A bit of bytes, and a number bit after bit. Assumes nothing.
-use mathlib.Core.Path.{_≡_, refl, sym, ap, _∙_}
+use mathlib.Core.Path.{_≡_, refl}
 use mathlib.Core.Bool.{true, false}
 use mathlib.Core.List.{List, [], _∷_, _++_}
 use Prim.Native.Nat.{ℕ, zero, suc, _+_, _-_, _*_, _/_, _%_, _^_, _<_, _≤_}
@@ -11,7 +11,7 @@ use lib.Dec.{leb}
 use borrow.Author.Tests.{le-leb, lt-leb}
 use lib.Pow.{pow-mono}
 use Rattle.rules.specs.Lists.{gather}
-use Rattle.rules.specs.Job.{bitsOf, numberOf, Read, cut, got, field}
+use Rattle.rules.specs.Job.{bitsOf, numberOf, cut, got, field}
 use Rattle.rules.proofs.Job.Bits.{Bits, bits-gather, bits-take, bits-drop, number-below, gather-width}
 use Rattle.bits.specs.Fields.{bitsIn, FieldAt, FieldIs}
 

@@ -1,7 +1,6 @@
 -- `bits::field` meets its contract: the number of the bits so far. Assumes nothing.
 use Prim.Native.Nat.{_-_}
 use native.Mathlib.Omega.{arith}
-use denote.Ref.{now}
 use Rattle.bits.proofs.Laws.Fields.{Summed, summed-none, summed-more, summed-done}
 use borrow.Author.Needs.{needs}
 use Rattle.bits.proofs.field.Statement.{statement}

@@ -1,8 +1,8 @@
 -- The answer of reading, by the two walks. Assumes nothing.
-use mathlib.Core.Path.{_≡_, refl, sym, ap, _∙_}
+use mathlib.Core.Path.{_≡_, sym, _∙_}
 use mathlib.Core.Bool.{Bool, true, false, _&&_}
-use mathlib.Core.List.{List, [], _∷_, _++_}
-use Prim.Native.Nat.{ℕ, zero, suc, _+_, _-_, _*_, _/_, _<_, _≤_}
+use mathlib.Core.List.{List}
+use Prim.Native.Nat.{ℕ, _+_, _-_, _*_, _<_, _≤_}
 use native.Mathlib.Omega.{arith}
 use lib.Dec.{leb}
 use lib.ListN.{length, drop}
@@ -10,12 +10,12 @@ use lib.Seq.{sets, sets-eq}
 use borrow.Author.Tests.{le-leb, lt-leb, leb-true, leb-false}
 use Rattle.rules.specs.Lists.{laidOver}
 use Rattle.rules.specs.Graph.{pinCount}
-use Rattle.rules.specs.Job.{Job, Job?, noJob, job, Read, cut, got, readFields, isPadding, fitsProgram, accept, readJob}
-use Rattle.rules.proofs.Lists.Members.{split, and-true, true-false}
+use Rattle.rules.specs.Job.{Job, Job?, noJob, job, got, readFields, isPadding, fitsProgram, accept, readJob}
+use Rattle.rules.proofs.Lists.Members.{split, and-true}
 use Rattle.rules.proofs.Bools.{and-none}
 use Rattle.rules.proofs.Job.Fields.{no-cut}
 use Rattle.bits.specs.Fields.{bitsIn}
-use Rattle.job.specs.Walk.{Met, Measured, MeasuredIn, Stored, Walked, sized, accepts}
+use Rattle.job.specs.Walk.{Met, Measured, MeasuredIn, Walked, sized, accepts}
 use Rattle.job.specs.Answers.{Outcome, refused, roomFor, laid, readInto}
 
 -- ---- has it room

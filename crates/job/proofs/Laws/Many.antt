@@ -2,20 +2,16 @@
 use mathlib.Core.Path.{_≡_, refl, sym, ap, _∙_}
 use mathlib.Core.List.{List, [], _∷_, _++_, append-assoc, append-nil}
 use Prim.Native.Nat.{ℕ, zero, suc, _+_, _-_, _*_, _<_, _≤_}
-use native.Mathlib.Nat.{add-zero}
 use native.Mathlib.Omega.{arith}
-use lib.ListN.{length, set, drop, length-append}
-use lib.Seq.{sets, length-sets}
+use lib.ListN.{length, drop, length-append}
+use lib.Seq.{sets}
 use Rattle.rules.specs.Job.{Read, cut, got, next, field, fields, readPin, readPins, readRecord, readRecords}
 use Rattle.bits.specs.Fields.{bitsIn}
-use Rattle.job.specs.Steps.{oneField, counted, At, FieldsAt, All, Took, CountIs, Counted}
+use Rattle.bits.proofs.Laws.Putting.{sets-append}
+use Rattle.job.specs.Steps.{oneField, counted, At, FieldsAt, Took, Counted}
 
 abbrev pub Reader : Type 0
 Reader = List ℕ → Read (List ℕ)
-
-pub sets-append : (a : List ℕ) (s : ℕ) (xs ys : List ℕ) → sets (sets a s xs) (s + length xs) ys ≡ sets a s (xs ++ ys)
-sets-append a s [] ys = rw (add-zero s)
-sets-append a s (x ∷ xs) ys = let e : s + suc (length xs) ≡ suc s + length xs = omega arith in rw e (sets-append (set a s x) (suc s) xs ys)
 
 -- ---- n readings
 

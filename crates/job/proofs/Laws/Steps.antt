@@ -1,22 +1,20 @@
 -- One field, one pin, one record, one count. Assumes nothing.
-use mathlib.Core.Path.{_≡_, refl, sym, ap, _∙_}
-use mathlib.Core.Bool.{true, false}
+use mathlib.Core.Path.{_≡_, refl, ap, _∙_}
 use mathlib.Core.List.{List, [], _∷_}
-use Prim.Native.Nat.{ℕ, zero, suc, _+_, _-_, _*_, _<_, _≤_}
+use Prim.Native.Nat.{ℕ, _+_, _-_, _*_, _<_, _≤_}
 use native.Mathlib.Numerals.{add-one}
 use native.Mathlib.Omega.{arith}
 use lib.Dec.{eqb}
 use lib.ListN.{length, set, drop, length-set}
-use lib.Seq.{sets}
 use borrow.Author.Tests.{eq-eqb, ne-eqb}
 use Rattle.rules.specs.Cells.{empty}
 use Rattle.rules.specs.Records.{sizeOf}
-use Rattle.rules.specs.Job.{Read, cut, got, next, field, fields, numberWidth, readPin, readRecord}
+use Rattle.rules.specs.Job.{got, next, field, fields, numberWidth, readPin, readRecord}
 use Rattle.records.specs.Values.{known}
 use Rattle.records.proofs.Reading.{known-size}
-use Rattle.bits.specs.Fields.{bitsIn, FieldAt, FieldIs}
+use Rattle.bits.specs.Fields.{bitsIn, FieldIs}
 use Rattle.bits.proofs.Laws.Fields.{field-there, field-lost}
-use Rattle.job.specs.Steps.{oneField, At, FieldsAt, All, Took, CountIs, Counted}
+use Rattle.job.specs.Steps.{oneField, At, FieldsAt, Took, Counted}
 use Rattle.rules.proofs.Lists.Members.{split}
 use Rattle.job.proofs.Laws.Many.{took-lost}
 

@@ -2,9 +2,9 @@
 use mathlib.Core.Path.{_≡_, refl, sym, ap, _∙_}
 use mathlib.Core.Bool.{Bool, true, false, _&&_}
 use mathlib.Core.List.{List, [], _∷_, _++_}
-use Prim.Native.Nat.{ℕ, zero, suc, _+_, _-_, _*_, _/_, _<_, _≤_}
+use Prim.Native.Nat.{ℕ, _+_, _-_, _*_, _/_, _<_, _≤_}
 use native.Mathlib.Omega.{arith}
-use lib.Dec.{leb, ltb, eqb}
+use lib.Dec.{leb, eqb}
 use lib.ListN.{length, set, take, drop, length-set, length-drop}
 use lib.Seq.{sets, take-all}
 use borrow.Author.Tests.{le-leb, lt-leb, leb-true, leb-false, lt-ltb, le-ltb, eq-eqb, ne-eqb}
@@ -15,8 +15,8 @@ use Rattle.rules.proofs.Lists.Members.{split, eqb-true, eqb-false}
 use Rattle.rules.proofs.Bools.{and-right, and-none}
 use Rattle.bits.specs.Fields.{bitsIn, FieldIs}
 use Rattle.bits.proofs.Laws.Fields.{field-there, field-lost, bits-length}
-use Rattle.job.specs.Steps.{counted, At, All, Took}
-use Rattle.job.specs.Walk.{Met, Measured, MeasuredIn, Stored, Walked, sized, accepts}
+use Rattle.job.specs.Steps.{counted, Took}
+use Rattle.job.specs.Walk.{Met, MeasuredIn, Walked, sized, accepts}
 
 -- ---- the fields, section by section
 

@@ -1,6 +1,5 @@
 -- `job::has_room` meets its contract. Assumes nothing.
 use Rattle.job.proofs.Laws.Answers.{room-gates, room-given, room-records}
-use borrow.Author.Needs.{needs}
 use Rattle.job.proofs.has_room.Statement.{statement}
 use Rattle.job.proofs.has_room.Tie as tie
 

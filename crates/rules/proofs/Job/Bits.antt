@@ -1,12 +1,11 @@
 -- Numbers in bits and bytes, and back. Assumes nothing.
-use Prim.Native.Nat.{ℕ, zero, suc, _+_, _-_, _*_, _/_, _%_, _^_, _≤_, _<_}
+use Prim.Native.Nat.{ℕ, zero, suc, _+_, _-_, _*_, _/_, _%_, _^_, _<_}
 use mathlib.Core.Path.{_≡_, refl, sym, ap, _∙_}
-use mathlib.Core.Bool.{true, false}
-use mathlib.Core.List.{List, [], _∷_, _++_, map, append-nil}
-use native.Mathlib.Nat.{div-one, pow-suc, div-div-eq-div-mul, mod-eq-of-lt, mod-lt, div-lt-iff-lt-mul, add-mul, mul-assoc, mul-comm}
+use mathlib.Core.List.{List, [], _∷_, _++_, map, append-nil, append-assoc}
+use native.Mathlib.Nat.{div-one, pow-suc, div-div-eq-div-mul, mod-eq-of-lt, div-lt-iff-lt-mul, add-mul, mul-assoc, mul-comm}
 use native.Mathlib.Numerals.{one-add}
 use native.Mathlib.Omega.{arith}
-use lib.ListN.{length, getD, take, drop, length-append, length-take, length-drop, take-append-drop}
+use lib.ListN.{length, getD, take, drop, length-append, length-drop, take-append-drop}
 use lib.Seq.{getD-drop, drop-drop, take-at, drop-at, length-take-le}
 use lib.Pow.{pow-pos, pow-add, mod-pow-add}
 use Rattle.rules.specs.Lists.{gather, upTo}
@@ -125,6 +124,30 @@ blocks-bits (suc n) bs B e =
 
 pub bytes-bits : (bs : List ℕ) → Bits bs → length bs % 8 ≡ 0 → gather (bitsOf 8) (bytesOf bs) ≡ bs
 bytes-bits bs B e = rw (blocks-of bs) (blocks-bits (length bs / 8) bs B (omega arith))
+
+-- bits behind whole bytes make bytes behind bytes
+blocks-append : (n m : ℕ) (bs cs : List ℕ) → length bs ≡ 8 * n → blocks (n + m) (bs ++ cs) ≡ blocks n bs ++ blocks m cs
+unfolding blocks
+blocks-append zero m [] cs e = let d : 0 + m ≡ m = omega arith in rw d
+blocks-append zero m (b ∷ bs) cs e = absurd (omega arith)
+blocks-append (suc n) m bs cs e =
+    let d : suc n + m ≡ suc (n + m) = omega arith in
+    let l : length (take 8 bs) ≡ 8 = length-take-le 8 bs (omega arith) in
+    let f : bs ++ cs ≡ take 8 bs ++ (drop 8 bs ++ cs) = ap (λ (r : List ℕ). r ++ cs) (sym (take-append-drop 8 bs)) ∙ append-assoc (take 8 bs) (drop 8 bs) cs in
+    rw (d, f, take-at (take 8 bs) (drop 8 bs ++ cs) 8 l, drop-at (take 8 bs) (drop 8 bs ++ cs) 8 l) (ap (λ (r : List ℕ). numberOf (take 8 bs) 0 ∷ r) (blocks-append n m (drop 8 bs) cs (omega (arith, length-drop 8 bs))))
+
+pub bytes-append : (bs cs : List ℕ) → length bs % 8 ≡ 0 → bytesOf (bs ++ cs) ≡ bytesOf bs ++ bytesOf cs
+bytes-append bs cs e =
+    let d : length (bs ++ cs) / 8 ≡ length bs / 8 + length cs / 8 = omega (arith, length-append bs cs) in
+    rw (blocks-of (bs ++ cs), blocks-of bs, blocks-of cs, d) (blocks-append (length bs / 8) (length cs / 8) bs cs (omega arith))
+
+blocks-length : (n : ℕ) (bs : List ℕ) → length (blocks n bs) ≡ n
+unfolding blocks
+blocks-length zero bs = refl
+blocks-length (suc n) bs = ap suc (blocks-length n (drop 8 bs))
+
+pub bytes-length : (bs : List ℕ) → length (bytesOf bs) ≡ length bs / 8
+bytes-length bs = rw (blocks-of bs) (blocks-length (length bs / 8) bs)
 
 -- the bytes of the bits of bytes
 pub record Bytes (xs : List ℕ) : Type 0 where

@@ -1,22 +1,22 @@
 -- The job file as a whole: what is written is read back, and only what is written is read. Assumes nothing.
-use Prim.Native.Nat.{ℕ, zero, suc, _+_, _-_, _*_, _/_, _%_, _^_, _≤_, _<_}
+use Prim.Native.Nat.{ℕ, zero, suc, _+_, _-_, _/_, _%_, _^_, _≤_}
 use mathlib.Core.Path.{_≡_, refl, sym, ap, _∙_}
-use mathlib.Core.Bool.{Bool, true, false, _&&_}
-use mathlib.Core.List.{List, [], _∷_, _++_, append-assoc, append-nil}
+use mathlib.Core.Bool.{true, _&&_}
+use mathlib.Core.List.{List, [], _∷_, _++_, append-assoc}
 use native.Mathlib.Omega.{arith}
 use lib.Dec.{leb, ltb, eqb}
-use lib.ListN.{length, getD, take, drop, replicate, length-append, length-drop, length-replicate, take-append-drop}
+use lib.ListN.{length, take, drop, replicate, length-append, length-drop, length-replicate}
 use borrow.Author.Tests.{lt-ltb, ltb-true, le-leb, leb-true, eq-eqb, eqb-true}
 use Rattle.rules.specs.Lists.{every, gather}
 use Rattle.rules.specs.Cells.{empty}
 use Rattle.rules.specs.Graph.{Node, leaf, gate, nodeOf, graphOf, pinCount}
 use Rattle.rules.specs.Records.{Group, output, flipFlop, memory, stagedPin, Groups?, unreadable, groups, readFrom, read}
-use Rattle.rules.specs.Job.{Job, Job?, noJob, job, File?, noFile, file, Read, cut, got, next, field, fields, mostBytes, bitsOf, numberOf, readPins, readRecords, readFields, fitsProgram, isPadding, accept, readJob, pinBits, pinsBits, groupBits, groupsBits, jobBits, toByte, bytesOf, isMark, pinFits, nodeFits, nodesFit, groupsFit, gatesFit, fileOf, writeJob}
-use Rattle.rules.proofs.Lists.Members.{split, and-true, true-false}
-use Rattle.rules.proofs.Job.Bits.{Bits, bits-none, bits-cons, bits-append, bits-of, bits-gather, width, gather-width, Bytes, bytes-bits, bits-bytes}
-use Rattle.rules.proofs.Job.Fields.{every-cons, every-parts, Through, through, no-cut, same-got, joined, Taken, field-got, field-only, fitsIn, AllTaken, fields-got, fields-only}
-use Rattle.rules.proofs.Job.Pins.{PinsTaken, pins-got, pins-only}
-use Rattle.rules.proofs.Job.Records.{RecordsTaken, read-length, records-got, records-only}
+use Rattle.rules.specs.Job.{Job, noJob, job, noFile, file, Read, cut, got, next, field, fields, mostBytes, bitsOf, readPins, readRecords, readFields, fitsProgram, isPadding, accept, readJob, pinBits, pinsBits, groupBits, groupsBits, jobBits, toByte, bytesOf, isMark, pinFits, nodeFits, nodesFit, groupsFit, gatesFit, fileOf, writeJob}
+use Rattle.rules.proofs.Lists.Members.{split, and-true}
+use Rattle.rules.proofs.Job.Bits.{Bits, bits-none, bits-cons, bits-append, bits-of, bits-gather, gather-width, Bytes, bytes-bits, bits-bytes}
+use Rattle.rules.proofs.Job.Fields.{every-parts, through, same-got, joined, field-got, field-only, fields-got, fields-only}
+use Rattle.rules.proofs.Job.Pins.{pins-got, pins-only}
+use Rattle.rules.proofs.Job.Records.{read-length, records-got, records-only}
 
 -- ---- the fields in a row
 
@@ -258,10 +258,13 @@ bits-job J gs =
     bits-append _ _ (bits-append _ _ (bits-append _ _ (bits-append _ _ (bits-append _ _ (bits-append _ _ (bits-of 4 (J .height)) (bits-of 16 (pinCount (J .gates) - 1)))
     (bits-pins (graphOf (drop 2 (J .gates))))) (bits-of 16 (length (J .given)))) (bits-gather 16 (J .given))) (bits-of 16 (length gs))) (bits-groups gs)
 
+pub byte-length : (bs : List ℕ) → length (toByte bs) % 8 ≡ 0
+unfolding toByte
+byte-length bs = omega (arith, length-append bs (replicate ((8 - length bs % 8) % 8) 0), length-replicate {A = ℕ} ((8 - length bs % 8) % 8) 0)
+
 pub byte-bits : (bs : List ℕ) → Bits bs → gather (bitsOf 8) (bytesOf (toByte bs)) ≡ toByte bs
 unfolding toByte
-byte-bits bs B = bytes-bits (bs ++ replicate ((8 - length bs % 8) % 8) 0) (bits-append bs (replicate ((8 - length bs % 8) % 8) 0) B (bits-zeros ((8 - length bs % 8) % 8)))
-    (omega (arith, length-append bs (replicate ((8 - length bs % 8) % 8) 0), length-replicate {A = ℕ} ((8 - length bs % 8) % 8) 0))
+byte-bits bs B = bytes-bits (bs ++ replicate ((8 - length bs % 8) % 8) 0) (bits-append bs (replicate ((8 - length bs % 8) % 8) 0) B (bits-zeros ((8 - length bs % 8) % 8))) (byte-length bs)
 
 -- ---- the file
 

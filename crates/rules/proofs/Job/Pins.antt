@@ -1,19 +1,19 @@
 -- The pins of a job file: a reader takes exactly the bits that the writer makes. Assumes nothing.
-use Prim.Native.Nat.{ℕ, zero, suc, _+_, _-_, _*_, _/_, _%_, _^_, _≤_, _<_}
-use mathlib.Core.Path.{_≡_, refl, sym, ap, _∙_}
-use mathlib.Core.Bool.{Bool, true, false, _&&_}
-use mathlib.Core.List.{List, [], _∷_, _++_, append-assoc, append-nil}
+use Prim.Native.Nat.{ℕ, zero, suc, _+_, _-_, _*_, _/_, _%_, _^_}
+use mathlib.Core.Path.{_≡_, refl, ap, _∙_}
+use mathlib.Core.Bool.{true, false, _&&_}
+use mathlib.Core.List.{List, [], _∷_, _++_, append-assoc}
 use native.Mathlib.Omega.{arith}
-use lib.Dec.{leb, ltb, eqb}
+use lib.Dec.{ltb, eqb}
 use lib.ListN.{length}
-use borrow.Author.Tests.{lt-ltb, ltb-true, ne-eqb}
+use borrow.Author.Tests.{ltb-true, ne-eqb}
 use Rattle.rules.specs.Lists.{every, gather}
 use Rattle.rules.specs.Cells.{empty}
-use Rattle.rules.specs.Graph.{Node, leaf, gate, nodeOf, graphOf}
-use Rattle.rules.specs.Job.{bitsOf, Read, got, next, field, fields, readPin, readPins, pinBits, pinsBits, literalFits, nodeFits, nodesFit}
+use Rattle.rules.specs.Graph.{leaf, gate, nodeOf, graphOf}
+use Rattle.rules.specs.Job.{bitsOf, got, next, field, fields, readPin, readPins, pinBits, pinsBits, literalFits, nodeFits, nodesFit}
 use Rattle.rules.proofs.Lists.Members.{split, and-true, eqb-true, eqb-false}
 use Rattle.rules.proofs.Job.Bits.{Bits}
-use Rattle.rules.proofs.Job.Fields.{every-cons, every-parts, Through, through, same-got, joined, Taken, field-got, field-only, fitsIn, AllTaken, fields-got, fields-only}
+use Rattle.rules.proofs.Job.Fields.{every-cons, every-parts, through, same-got, joined, field-got, field-only, fitsIn, AllTaken, fields-got, fields-only}
 
 -- ---- one pin
 

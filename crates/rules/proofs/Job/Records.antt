@@ -1,19 +1,19 @@
 -- The records of a job file: a reader takes exactly the bits that the writer makes. Assumes nothing.
-use Prim.Native.Nat.{ℕ, zero, suc, _+_, _-_, _*_, _/_, _%_, _^_, _≤_, _<_}
+use Prim.Native.Nat.{ℕ, zero, suc, _+_, _-_, _^_, _≤_, _<_}
 use mathlib.Core.Path.{_≡_, refl, sym, ap, _∙_}
 use mathlib.Core.Bool.{Bool, true, false, _&&_}
 use mathlib.Core.List.{List, [], _∷_, _++_, append-assoc, append-nil}
 use native.Mathlib.Omega.{arith}
-use lib.Dec.{leb, ltb, eqb}
-use lib.ListN.{length, getD, take, drop, length-append, length-drop, take-append-drop}
+use lib.Dec.{ltb, eqb}
+use lib.ListN.{length, take, drop, length-append, length-drop, take-append-drop}
 use lib.Seq.{take-at, drop-at, length-take-le}
 use borrow.Author.Tests.{lt-ltb, ltb-true, ne-eqb}
 use Rattle.rules.specs.Lists.{every, gather}
-use Rattle.rules.specs.Records.{Group, output, flipFlop, memory, stagedPin, Groups?, unreadable, groups, sizeOf, groupAt, wholeAt, andThen, readFrom, read}
-use Rattle.rules.specs.Job.{bitsOf, Read, cut, got, next, field, fields, numberWidth, readRecord, readRecords, groupBits, groupsBits, literalFits, pinFits, groupFits, groupsFit}
-use Rattle.rules.proofs.Lists.Members.{split, and-true, eqb-true, eqb-false, true-false}
+use Rattle.rules.specs.Records.{Group, Groups?, unreadable, groups, sizeOf, groupAt, wholeAt, andThen, readFrom, read}
+use Rattle.rules.specs.Job.{bitsOf, cut, got, next, field, fields, numberWidth, readRecord, readRecords, groupBits, groupsBits, literalFits, pinFits, groupFits, groupsFit}
+use Rattle.rules.proofs.Lists.Members.{split, and-true, eqb-true, eqb-false}
 use Rattle.rules.proofs.Job.Bits.{Bits}
-use Rattle.rules.proofs.Job.Fields.{every-parts, Through, through, no-cut, same-got, joined, Taken, field-got, field-only, fitsIn, AllTaken, fields-got, fields-only}
+use Rattle.rules.proofs.Job.Fields.{through, no-cut, same-got, joined, field-got, field-only, fitsIn, fields-got, fields-only}
 
 -- ---- a record is its kind and the numbers behind it
 
@@ -33,9 +33,9 @@ whole k xs e =
     record { some = ltb-true 0 (sizeOf k) (h .0); inside = omega (arith, ltb-true (sizeOf k) (suc (length xs)) (h .1)) }
 
 -- its bits and its test, of whatever kind
-record Plain (k : ℕ) (xs : List ℕ) : Type 0 where
-  bits : groupBits (groupAt (k ∷ xs)) ≡ bitsOf 3 k ++ gather (bitsOf (numberWidth k)) (take (sizeOf k) xs)
-  fits : groupFits (groupAt (k ∷ xs)) ≡ every (fitsIn (numberWidth k)) (take (sizeOf k) xs)
+pub record Plain (k : ℕ) (xs : List ℕ) : Type 0 where
+  pub bits : groupBits (groupAt (k ∷ xs)) ≡ bitsOf 3 k ++ gather (bitsOf (numberWidth k)) (take (sizeOf k) xs)
+  pub fits : groupFits (groupAt (k ∷ xs)) ≡ every (fitsIn (numberWidth k)) (take (sizeOf k) xs)
 
 one-fits : (f : ℕ → Bool) (x : ℕ) → f x ≡ every f (x ∷ [])
 unfolding every
@@ -74,6 +74,9 @@ plain k xs W =
     (λ e. rw e (plain-two xs (omega (arith, ap sizeOf e))))
     (λ e. rw e (plain-three xs))
     (λ e. rw e (plain-four xs (omega (arith, ap sizeOf e))))
+
+pub plain-at : (k : ℕ) (xs : List ℕ) → wholeAt (k ∷ xs) ≡ true → Plain k xs
+plain-at k xs t = plain k xs (whole k xs t)
 
 below-eight : (k : ℕ) → 0 < sizeOf k → k < 2 ^ 3
 below-eight k h = kinds k h (λ e. omega arith) (λ e. omega arith) (λ e. omega arith) (λ e. omega arith)

@@ -1,6 +1,5 @@
 -- `job::walk::is_sized` meets its contract. Assumes nothing.
 use Rattle.job.proofs.Laws.Walk.{size-height, size-pins, size-numbers}
-use borrow.Author.Needs.{needs}
 use Rattle.job.proofs.walk.is_sized.Statement.{statement}
 use Rattle.job.proofs.walk.is_sized.Tie as tie
 
