@@ -6,30 +6,23 @@ use mathlib.Core.Path.{_≡_, refl, sym, ap, _∙_}
 use native.Mathlib.Numerals.{add-one}
 use native.Mathlib.Nat.{add-zero}
 use native.Mathlib.Omega.{arith}
-use lib.Dec.{ltb, eqb}
+use lib.Dec.{ltb}
 use lib.ListN.{length, getD, take, drop, length-drop, length-map, drop-of-length-le, List·getD-eq-default, List·getD-map}
 use mathlib.Core.Logic.{_⊎_, inl, inr}
 use lib.Seq.{drop-cons, getD-drop, getD-take, length-take-le, drop-drop}
-use borrow.Author.Tests.{lt-ltb, le-ltb, ltb-true, eqb-true, eqb-false, ne-eqb}
+use borrow.Author.Tests.{lt-ltb, le-ltb}
 use Rattle.rules.specs.Lists.{every}
 use Rattle.rules.specs.Graph.{pinOf}
 use Rattle.rules.specs.Records.{Group, Groups?, unreadable, groups, sizeOf, groupAt, wholeAt, andThen, readFrom, read, endpointsOf, allNamed}
 use Rattle.rules.specs.Checks.{groupsRight}
-use Rattle.rules.proofs.Lists.Members.{split, and-true}
+use Rattle.rules.proofs.Lists.Members.{split}
+use Rattle.rules.proofs.Job.Kinds.{kinds, whole}
 use Rattle.cells.specs.Answers.{orZero}
 use Rattle.cells.proofs.Heights.{orZero-true, orZero-false}
 use Rattle.records.specs.Values.{known, namedBy, sizeAt, endpointAt, recordRight}
 use Rattle.rules.proofs.Bools.{and-none}
 
 -- the kinds
-pub unknown : (k : ℕ) → (k ≡ 1 → ⊥) → (k ≡ 2 → ⊥) → (k ≡ 3 → ⊥) → (k ≡ 4 → ⊥) → sizeOf k ≡ 0
-unfolding sizeOf
-unknown k a b c d = rw (ne-eqb k 1 a, sizeOf, ne-eqb k 2 b, ne-eqb k 3 c, ne-eqb k 4 d)
-
-kinds : {P : Type 0} (k : ℕ) → (k ≡ 1 → P) → (k ≡ 2 → P) → (k ≡ 3 → P) → (k ≡ 4 → P) → (sizeOf k ≡ 0 → P) → P
-kinds k a b c d e = split (eqb k 1) (λ t. a (eqb-true k 1 t)) (λ t. split (eqb k 2) (λ u. b (eqb-true k 2 u)) (λ u. split (eqb k 3) (λ v. c (eqb-true k 3 v)) (λ v. split (eqb k 4) (λ w. d (eqb-true k 4 w))
-    (λ w. e (unknown k (eqb-false k 1 t) (eqb-false k 2 u) (eqb-false k 3 v) (eqb-false k 4 w))))))
-
 pub known-none : (k : ℕ) → sizeOf k ≡ 0 → known k ≡ 0
 unfolding known
 known-none k e = rw e (orZero-false k)
@@ -43,14 +36,6 @@ unfolding known
 known-is k h = rw (lt-ltb 0 (sizeOf k) h) (orZero-true k)
 
 -- the whole record at the front: it has as many endpoint pins as numbers, each named by its number
-pub record Whole (xs : List ℕ) : Type 0 where
-  pub some : 0 < sizeOf (getD xs 0 0)
-  pub inside : sizeOf (getD xs 0 0) < length xs
-
-pub whole : (xs : List ℕ) → wholeAt xs ≡ true → Whole xs
-unfolding wholeAt
-whole xs e = let h = and-true (ltb 0 (sizeOf (getD xs 0 0))) (ltb (sizeOf (getD xs 0 0)) (length xs)) e in record { some = ltb-true _ _ (h .0); inside = ltb-true _ _ (h .1) }
-
 pub endpoints-length : (xs : List ℕ) → wholeAt xs ≡ true → length (endpointsOf (groupAt xs)) ≡ sizeOf (getD xs 0 0)
 unfolding endpointsOf groupAt sizeOf
 endpoints-length [] t = let w = whole [] t in absurd (omega (arith, w .inside))

@@ -1,3 +1,4 @@
+pub mod Kinds
 pub mod Bits
 pub mod Fields
 pub mod Pins

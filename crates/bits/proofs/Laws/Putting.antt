@@ -159,3 +159,8 @@ going-none {left = suc left} h G = absurd (omega arith)
 
 pub shifted : (i : ℕ) → i < 8 → 1 * 2 ^ (7 - i) % 2 ^ 32 ≡ 2 ^ (7 - i)
 shifted i h = let l : 2 ^ (7 - i) ≤ 2 ^ 7 = pow-mono {i = 7 - i} {j = 7} (omega arith) in let small : 2 ^ (7 - i) < 2 ^ 32 = omega arith in omega (arith, mod-eq-of-lt small)
+
+-- an empty part comes back as it was
+pub none-back : (ys gs : List ℕ) → length ys ≡ 0 → ys ++ gs ≡ gs
+none-back [] gs e = refl
+none-back (y ∷ ys) gs e = absurd (omega arith)

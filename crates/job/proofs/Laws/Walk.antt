@@ -15,6 +15,7 @@ use Rattle.rules.proofs.Lists.Members.{split, eqb-true, eqb-false}
 use Rattle.rules.proofs.Bools.{and-right, and-none}
 use Rattle.bits.specs.Fields.{bitsIn, FieldIs}
 use Rattle.bits.proofs.Laws.Fields.{field-there, field-lost, bits-length}
+use Rattle.bits.proofs.Laws.Putting.{none-back}
 use Rattle.job.specs.Steps.{counted, Took}
 use Rattle.job.specs.Walk.{Met, MeasuredIn, Walked, sized, accepts}
 
@@ -147,10 +148,6 @@ unfolding accepts
 accepts-is xs at K ng nc h e d = d ∙ sym (rw (le-leb at (8 * length xs) h, e))
 
 -- ---- an empty part comes back as it was
-
-none-back : (ys gs : List ℕ) → length ys ≡ 0 → ys ++ gs ≡ gs
-none-back [] gs e = refl
-none-back (y ∷ ys) gs e = absurd (omega arith)
 
 pub measured-in : {xs : List ℕ} (g v c : List ℕ) {g′ v′ c′ : List ℕ} {at K ng nv nc : ℕ} → Walked xs [] [] [] g′ v′ c′ at K ng nv nc → MeasuredIn xs g v c (g′ ++ g) (v′ ++ v) (c′ ++ c) at K ng nv nc
 measured-in g v c {g′} {v′} {c′} W = record { measured = W .measured; gates = none-back g′ g (W .gates); given = none-back v′ v (W .given); records = none-back c′ c (W .records) }

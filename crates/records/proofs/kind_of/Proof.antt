@@ -1,7 +1,8 @@
 use Rattle.rules.specs.Records.{sizeOf}
 use Rattle.cells.specs.Answers.{orZero}
 use Rattle.records.specs.Values.{numberOf, known}
-use Rattle.records.proofs.Reading.{unknown, known-none}
+use Rattle.rules.proofs.Job.Kinds.{unknown}
+use Rattle.records.proofs.Reading.{known-none}
 use mathlib.Core.Path.{sym}
 use Rattle.records.proofs.kind_of.Statement.{statement}
 use Rattle.records.proofs.kind_of.Tie as tie

@@ -4,33 +4,22 @@ use mathlib.Core.Path.{_≡_, refl, sym, ap, _∙_}
 use mathlib.Core.Bool.{Bool, true, false, _&&_}
 use mathlib.Core.List.{List, [], _∷_, _++_, append-assoc, append-nil}
 use native.Mathlib.Omega.{arith}
-use lib.Dec.{ltb, eqb}
+use lib.Dec.{eqb}
 use lib.ListN.{length, take, drop, length-append, length-drop, take-append-drop}
 use lib.Seq.{take-at, drop-at, length-take-le}
-use borrow.Author.Tests.{lt-ltb, ltb-true, ne-eqb}
+use borrow.Author.Tests.{lt-ltb, ne-eqb}
 use Rattle.rules.specs.Lists.{every, gather}
-use Rattle.rules.specs.Records.{Group, Groups?, unreadable, groups, sizeOf, groupAt, wholeAt, andThen, readFrom, read}
+use Rattle.rules.specs.Records.{Group, groups, sizeOf, groupAt, wholeAt, andThen, readFrom, read}
 use Rattle.rules.specs.Job.{bitsOf, cut, got, next, field, fields, numberWidth, readRecord, readRecords, groupBits, groupsBits, literalFits, pinFits, groupFits, groupsFit}
-use Rattle.rules.proofs.Lists.Members.{split, and-true, eqb-true, eqb-false}
+use Rattle.rules.proofs.Lists.Members.{split, and-true, eqb-false}
+use Rattle.rules.proofs.Job.Kinds.{kinds, Whole, whole, not-groups, and-then}
 use Rattle.rules.proofs.Job.Bits.{Bits}
 use Rattle.rules.proofs.Job.Fields.{through, no-cut, same-got, joined, field-got, field-only, fitsIn, fields-got, fields-only}
 
 -- ---- a record is its kind and the numbers behind it
 
-kinds : {P : Type 0} (k : ℕ) → 0 < sizeOf k → (k ≡ 1 → P) → (k ≡ 2 → P) → (k ≡ 3 → P) → (k ≡ 4 → P) → P
-unfolding sizeOf
-kinds k h a b c d = split (eqb k 1) (λ t. a (eqb-true k 1 t)) (λ t. split (eqb k 2) (λ u. b (eqb-true k 2 u)) (λ u. split (eqb k 3) (λ v. c (eqb-true k 3 v)) (λ v. split (eqb k 4) (λ w. d (eqb-true k 4 w))
-    (λ w. absurd (omega (arith, rw (t, sizeOf, u, v, w) at h))))))
-
-record Whole (k : ℕ) (xs : List ℕ) : Type 0 where
-  some : 0 < sizeOf k
-  inside : sizeOf k ≤ length xs
-
-whole : (k : ℕ) (xs : List ℕ) → wholeAt (k ∷ xs) ≡ true → Whole k xs
-unfolding wholeAt
-whole k xs e =
-    let h = and-true (ltb 0 (sizeOf k)) (ltb (sizeOf k) (suc (length xs))) e in
-    record { some = ltb-true 0 (sizeOf k) (h .0); inside = omega (arith, ltb-true (sizeOf k) (suc (length xs)) (h .1)) }
+known : {P : Type 0} (k : ℕ) → 0 < sizeOf k → (k ≡ 1 → P) → (k ≡ 2 → P) → (k ≡ 3 → P) → (k ≡ 4 → P) → P
+known k h a b c d = kinds k a b c d (λ e. absurd (omega arith))
 
 -- its bits and its test, of whatever kind
 pub record Plain (k : ℕ) (xs : List ℕ) : Type 0 where
@@ -65,25 +54,25 @@ unfolding groupBits groupFits groupAt sizeOf numberWidth gather pinFits
 plain-four [] h = absurd (omega arith)
 plain-four (p ∷ xs) h = record { bits = rw (append-nil (bitsOf 16 p)); fits = one-fits pinFits p }
 
-plain : (k : ℕ) (xs : List ℕ) → Whole k xs → Plain k xs
+plain : (k : ℕ) (xs : List ℕ) → Whole (k ∷ xs) → Plain k xs
 unfolding sizeOf
 plain k xs W =
     let h = W .inside in
-    kinds k (W .some)
+    known k (W .some)
     (λ e. rw e (plain-one xs (omega (arith, ap sizeOf e))))
     (λ e. rw e (plain-two xs (omega (arith, ap sizeOf e))))
     (λ e. rw e (plain-three xs))
     (λ e. rw e (plain-four xs (omega (arith, ap sizeOf e))))
 
 pub plain-at : (k : ℕ) (xs : List ℕ) → wholeAt (k ∷ xs) ≡ true → Plain k xs
-plain-at k xs t = plain k xs (whole k xs t)
+plain-at k xs t = plain k xs (whole (k ∷ xs) t)
 
 below-eight : (k : ℕ) → 0 < sizeOf k → k < 2 ^ 3
-below-eight k h = kinds k h (λ e. omega arith) (λ e. omega arith) (λ e. omega arith) (λ e. omega arith)
+below-eight k h = known k h (λ e. omega arith) (λ e. omega arith) (λ e. omega arith) (λ e. omega arith)
 
 -- ---- one record
 
-record-got : (k : ℕ) (xs rest : List ℕ) → Whole k xs → groupFits (groupAt (k ∷ xs)) ≡ true → readRecord (groupBits (groupAt (k ∷ xs)) ++ rest) ≡ got (k ∷ take (sizeOf k) xs) rest
+record-got : (k : ℕ) (xs rest : List ℕ) → Whole (k ∷ xs) → groupFits (groupAt (k ∷ xs)) ≡ true → readRecord (groupBits (groupAt (k ∷ xs)) ++ rest) ≡ got (k ∷ take (sizeOf k) xs) rest
 unfolding readRecord next
 record-got k xs rest W e =
     let P = plain k xs W in
@@ -91,7 +80,7 @@ record-got k xs rest W e =
     let ys = take (sizeOf k) xs in
     let h = W .some in
     let n : eqb (sizeOf k) 0 ≡ false = ne-eqb (sizeOf k) 0 (λ z. omega arith) in
-    let l : length ys ≡ sizeOf k = length-take-le (sizeOf k) xs (W .inside) in
+    let l : length ys ≡ sizeOf k = length-take-le (sizeOf k) xs (omega (arith, W .inside)) in
     let f : fields (sizeOf k) w (gather (bitsOf w) ys ++ rest) ≡ got ys rest = rw l at (fields-got w ys rest (sym (P .fits) ∙ e)) in
     rw (P .bits, append-assoc (bitsOf 3 k) (gather (bitsOf w) ys) rest, field-got 3 k (gather (bitsOf w) ys ++ rest) (below-eight k (W .some)), next, n, f, next)
 
@@ -129,41 +118,31 @@ record-only bs {xs} {rest} B e =
 
 -- ---- records in a row
 
-record Then (g : Group) (r : Groups?) (gs : List Group) : Type 0 where
-  rest : List Group
-  read : r ≡ groups rest
-  all : gs ≡ g ∷ rest
-
-and-then : (g : Group) (r : Groups?) {gs : List Group} → andThen g r ≡ groups gs → Then g r gs
-unfolding andThen
-and-then g unreadable e = absurd (let z : _≡_ {A = ℕ} 0 1 = cc in omega arith)
-and-then g (groups rest) e = record { rest = rest; read = refl; all = cc }
-
 from-got : (f : ℕ) (xs : List ℕ) (gs : List Group) (rest : List ℕ) → readFrom f xs ≡ groups gs → groupsFit gs ≡ true → readRecords (length gs) (groupsBits gs ++ rest) ≡ got xs rest
 unfolding readFrom readRecords groupsBits groupsFit next
 from-got zero [] gs rest e h = let z : gs ≡ [] = cc in rw z
-from-got zero (x ∷ xs) gs rest e h = absurd (let z : _≡_ {A = ℕ} 0 1 = cc in omega arith)
+from-got zero (x ∷ xs) gs rest e h = not-groups e
 from-got (suc f) [] gs rest e h = let z : gs ≡ [] = cc in rw z
 from-got (suc f) (k ∷ xs) gs rest e h = split (wholeAt (k ∷ xs))
     (λ t.
     let T = and-then (groupAt (k ∷ xs)) (readFrom f (drop (sizeOf k) xs)) (rw (t, readFrom) at e) in
     let d = and-true (groupFits (groupAt (k ∷ xs))) (groupsFit (T .rest)) (rw (T .all, groupsFit) at h) in
-    let one = record-got k xs (groupsBits (T .rest) ++ rest) (whole k xs t) (d .0) in
+    let one = record-got k xs (groupsBits (T .rest) ++ rest) (whole (k ∷ xs) t) (d .0) in
     let more = from-got f (drop (sizeOf k) xs) (T .rest) rest (T .read) (d .1) in
     rw (T .all, append-assoc (groupBits (groupAt (k ∷ xs))) (groupsBits (T .rest)) rest, one, next, more, next, take-append-drop (sizeOf k) xs))
-    (λ t. absurd (let d : unreadable ≡ groups gs = rw (t, readFrom) at e in let z : _≡_ {A = ℕ} 0 1 = cc in omega arith))
+    (λ t. not-groups (rw (t, readFrom) at e))
 
 -- a record takes a number at least
 from-length : (f : ℕ) (xs : List ℕ) (gs : List Group) → readFrom f xs ≡ groups gs → length gs ≤ length xs
 unfolding readFrom
 from-length zero [] gs e = let z : gs ≡ [] = cc in rw z (omega arith)
-from-length zero (x ∷ xs) gs e = absurd (let z : _≡_ {A = ℕ} 0 1 = cc in omega arith)
+from-length zero (x ∷ xs) gs e = not-groups e
 from-length (suc f) [] gs e = let z : gs ≡ [] = cc in rw z (omega arith)
 from-length (suc f) (k ∷ xs) gs e = split (wholeAt (k ∷ xs))
     (λ t.
     let T = and-then (groupAt (k ∷ xs)) (readFrom f (drop (sizeOf k) xs)) (rw (t, readFrom) at e) in
     rw (T .all) (omega (arith, from-length f (drop (sizeOf k) xs) (T .rest) (T .read), length-drop (sizeOf k) xs)))
-    (λ t. absurd (let d : unreadable ≡ groups gs = rw (t, readFrom) at e in let z : _≡_ {A = ℕ} 0 1 = cc in omega arith))
+    (λ t. not-groups (rw (t, readFrom) at e))
 
 pub read-length : (xs : List ℕ) (gs : List Group) → read xs ≡ groups gs → length gs ≤ length xs
 unfolding read
@@ -187,7 +166,7 @@ none-read zero = refl
 none-read (suc f) = refl
 
 module _ (k : ℕ) (ys zs : List ℕ) (size : length ys ≡ sizeOf k) (some : 0 < sizeOf k) where
-  front : Whole k (ys ++ zs)
+  front : Whole (k ∷ (ys ++ zs))
   front = record { some = some; inside = omega (arith, length-append ys zs) }
 
   front-whole : wholeAt (k ∷ (ys ++ zs)) ≡ true

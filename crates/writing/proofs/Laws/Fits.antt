@@ -16,6 +16,7 @@ use Rattle.rules.specs.Records.{Group, Groups?, unreadable, groups, sizeOf, gro
 use Rattle.rules.specs.Job.{Job, numberWidth, isMark, literalFits, pinFits, nodeFits, nodesFit, groupFits, groupsFit, gatesFit, fitsProgram}
 use Rattle.rules.proofs.Lists.Members.{split, true-false, eqb-true, eqb-false}
 use Rattle.rules.proofs.Bools.{and-none}
+use Rattle.rules.proofs.Job.Kinds.{not-groups}
 use Rattle.rules.proofs.Job.Fields.{fitsIn}
 use Rattle.rules.proofs.Job.Records.{plain-at}
 use Rattle.rules.proofs.Job.Files.{Held}
@@ -252,9 +253,6 @@ bad-gates J d = unfit (λ gs H e. true-false (H .gates) d)
 pub bad-given : (J : Job) → every (λ x. ltb x 65536) (J .given) ≡ false → Judged J 0
 unfolding pinFits
 bad-given J d = unfit (λ gs H e. true-false (H .given) d)
-
-not-groups : {P : Type 0} {gs : List Group} → unreadable ≡ groups gs → P
-not-groups e = absurd (let z : _≡_ {A = ℕ} 0 1 = cc in omega arith)
 
 module _ (J : Job) (height : J .height ≤ 10) (pins : length (J .gates) / 2 ≤ 501) (numbers : length (J .records) ≤ 512) (few : length (J .given) < 65536) (gates : gatesFit (J .gates) ≡ true)
     (given : every (λ x. ltb x 65536) (J .given) ≡ true) where

@@ -14,15 +14,16 @@ use borrow.Author.Tests.{eq-eqb, ne-eqb, leb-true, ltb-true}
 use Rattle.rules.specs.Lists.{every, gather}
 use Rattle.rules.specs.Cells.{empty}
 use Rattle.rules.specs.Graph.{Node, leaf, gate, nodeOf, graphOf, pinCount}
-use Rattle.rules.specs.Records.{Group, Groups?, unreadable, groups, sizeOf, groupAt, wholeAt, andThen, read, groupsOf}
+use Rattle.rules.specs.Records.{Group, groups, sizeOf, groupAt, wholeAt, read, groupsOf}
 use Rattle.rules.specs.Job.{Job, bitsOf, numberWidth, pinBits, pinsBits, groupBits, groupsBits, jobBits, toByte, isMark, nodesFit, gatesFit, fitsProgram}
 use Rattle.rules.proofs.Lists.Members.{split, and-true}
+use Rattle.rules.proofs.Job.Kinds.{not-groups, and-then}
 use Rattle.rules.proofs.Job.Bits.{width, gather-width}
 use Rattle.rules.proofs.Job.Records.{plain-at, read-length}
 use Rattle.records.specs.Values.{sizeAt}
 use Rattle.records.proofs.Reading.{read-step, read-end, read-cut, Stands, standing}
 use Rattle.bits.specs.Putting.{Put}
-use Rattle.bits.proofs.Laws.Putting.{Left, left-all, left-step, left-none, put-then}
+use Rattle.bits.proofs.Laws.Putting.{Left, left-all, left-step, left-none, put-then, none-back}
 use Rattle.writing.specs.Fits.{Fitting}
 use Rattle.writing.specs.Sections.{headBits, givenBits, recordsBits, fileBits, PutIn, RecordTo, HeadTo, GivenTo, GroupsTo, Measured}
 use Rattle.writing.proofs.Laws.Fits.{graph-step, graph-end}
@@ -112,22 +113,9 @@ pub record Readable (xs : List ℕ) : Type 0 where
   pub all : List Group
   pub is : read xs ≡ groups all
 
-not-groups : {P : Type 0} {gs : List Group} → unreadable ≡ groups gs → P
-not-groups e = absurd (let z : _≡_ {A = ℕ} 0 1 = cc in omega arith)
-
 groups-of : (xs : List ℕ) {gs : List Group} → read xs ≡ groups gs → groupsOf xs ≡ gs
 unfolding groupsOf
 groups-of xs e = rw (groupsOf, e)
-
-record Parts (g : Group) (r : Groups?) (gs : List Group) : Type 0 where
-  rest : List Group
-  is : r ≡ groups rest
-  all : gs ≡ g ∷ rest
-
-parts : (g : Group) (r : Groups?) {gs : List Group} → andThen g r ≡ groups gs → Parts g r gs
-unfolding andThen
-parts g unreadable e = not-groups e
-parts g (groups rest) e = record { rest = rest; is = refl; all = cc }
 
 -- the record at an index, and what stands behind it
 pub record Next (xs : List ℕ) (at : ℕ) : Type 0 where
@@ -144,12 +132,12 @@ next-record xs at h R =
     let d = drop-cons xs at 0 h in
     let s : suc at ≡ at + 1 = omega arith in
     let m : at + 1 + sizeAt xs at - (at + 1) ≡ sizeOf k = omega (arith, S .size) in
-    let P = parts (groupAt (drop at xs)) (read (drop (at + (1 + sizeOf k)) xs)) (sym (read-step xs at t) ∙ R .is) in
+    let P = and-then (groupAt (drop at xs)) (read (drop (at + (1 + sizeOf k)) xs)) (sym (read-step xs at t) ∙ R .is) in
     let b : groupBits (groupAt (drop at xs)) ≡ bitsOf 3 k ++ gather (bitsOf (numberWidth k)) (take (sizeOf k) (drop (at + 1) xs)) = rw (d, s) (plain-at k (drop (at + 1) xs) (rw (d, s) at t) .bits) in
     record {
       stands = S;
-      bits = rw (m, S .size, groups-of (drop at xs) (R .is), P .all, groupsBits, b, groups-of (drop (at + (1 + sizeOf k)) xs) (P .is));
-      readable = rw (S .size) (record { all = P .rest; is = P .is });
+      bits = rw (m, S .size, groups-of (drop at xs) (R .is), P .all, groupsBits, b, groups-of (drop (at + (1 + sizeOf k)) xs) (P .read));
+      readable = rw (S .size) (record { all = P .rest; is = P .read });
     }
 
 pub record Records (xs : List ℕ) (i from at : ℕ) (bytes bytes′ : List ℕ) : Type 0 where
@@ -254,10 +242,6 @@ module _ {J : Job} {n : ℕ} (F : Fitting J n) where
   groups-asks h =
       let k = and-true (leb (J .height) 10 && leb (pinCount (J .gates)) 501) (leb (length (J .records)) 512) (F .fits) in
       record { near = h; few = leb-true (length (J .records)) 512 (k .1); readable = F .held .read; count = F .count }
-
-none-back : (ys gs : List ℕ) → length ys ≡ 0 → ys ++ gs ≡ gs
-none-back [] gs e = refl
-none-back (y ∷ ys) gs e = absurd (omega arith)
 
 pub measured : {J : Job} (xs : List ℕ) {ys : List ℕ} {n : ℕ} → Put (fileBits J) [] ys 0 n → Measured J xs (ys ++ xs) n
 measured xs {ys} P = record { same = none-back ys xs (P .len); bits = P .behind ∙ omega arith }
