@@ -1,0 +1,4 @@
+pub mod Own
+pub mod Measuring
+pub mod Parts
+pub mod Building
