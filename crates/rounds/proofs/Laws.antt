@@ -1,0 +1,5 @@
+pub mod Owned
+pub mod Standing
+pub mod Keys
+pub mod Answers
+pub mod Trials
