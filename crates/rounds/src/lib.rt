@@ -1,107 +1,117 @@
-// Merging into one slot: the later slots ranked for it, and the first of their unions that is accepted, round after round.
-use placer::Answer;
-use slots::BAR;
-use slots::key_slot;
-use slots::start_of;
-use slots::store_union;
-use slots::take_in;
-use unions::build_union;
-use unions::sizing::size_union;
-ghost use mathlib.Core.Path.{_≡_};
-ghost use mathlib.Core.Bool.{_&&_};
-ghost use lib.Dec.{eqb, leb};
-ghost use Rattle.unions.specs.Unions.{Measured, Built};
-ghost use Rattle.rounds.specs.Rounds.{groupsAt, PairAt, RankAt, SlotRanked, AllAt, AllRanked};
-ghost use Rattle.rounds.specs.Trials.{BuildAt, JoinAt, Joins, TryAt, Tried};
+// Merging, slot by slot: round after round the later slots are ranked, and the first union that is accepted is taken.
+use slots::best;
+use slots::open_all;
+use trials::rank_all;
+use trials::try_union;
+ghost use Rattle.rounds.specs.Rounds.{RoundAt, Rounded, IntoAt, Into, SlotAt, Stepped, SlotsAt, Slotted};
 
-// The size of the union of slots i and s.
-fn size_pair(
-    gates: &[u32],
-    given: &[u32],
-    records: &[u32],
-    indices: &[u32],
-    lengths: &[u32],
-    work: &mut [u32],
-    m: usize,
-    table: usize,
-    i: usize,
-    s: usize,
-) -> usize
-    requires { ⌜ PairAt m table i s (now gates) (now given) (now records) (now indices) (now lengths) (now work) ⌝ }
-    ensures { λ r. ⌜ Measured m table (now (gates .entry)) (now (given .entry)) (now (records .entry)) (groupsAt (now (lengths .entry)) (now (indices .entry)) i) (groupsAt (now (lengths .entry)) (now (indices .entry)) s) (now (work .entry)) r (now (work .exit)) ⌝ }
-{
-    let a = start_of(lengths, i);
-    let b = start_of(lengths, i + 1);
-    let c = start_of(lengths, s);
-    let d = start_of(lengths, s + 1);
-    size_union(
-        gates,
-        given,
-        records,
-        &indices[a..b],
-        &indices[c..d],
-        work,
-        m,
-        table,
-    )
+// What a round comes to: was a union accepted, and the unions examined so far.
+pub struct Outcome {
+    pub taken: bool,
+    pub trials: usize,
 }
 
-// The keys of slot s for its union with slot i, if it is open.
-fn rank_slot(
+// What is left after a slot: the rounds, and the unions examined so far.
+pub struct Course {
+    pub fuel: usize,
+    pub trials: usize,
+}
+
+// The ranked slots after slot i, best first, until a union is accepted. Those that fail are barred.
+fn round(
+    height: u32,
     gates: &[u32],
     given: &[u32],
     records: &[u32],
-    indices: &[u32],
-    lengths: &[u32],
+    indices: &mut [u32],
+    lengths: &mut [u32],
+    plan: &mut [u32],
+    words: &mut [u32],
+    counts: &mut [u32],
     work: &mut [u32],
     m: usize,
     table: usize,
     base: usize,
     i: usize,
-    s: usize,
-)
-    requires { ⌜ RankAt m table base i s (now gates) (now given) (now records) (now indices) (now lengths) (now work) ⌝ }
-    ensures { λ _. ⌜ SlotRanked m table base i s (now (gates .entry)) (now (given .entry)) (now (records .entry)) (now (indices .entry)) (now (lengths .entry)) (now (work .entry)) (now (work .exit)) ⌝ }
+    cap: usize,
+    ranks: usize,
+    trials: usize,
+) -> Outcome
+    requires { ⌜ RoundAt height m table base i cap ranks trials (now gates) (now given) (now records) (now indices) (now lengths) (now plan) (now words) (now counts) (now work) ⌝ }
+    ensures { λ r. ⌜ Rounded height m table base i cap ranks trials (now (gates .entry)) (now (given .entry)) (now (records .entry)) (now (indices .entry)) (now (lengths .entry)) (now (plan .entry)) (now (work .entry)) r (now (indices .exit)) (now (lengths .exit)) (now (plan .exit)) (now (words .exit)) (now (counts .exit)) (now (work .exit)) ⌝ }
 {
     let n = lengths.len();
-    if work[base + (BAR * n + s)] != 0 {
-        return;
-    }
-    let union = size_pair(
-        gates,
-        given,
-        records,
-        indices,
-        lengths,
-        work,
-        m,
-        table,
-        i,
-        s,
-    );
     let end = base + 8 * n;
-    key_slot(&mut work[base..end], n, i, s, union);
+    let mut t = trials;
+    let mut left = ranks;
+    while left > 0 {
+        let j = best(&work[base..end], n, i + 1);
+        if j == n {
+            return Outcome {
+                taken: false,
+                trials: t,
+            };
+        }
+        t += 1;
+        if try_union(
+            height,
+            gates,
+            given,
+            records,
+            indices,
+            lengths,
+            plan,
+            words,
+            counts,
+            work,
+            m,
+            table,
+            base,
+            i,
+            j,
+            cap,
+        ) {
+            return Outcome {
+                taken: true,
+                trials: t,
+            };
+        }
+        left -= 1;
+    }
+    Outcome {
+        taken: false,
+        trials: t,
+    }
 }
 
-// The keys of every open slot after slot i.
-fn rank_all(
+// Rounds for slot i until none is accepted, at most `fuel`. Returns the unions examined so far.
+fn merge_into(
+    height: u32,
     gates: &[u32],
     given: &[u32],
     records: &[u32],
-    indices: &[u32],
-    lengths: &[u32],
+    indices: &mut [u32],
+    lengths: &mut [u32],
+    plan: &mut [u32],
+    words: &mut [u32],
+    counts: &mut [u32],
     work: &mut [u32],
     m: usize,
     table: usize,
     base: usize,
     i: usize,
-)
-    requires { ⌜ AllAt m table base i (now gates) (now given) (now records) (now indices) (now lengths) (now work) ⌝ }
-    ensures { λ _. ⌜ AllRanked m table base i (now (gates .entry)) (now (given .entry)) (now (records .entry)) (now (indices .entry)) (now (lengths .entry)) (now (work .entry)) (now (work .exit)) ⌝ }
+    cap: usize,
+    ranks: usize,
+    fuel: usize,
+    trials: usize,
+) -> usize
+    requires { ⌜ IntoAt height m table base i cap ranks fuel trials (now gates) (now given) (now records) (now indices) (now lengths) (now plan) (now words) (now counts) (now work) ⌝ }
+    ensures { λ r. ⌜ Into height m table base i cap ranks fuel trials (now (gates .entry)) (now (given .entry)) (now (records .entry)) (now (indices .entry)) (now (lengths .entry)) (now (plan .entry)) (now (work .entry)) r (now (indices .exit)) (now (lengths .exit)) (now (plan .exit)) (now (words .exit)) (now (counts .exit)) (now (work .exit)) ⌝ }
 {
-    let mut s = i + 1;
-    while s < lengths.len() {
-        rank_slot(
+    let mut t = trials;
+    let mut left = fuel;
+    while left > 0 {
+        rank_all(
             gates,
             given,
             records,
@@ -112,87 +122,37 @@ fn rank_all(
             table,
             base,
             i,
-            s,
         );
-        s += 1;
+        let outcome = round(
+            height,
+            gates,
+            given,
+            records,
+            indices,
+            lengths,
+            plan,
+            words,
+            counts,
+            work,
+            m,
+            table,
+            base,
+            i,
+            cap,
+            ranks,
+            t,
+        );
+        t = outcome.trials;
+        if !outcome.taken {
+            return t;
+        }
+        left -= 1;
     }
+    t
 }
 
-// The build of the union of slots i and j.
-fn build_pair(
-    height: u32,
-    gates: &[u32],
-    given: &[u32],
-    records: &[u32],
-    indices: &[u32],
-    lengths: &[u32],
-    plan: &mut [u32],
-    words: &mut [u32],
-    counts: &mut [u32],
-    work: &mut [u32],
-    m: usize,
-    table: usize,
-    i: usize,
-    j: usize,
-) -> Answer
-    requires { ⌜ BuildAt height m table i j (now gates) (now given) (now records) (now indices) (now lengths) (now plan) (now words) (now counts) (now work) ⌝ }
-    ensures { λ r. ⌜ Built height m table (now (gates .entry)) (now (given .entry)) (now (records .entry)) (groupsAt (now (lengths .entry)) (now (indices .entry)) i) (groupsAt (now (lengths .entry)) (now (indices .entry)) j) (now (plan .entry)) (now (words .entry)) (now (counts .entry)) (now (work .entry)) r (now (plan .exit)) (now (words .exit)) (now (counts .exit)) (now (work .exit)) ⌝ }
-{
-    let a = start_of(lengths, i);
-    let b = start_of(lengths, i + 1);
-    let c = start_of(lengths, j);
-    let d = start_of(lengths, j + 1);
-    build_union(
-        height,
-        gates,
-        given,
-        records,
-        &indices[a..b],
-        &indices[c..d],
-        plan,
-        words,
-        counts,
-        work,
-        m,
-        table,
-    )
-}
-
-// Is a union with such an answer accepted?
-fn accepts(number: u32, stages: usize, cap: usize) -> bool
-    ensures { λ r. ⌜ r ≡ (eqb number 0 && leb stages cap) ⌝ }
-{
-    if number != 0 {
-        return false;
-    }
-    stages <= cap
-}
-
-// Slot i becomes its union with slot j, which is empty then.
-fn join(
-    indices: &mut [u32],
-    lengths: &mut [u32],
-    work: &mut [u32],
-    m: usize,
-    table: usize,
-    base: usize,
-    i: usize,
-    j: usize,
-    stages: usize,
-    words: usize,
-)
-    requires { ⌜ JoinAt m table base i j stages words (now indices) (now lengths) (now work) ⌝ }
-    ensures { λ _. ⌜ Joins m table base i j stages words (now (indices .entry)) (now (lengths .entry)) (now (work .entry)) (now (indices .exit)) (now (lengths .exit)) (now (work .exit)) ⌝ }
-{
-    let n = lengths.len();
-    let spare = 16 * m + 512;
-    take_in(indices, lengths, &mut work[spare..table], i, j);
-    let end = base + 8 * n;
-    store_union(&mut work[base..end], n, i, j, stages, words);
-}
-
-// Slot j's union with slot i, taken if it is accepted; otherwise slot j is barred. Was it accepted?
-fn try_union(
+// Slot i in its turn: if it is full, the later ones are open again, and its rounds follow.
+fn merge_slot(
     height: u32,
     gates: &[u32],
     given: &[u32],
@@ -207,13 +167,23 @@ fn try_union(
     table: usize,
     base: usize,
     i: usize,
-    j: usize,
     cap: usize,
-) -> bool
-    requires { ⌜ TryAt height m table base i j cap (now gates) (now given) (now records) (now indices) (now lengths) (now plan) (now words) (now counts) (now work) ⌝ }
-    ensures { λ r. ⌜ Tried height m table base i j cap (now (gates .entry)) (now (given .entry)) (now (records .entry)) (now (indices .entry)) (now (lengths .entry)) (now (plan .entry)) (now (work .entry)) r (now (indices .exit)) (now (lengths .exit)) (now (plan .exit)) (now (words .exit)) (now (counts .exit)) (now (work .exit)) ⌝ }
+    ranks: usize,
+    fuel: usize,
+    trials: usize,
+) -> Course
+    requires { ⌜ SlotAt height m table base i cap ranks fuel trials (now gates) (now given) (now records) (now indices) (now lengths) (now plan) (now words) (now counts) (now work) ⌝ }
+    ensures { λ r. ⌜ Stepped height m table base i cap ranks fuel trials (now (gates .entry)) (now (given .entry)) (now (records .entry)) (now (indices .entry)) (now (lengths .entry)) (now (plan .entry)) (now (work .entry)) r (now (indices .exit)) (now (lengths .exit)) (now (plan .exit)) (now (words .exit)) (now (counts .exit)) (now (work .exit)) ⌝ }
 {
-    let a = build_pair(
+    if lengths[i] == 0 {
+        return Course {
+            fuel: fuel,
+            trials: trials,
+        };
+    }
+    let end = base + 8 * lengths.len();
+    open_all(lengths, &mut work[base..end]);
+    let t = merge_into(
         height,
         gates,
         given,
@@ -226,24 +196,68 @@ fn try_union(
         work,
         m,
         table,
+        base,
         i,
-        j,
+        cap,
+        ranks,
+        fuel,
+        trials,
     );
-    if accepts(a.number, a.stages, cap) {
-        join(
+    Course {
+        fuel: fuel - 1,
+        trials: t,
+    }
+}
+
+// Every slot in turn. Returns the unions examined.
+pub fn merge_slots(
+    height: u32,
+    gates: &[u32],
+    given: &[u32],
+    records: &[u32],
+    indices: &mut [u32],
+    lengths: &mut [u32],
+    plan: &mut [u32],
+    words: &mut [u32],
+    counts: &mut [u32],
+    work: &mut [u32],
+    m: usize,
+    table: usize,
+    base: usize,
+    cap: usize,
+    ranks: usize,
+) -> usize
+    requires { ⌜ SlotsAt height m table base cap ranks (now gates) (now given) (now records) (now indices) (now lengths) (now plan) (now words) (now counts) (now work) ⌝ }
+    ensures { λ r. ⌜ Slotted height m table base cap ranks (now (gates .entry)) (now (given .entry)) (now (records .entry)) (now (indices .entry)) (now (lengths .entry)) (now (plan .entry)) (now (work .entry)) r (now (indices .exit)) (now (lengths .exit)) (now (plan .exit)) (now (words .exit)) (now (counts .exit)) (now (work .exit)) ⌝ }
+{
+    let n = lengths.len();
+    let mut trials = 0;
+    let mut fuel = n;
+    let mut i = 0;
+    while i < n {
+        let left = merge_slot(
+            height,
+            gates,
+            given,
+            records,
             indices,
             lengths,
+            plan,
+            words,
+            counts,
             work,
             m,
             table,
             base,
             i,
-            j,
-            a.stages,
-            a.words,
+            cap,
+            ranks,
+            fuel,
+            trials,
         );
-        return true;
+        trials = left.trials;
+        fuel = left.fuel;
+        i += 1;
     }
-    work[base + (BAR * lengths.len() + j)] = 1;
-    false
+    trials
 }

@@ -1,14 +1,14 @@
--- `rounds::try_union` meets its contract: the build decides. Assumes nothing.
+-- `trials::try_union` meets its contract: the build decides. Assumes nothing.
 use native.Mathlib.Omega.{arith}
-use Rattle.rounds.proofs.Laws.Trials.{try-build, try-join, tried-yes, try-place, tried-no}
+use Rattle.trials.proofs.Laws.Trials.{try-build, try-join, tried-yes, try-place, tried-no}
 use borrow.Author.Needs.{needs}
-use Rattle.rounds.proofs.try_union.Statement.{statement}
-use Rattle.rounds.proofs.try_union.Tie as tie
-use Rattle.rounds.proofs.try_union.Reads as reads
-use Rattle.rounds.proofs.try_union.Lts as lts
-use Rattle.rounds.proofs.accepts.Reads as accepts-reads
-use Rattle.rounds.proofs.build_pair.Reads as build-pair-reads
-use Rattle.rounds.proofs.join.Reads as join-reads
+use Rattle.trials.proofs.try_union.Statement.{statement}
+use Rattle.trials.proofs.try_union.Tie as tie
+use Rattle.trials.proofs.try_union.Reads as reads
+use Rattle.trials.proofs.try_union.Lts as lts
+use Rattle.trials.proofs.accepts.Reads as accepts-reads
+use Rattle.trials.proofs.build_pair.Reads as build-pair-reads
+use Rattle.trials.proofs.join.Reads as join-reads
 
 build-pair-requires : tie.Need-build-pair-requires
 build-pair-requires c κs = try-build (c .before .before .before .before .before .before .before .before .before .before .before .before .before .before .before .pre)

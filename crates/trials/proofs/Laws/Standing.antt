@@ -22,8 +22,8 @@ use Rattle.unions.proofs.Laws.Parts.{idle-part}
 use Rattle.slots.specs.Moves.{StartAt}
 use Rattle.slots.proofs.Laws.Sums.{sum-part}
 use Rattle.layout.specs.Layout.{owned}
-use Rattle.rounds.specs.Rounds.{groupsAt, Stands, Stays, PairAt}
-use Rattle.rounds.proofs.Laws.Owned.{part-length, part-below, part-above, owned-same}
+use Rattle.trials.specs.Ranks.{groupsAt, Stands, Stays, PairAt}
+use Rattle.trials.proofs.Laws.Owned.{part-length, part-below, part-above, owned-same}
 
 -- ---- a slot's groups
 

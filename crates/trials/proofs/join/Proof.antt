@@ -1,10 +1,10 @@
--- `rounds::join` meets its contract: the groups, then the numbers. Assumes nothing.
-use Rattle.rounds.proofs.Laws.Trials.{join-take, joins}
+-- `trials::join` meets its contract: the groups, then the numbers. Assumes nothing.
+use Rattle.trials.proofs.Laws.Trials.{join-take, joins}
 use borrow.Author.Needs.{needs}
-use Rattle.rounds.proofs.join.Statement.{statement}
-use Rattle.rounds.proofs.join.Tie as tie
-use Rattle.rounds.proofs.join.Reads as reads
-use Rattle.rounds.proofs.join.Lts as lts
+use Rattle.trials.proofs.join.Statement.{statement}
+use Rattle.trials.proofs.join.Tie as tie
+use Rattle.trials.proofs.join.Reads as reads
+use Rattle.trials.proofs.join.Lts as lts
 use Rattle.slots.proofs.store_union.Reads as store-union-reads
 use Rattle.slots.proofs.take_in.Reads as take-in-reads
 

@@ -13,7 +13,7 @@ use Rattle.unions.specs.Unions.{Places}
 use Rattle.slots.specs.Moves.{Taken}
 use Rattle.slots.specs.Stores.{Joined}
 use Rattle.layout.specs.Layout.{owned}
-use Rattle.rounds.specs.Rounds.{groupsAt, Stands, Stays}
+use Rattle.trials.specs.Ranks.{groupsAt, Stands, Stays}
 
 pub record BuildAt (K m table i j : ℕ) (gates given records xs ls pl ws cs w : List ℕ) : Type 0 where
   pub base : ℕ

@@ -1,11 +1,11 @@
--- `rounds::build_pair` meets its contract: the parts of the indices are the groups of two slots. Assumes nothing.
+-- `trials::build_pair` meets its contract: the parts of the indices are the groups of two slots. Assumes nothing.
 use native.Mathlib.Omega.{arith}
-use Rattle.rounds.proofs.Laws.Standing.{pair-order, union-at, pair-built}
+use Rattle.trials.proofs.Laws.Standing.{pair-order, union-at, pair-built}
 use borrow.Author.Needs.{needs}
-use Rattle.rounds.proofs.build_pair.Statement.{statement}
-use Rattle.rounds.proofs.build_pair.Tie as tie
-use Rattle.rounds.proofs.build_pair.Reads as reads
-use Rattle.rounds.proofs.build_pair.Lts as lts
+use Rattle.trials.proofs.build_pair.Statement.{statement}
+use Rattle.trials.proofs.build_pair.Tie as tie
+use Rattle.trials.proofs.build_pair.Reads as reads
+use Rattle.trials.proofs.build_pair.Lts as lts
 use Rattle.slots.proofs.start_of.Reads as start-of-reads
 use Rattle.unions.proofs.build_union.Reads as build-union-reads
 

@@ -26,11 +26,11 @@ use Rattle.unions.proofs.Laws.Parts.{idle-part}
 use Rattle.slots.specs.Moves.{TakeAt, Taken}
 use Rattle.slots.specs.Stores.{UnionAt, Joined}
 use Rattle.layout.specs.Layout.{owned}
-use Rattle.rounds.specs.Rounds.{groupsAt, Stands, Stays}
-use Rattle.rounds.specs.Trials.{BuildAt, JoinAt, Joins, TryAt, Barred, Takes, Tried}
-use Rattle.rounds.proofs.Laws.Owned.{lent, own-length, back-owned, set-owned, owned-same, part-above}
-use Rattle.rounds.proofs.Laws.Standing.{stands-stays, stays-leaves, leaves-owned, part-stays, stays-more}
-use Rattle.rounds.proofs.Laws.Answers.{accepts-is, words-few}
+use Rattle.trials.specs.Ranks.{groupsAt, Stands, Stays}
+use Rattle.trials.specs.Trials.{BuildAt, JoinAt, Joins, TryAt, Barred, Takes, Tried}
+use Rattle.trials.proofs.Laws.Owned.{lent, own-length, back-owned, set-owned, owned-same, part-above}
+use Rattle.trials.proofs.Laws.Standing.{stands-stays, stays-leaves, leaves-owned, part-stays, stays-more}
+use Rattle.trials.proofs.Laws.Answers.{accepts-is, words-few}
 
 -- ---- joined slots
 

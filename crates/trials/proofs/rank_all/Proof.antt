@@ -1,13 +1,13 @@
--- `rounds::rank_all` meets its contract: the slots passed have their keys. Assumes nothing.
+-- `trials::rank_all` meets its contract: the slots passed have their keys. Assumes nothing.
 use Prim.Native.Nat.{_-_}
 use lib.ListN.{length}
-use Rattle.rounds.proofs.Laws.Keys.{Keying, keying-none, keying-at, keying-more, keying-done}
+use Rattle.trials.proofs.Laws.Keys.{Keying, keying-none, keying-at, keying-more, keying-done}
 use borrow.Author.Needs.{needs}
-use Rattle.rounds.proofs.rank_all.Statement.{statement}
-use Rattle.rounds.proofs.rank_all.Tie as tie
-use Rattle.rounds.proofs.rank_all.Reads as reads
-use Rattle.rounds.proofs.rank_all.Lts as lts
-use Rattle.rounds.proofs.rank_slot.Reads as rank-slot-reads
+use Rattle.trials.proofs.rank_all.Statement.{statement}
+use Rattle.trials.proofs.rank_all.Tie as tie
+use Rattle.trials.proofs.rank_all.Reads as reads
+use Rattle.trials.proofs.rank_all.Lts as lts
+use Rattle.trials.proofs.rank_slot.Reads as rank-slot-reads
 
 abbrev Inv-loop : tie.InvT-loop
 Inv-loop gates given records indices lengths work₀ m table base i s₀ work s = Keying m table base i s gates given records indices lengths work₀ work

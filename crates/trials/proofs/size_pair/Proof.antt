@@ -1,11 +1,11 @@
--- `rounds::size_pair` meets its contract: the parts of the indices are the groups of two slots. Assumes nothing.
+-- `trials::size_pair` meets its contract: the parts of the indices are the groups of two slots. Assumes nothing.
 use native.Mathlib.Omega.{arith}
-use Rattle.rounds.proofs.Laws.Standing.{pair-order, union-at, pair-measured}
+use Rattle.trials.proofs.Laws.Standing.{pair-order, union-at, pair-measured}
 use borrow.Author.Needs.{needs}
-use Rattle.rounds.proofs.size_pair.Statement.{statement}
-use Rattle.rounds.proofs.size_pair.Tie as tie
-use Rattle.rounds.proofs.size_pair.Reads as reads
-use Rattle.rounds.proofs.size_pair.Lts as lts
+use Rattle.trials.proofs.size_pair.Statement.{statement}
+use Rattle.trials.proofs.size_pair.Tie as tie
+use Rattle.trials.proofs.size_pair.Reads as reads
+use Rattle.trials.proofs.size_pair.Lts as lts
 use Rattle.slots.proofs.start_of.Reads as start-of-reads
 use Rattle.unions.proofs.sizing.size_union.Reads as size-union-reads
 

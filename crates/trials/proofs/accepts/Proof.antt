@@ -1,10 +1,10 @@
--- `rounds::accepts` meets its contract. Assumes nothing.
-use Rattle.rounds.proofs.Laws.Answers.{refuses, admits}
+-- `trials::accepts` meets its contract. Assumes nothing.
+use Rattle.trials.proofs.Laws.Answers.{refuses, admits}
 use borrow.Author.Needs.{needs}
-use Rattle.rounds.proofs.accepts.Statement.{statement}
-use Rattle.rounds.proofs.accepts.Tie as tie
-use Rattle.rounds.proofs.accepts.Reads as reads
-use Rattle.rounds.proofs.accepts.Lts as lts
+use Rattle.trials.proofs.accepts.Statement.{statement}
+use Rattle.trials.proofs.accepts.Tie as tie
+use Rattle.trials.proofs.accepts.Reads as reads
+use Rattle.trials.proofs.accepts.Lts as lts
 
 returns : tie.Need-returns
 returns c = refuses (c .before .args .number) (c .before .args .stages) (c .before .args .cap) (c .if1 .taken)

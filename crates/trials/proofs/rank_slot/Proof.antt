@@ -1,12 +1,12 @@
--- `rounds::rank_slot` meets its contract: the keys of an open slot. Assumes nothing.
-use Rattle.rounds.proofs.Laws.Keys.{rank-barred, rank-room, key-at, slot-ranked}
+-- `trials::rank_slot` meets its contract: the keys of an open slot. Assumes nothing.
+use Rattle.trials.proofs.Laws.Keys.{rank-barred, rank-room, key-at, slot-ranked}
 use native.Mathlib.Omega.{arith}
 use borrow.Author.Needs.{needs}
-use Rattle.rounds.proofs.rank_slot.Statement.{statement}
-use Rattle.rounds.proofs.rank_slot.Tie as tie
-use Rattle.rounds.proofs.rank_slot.Reads as reads
-use Rattle.rounds.proofs.rank_slot.Lts as lts
-use Rattle.rounds.proofs.size_pair.Reads as size-pair-reads
+use Rattle.trials.proofs.rank_slot.Statement.{statement}
+use Rattle.trials.proofs.rank_slot.Tie as tie
+use Rattle.trials.proofs.rank_slot.Reads as reads
+use Rattle.trials.proofs.rank_slot.Lts as lts
+use Rattle.trials.proofs.size_pair.Reads as size-pair-reads
 use Rattle.slots.proofs.key_slot.Reads as key-slot-reads
 
 mul-if1 : tie.Need-mul-if1

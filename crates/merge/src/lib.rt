@@ -1,0 +1,211 @@
+// Partitions merged while their stages stay few: `process_partitions`, with every area lent.
+use cells::Height;
+use graph::pin_count;
+use layout::lay_out;
+use mergechecks::merge_refusal;
+use originals::Originals;
+use originals::build_originals;
+use placer::areas::empty_all;
+use rounds::merge_slots;
+use slots::begun;
+use unions::table::locate;
+ghost use mathlib.Core.Path.{_≡_};
+ghost use Rattle.rules.specs.Merge.{merger};
+ghost use Rattle.mergechecks.specs.Values.{groupList, areas};
+ghost use Rattle.merge.specs.Merge.{JoinAt, Joined, PlaceAt, Placed, refusedFor, outcome};
+
+// The scope document's number, the sums of stages and words, the refused stage, the partitions left, the unions examined, the refused
+// partition from 1.
+pub struct Answer {
+    pub number: u32,
+    pub stages: usize,
+    pub words: usize,
+    pub stage: usize,
+    pub partitions: usize,
+    pub trials: usize,
+    pub refused: usize,
+}
+
+fn refuse(number: u32, stage: usize, refused: usize) -> Answer
+    ensures { λ r. ⌜ r ≡ refusedFor number stage refused ⌝ }
+{
+    Answer {
+        number: number,
+        stages: 0,
+        words: 0,
+        stage: stage,
+        partitions: 0,
+        trials: 0,
+        refused: refused,
+    }
+}
+
+// The partitions built, merged and laid out. The table of record starts stands from `table` on, the slots' own numbers from `base` on.
+fn join(
+    height: u32,
+    gates: &[u32],
+    given: &[u32],
+    records: &[u32],
+    indices: &mut [u32],
+    lengths: &mut [u32],
+    stages: &mut [u32],
+    extra: usize,
+    plan: &mut [u32],
+    words: &mut [u32],
+    counts: &mut [u32],
+    work: &mut [u32],
+    m: usize,
+    table: usize,
+    base: usize,
+) -> Answer
+    requires { ⌜ JoinAt height m table base extra (now gates) (now given) (now records) (now indices) (now lengths) (now stages) (now plan) (now words) (now counts) (now work) ⌝ }
+    ensures { λ r. ⌜ Joined height extra (now (gates .entry)) (now (given .entry)) (now (records .entry)) (now (indices .entry)) (now (lengths .entry)) (now (stages .entry)) (now (plan .entry)) r (now (indices .exit)) (now (lengths .exit)) (now (stages .exit)) ⌝ }
+{
+    let built = build_originals(
+        height,
+        gates,
+        given,
+        records,
+        indices,
+        lengths,
+        plan,
+        words,
+        counts,
+        work,
+        m,
+        table,
+        base,
+    );
+    match built {
+        Originals::Refused(part, number, stage) => refuse(number, stage, part),
+        Originals::Built(most) => {
+            let ranks = begun(lengths.len());
+            let trials = merge_slots(
+                height,
+                gates,
+                given,
+                records,
+                indices,
+                lengths,
+                plan,
+                words,
+                counts,
+                work,
+                m,
+                table,
+                base,
+                most + extra,
+                ranks,
+            );
+            let left = lay_out(indices, lengths, stages, work, 16 * m + 512, base);
+            Answer {
+                number: 0,
+                stages: left.stages,
+                words: left.words,
+                stage: 0,
+                partitions: left.partitions,
+                trials: trials,
+                refused: 0,
+            }
+        }
+    }
+}
+
+// The merge of partitions that passed the checks, in areas of exactly their counted sizes.
+fn place(
+    height: u32,
+    gates: &[u32],
+    given: &[u32],
+    records: &[u32],
+    indices: &mut [u32],
+    lengths: &mut [u32],
+    stages: &mut [u32],
+    extra: usize,
+    plan: &mut [u32],
+    words: &mut [u32],
+    counts: &mut [u32],
+    work: &mut [u32],
+) -> Answer
+    requires { ⌜ PlaceAt height extra (now gates) (now given) (now records) (now indices) (now lengths) (now stages) (now plan) (now words) (now counts) (now work) ⌝ }
+    ensures { λ r. ⌜ Placed height extra (now (gates .entry)) (now (given .entry)) (now (records .entry)) (now (indices .entry)) (now (lengths .entry)) (now (stages .entry)) (now (plan .entry)) (now (words .entry)) (now (counts .entry)) (now (work .entry)) r (now (indices .exit)) (now (lengths .exit)) (now (stages .exit)) (now (plan .exit)) (now (words .exit)) (now (counts .exit)) (now (work .exit)) ⌝ }
+{
+    empty_all(plan, words, counts, work);
+    let m = pin_count(gates);
+    let table = 16 * m + 512 + 8 * indices.len();
+    let base = table + 8 * records.len();
+    locate(records, work, table);
+    let a = join(
+        height,
+        gates,
+        given,
+        records,
+        indices,
+        lengths,
+        stages,
+        extra,
+        plan,
+        words,
+        counts,
+        work,
+        m,
+        table,
+        base,
+    );
+    empty_all(plan, words, counts, work);
+    a
+}
+
+// Merges partitions of the records' groups while no union has more stages than the greatest of them and `extra` more. The group list
+// holds the merged partitions in their final order; plan, words, counts and work are scratch.
+pub fn merge(
+    height: u32,
+    gates: &[u32],
+    given: &[u32],
+    records: &[u32],
+    indices: &mut [u32],
+    lengths: &mut [u32],
+    stages: &mut [u32],
+    extra: usize,
+    plan: &mut [u32],
+    words: &mut [u32],
+    counts: &mut [u32],
+    work: &mut [u32],
+) -> Answer
+    ensures { λ r. ⌜ outcome r (now (indices .exit)) (now (lengths .exit)) (now (stages .exit)) (now (plan .exit)) (now (words .exit)) (now (counts .exit)) (now (work .exit)) ≡ merger height (now (gates .entry)) (now (given .entry)) (now (records .entry)) (groupList (now (indices .entry)) (now (lengths .entry)) (now (stages .entry))) extra (areas (now (plan .entry)) (now (words .entry)) (now (counts .entry)) (now (work .entry))) ⌝ }
+{
+    let number = merge_refusal(
+        height,
+        gates,
+        given,
+        records,
+        indices,
+        lengths,
+        stages,
+        extra,
+        plan,
+        words,
+        counts,
+        work,
+    );
+    if number != 0 {
+        return refuse(number, 0, 0);
+    }
+    let limit = Height(height).word_limit();
+    let rooms = Height(height).rooms(plan.len());
+    let own = 8 * lengths.len() + 8 * indices.len();
+    let need = 16 * pin_count(gates) + 8 * records.len() + 512 + own;
+    place(
+        height,
+        gates,
+        given,
+        records,
+        indices,
+        lengths,
+        stages,
+        extra,
+        plan,
+        &mut words[0..limit],
+        &mut counts[0..rooms],
+        &mut work[0..need],
+    )
+}
