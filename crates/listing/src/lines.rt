@@ -1,11 +1,10 @@
 // The lines of a listing, each laid behind the cursor `at`.
-use crate::text::put;
 use crate::text::put_decimal;
 use crate::text::put_text;
 ghost use mathlib.Core.Path.{_≡_};
-ghost use mathlib.Core.List.{List, [], _∷_, _++_};
-ghost use Prim.Native.Nat.{_+_, _*_, _≤_};
-ghost use lib.ListN.{length, take, drop};
+ghost use mathlib.Core.List.{[], _∷_, _++_};
+ghost use Prim.Native.Nat.{_+_, _*_};
+ghost use lib.ListN.{take, drop};
 ghost use Rattle.rules.specs.Lists.{count};
 ghost use Rattle.rules.specs.Cells.{filled};
 ghost use Rattle.rules.specs.Listing.{text, decimal, spaced, wordsText, cellLines, stageLines, stagesLines, listing, refusedLine};

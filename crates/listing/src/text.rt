@@ -1,7 +1,7 @@
 // Text into a lent area, byte after byte. The cursor `at` stops at `limit`, and what lies past the area's end is not written, so an
 // area of no use measures a text.
 ghost use mathlib.Core.Path.{_≡_};
-ghost use mathlib.Core.List.{List, [], _∷_};
+ghost use mathlib.Core.List.{[], _∷_};
 ghost use Prim.Native.Nat.{_+_, _<_};
 ghost use lib.ListN.{set};
 ghost use Rattle.rules.specs.Listing.{decimal};

@@ -4,7 +4,6 @@ use stage::Outcome;
 use stage::build_one_stage;
 use tally::Tally;
 use tally::spend;
-ghost use mathlib.Core.Path.{_≡_};
 ghost use Rattle.tally.specs.Spending.{room, Counted};
 ghost use Rattle.placer.specs.Stages.{Some, Every, OneAt, One, StagesAt, Ran};
 

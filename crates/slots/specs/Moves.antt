@@ -1,10 +1,10 @@
 -- What the functions on slots find and leave. Assumes nothing.
-use Prim.Native.Nat.{ℕ, zero, suc, _+_, _-_, _*_, _/_, _^_, _<_, _≤_, max}
+use Prim.Native.Nat.{ℕ, _+_, _-_, _*_, _/_, _<_, _≤_, max}
 use mathlib.Core.Bool.{Bool, true, false}
-use mathlib.Core.List.{List, [], _∷_, _++_}
+use mathlib.Core.List.{List, [], _++_}
 use mathlib.Core.Path.{_≡_}
 use lib.Dec.{eqb}
-use lib.ListN.{length, getD, set, take, drop}
+use lib.ListN.{length, getD, set}
 use Rattle.rules.specs.Lists.{Found, nothing, found, sum, every}
 use Rattle.rules.specs.Merge.{splitBy, begun}
 use Rattle.slots.specs.Slots.{best, better, ahead, free, full}

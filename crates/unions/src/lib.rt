@@ -11,7 +11,6 @@ use start::given::mark_given;
 use start::reservation::Reservation;
 use waiting::wait_both;
 ghost use mathlib.Core.List.{_++_};
-ghost use lib.ListN.{length};
 ghost use Rattle.rules.specs.Records.{groupsOf};
 ghost use Rattle.start.specs.Opening.{Begins};
 ghost use Rattle.unions.specs.Names.{picked};

@@ -9,7 +9,7 @@ use lib.ListN.{length, set, drop, length-set}
 use borrow.Author.Tests.{eq-eqb, ne-eqb}
 use Rattle.rules.specs.Cells.{empty}
 use Rattle.rules.specs.Records.{sizeOf}
-use Rattle.rules.specs.Job.{got, next, field, fields, numberWidth, readPin, readRecord}
+use Rattle.rules.specs.Job.{got, next, fields, numberWidth, readPin, readRecord}
 use Rattle.records.specs.Values.{known}
 use Rattle.records.proofs.Reading.{known-size}
 use Rattle.bits.specs.Fields.{bitsIn, FieldIs}

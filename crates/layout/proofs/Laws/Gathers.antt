@@ -5,8 +5,8 @@ use mathlib.Core.Path.{_≡_, refl, sym, ap, _∙_}
 use native.Mathlib.Numerals.{add-one}
 use native.Mathlib.Nat.{mul-le-mul-right}
 use native.Mathlib.Omega.{arith}
-use lib.ListN.{length, getD, take, drop, length-append, length-drop, length-map, take-append-drop}
-use lib.Seq.{take-suc, take-take, take-at, take-all, drop-drop, drop-nil, take-nil, length-take-le, getD-drop}
+use lib.ListN.{length, getD, take, drop, length-append, length-drop, length-map}
+use lib.Seq.{take-suc, take-take, take-at, take-all, drop-drop, length-take-le, getD-drop}
 use Rattle.rules.specs.Lists.{sum}
 use Rattle.rules.specs.Merge.{splitBy, joined}
 use Rattle.slots.specs.Slots.{own}

@@ -1,6 +1,6 @@
 -- The lists and the whole layout. Assumes nothing.
 use Prim.Native.Nat.{ℕ, zero, suc, _+_, _-_, _*_, _<_, _≤_}
-use mathlib.Core.Bool.{Bool, true, false}
+use mathlib.Core.Bool.{false}
 use mathlib.Core.List.{List, [], _∷_, _++_, map}
 use mathlib.Core.Path.{_≡_, refl, sym, ap, _∙_}
 use native.Mathlib.Omega.{arith}
@@ -16,7 +16,7 @@ use Rattle.slots.specs.Sorts.{order}
 use Rattle.slots.proofs.Laws.Best.{gathered-in, gathered-out}
 use Rattle.slots.proofs.Laws.Splits.{lengths-split}
 use Rattle.layout.specs.declared.Totals.{Totals}
-use Rattle.layout.specs.Layout.{OrderAt, Ordered, GatherAt, Gathered, TableAt, Tabled, TotalAt, sums, WriteAt, column, Written, owned, LayAt, Arranged, sorted, Laid}
+use Rattle.layout.specs.Layout.{OrderAt, Ordered, GatherAt, Gathered, Tabled, TotalAt, sums, WriteAt, column, Written, owned, LayAt, Arranged, sorted, Laid}
 use Rattle.layout.proofs.Laws.Gathers.{getD-map}
 
 drop-same : (k : ℕ) (o o′ : List ℕ) → length o′ ≡ length o → ((x : ℕ) → k ≤ x → getD o′ x 0 ≡ getD o x 0) → drop k o′ ≡ drop k o

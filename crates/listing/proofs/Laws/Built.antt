@@ -15,7 +15,7 @@ use Rattle.rules.specs.Graph.{Node}
 use Rattle.rules.specs.Records.{Group}
 use Rattle.rules.specs.Ending.{stage}
 use Rattle.rules.specs.Build.{Stage, Answer, refusal, whole, stages, build, cellsOf, wordsOf, countsOf, reply, refuse, stagesOf, Areas, areasAfter}
-use Rattle.rules.specs.Listing.{listing, answerText}
+use Rattle.rules.specs.Listing.{answerText}
 use Rattle.rules.proofs.Demand as demand
 use Rattle.rules.proofs.Stage.Refusals.{refused-some}
 use Rattle.rules.proofs.Build.Lengths.{Sized, length-padded}

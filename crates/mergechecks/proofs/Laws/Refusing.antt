@@ -15,7 +15,6 @@ use Rattle.rules.specs.Records.{groupsOf}
 use Rattle.rules.specs.Checks.{workSize, areasSized, givenRight, refusalOf}
 use Rattle.rules.specs.Merge.{mergeable, mergeSized, mergeWorkSize, mergeRefusal}
 use Rattle.rules.proofs.Bools.{and-right, and-none}
-use Rattle.rules.proofs.Lists.Members.{split}
 use Rattle.sizes.specs.declared.Left.{Left}
 use Rattle.sizes.specs.declared.Left.the-variants.{Room}
 use Rattle.sizes.specs.Values.{less, fits}

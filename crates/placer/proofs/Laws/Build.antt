@@ -1,12 +1,12 @@
 -- The build around its stages: from the checks to the first stage, and from the last one to the areas at exit. Assumes nothing.
-use Prim.Native.Nat.{ℕ, zero, suc, _+_, _-_, _*_, _^_, _≤_, _<_}
-use mathlib.Core.Bool.{Bool, true, false, _&&_}
-use mathlib.Core.List.{List, [], _∷_, _++_, append-nil}
+use Prim.Native.Nat.{ℕ, _+_, _-_, _*_, _^_, _≤_, _<_}
+use mathlib.Core.Bool.{Bool, true, false}
+use mathlib.Core.List.{List, [], _++_, append-nil}
 use mathlib.Core.Logic.{_≢_}
 use mathlib.Core.Path.{_≡_, refl, sym, ap, _∙_}
 use native.Mathlib.Omega.{arith}
-use lib.Dec.{ltb, leb, eqb}
-use lib.ListN.{length, getD, take, drop, replicate, length-replicate, drop-of-length-le}
+use lib.Dec.{ltb, eqb}
+use lib.ListN.{length, drop, replicate, length-replicate, drop-of-length-le}
 use borrow.Author.Tests.{ltb-true, eqb-true, eqb-false}
 use Rattle.rules.specs.Lists.{padded, laidOver}
 use Rattle.rules.specs.Cells.{empty, wordLimit, rowAt, levelOneSize, stageSize, rooms, isHeight}
@@ -21,14 +21,13 @@ use Rattle.cells.proofs.Heights.{orZero-true}
 use Rattle.checks.proofs.Laws.Passed.{Passed}
 use Rattle.start.specs.declared.Opening.{Opening}
 use Rattle.start.specs.declared.Opening.the-variants.{Over, Ready}
-use Rattle.start.specs.declared.reservation.Reservation.{Reservation}
 use Rattle.start.specs.declared.reservation.Reservation.the-variants as reservation
 use Rattle.start.specs.Reservation.{reservationOf}
 use Rattle.start.specs.Opening.{BeginAt, First, Begins, reservationFor}
 use Rattle.start.proofs.Laws.First.{begin-at, first-ready, first-low, first-high}
 use Rattle.placer.specs.declared.Answer.{Answer}
 use Rattle.placer.specs.Answers.{told}
-use Rattle.placer.specs.Stages.{Course, answer, StagesAt, Ran, Underway, Kept}
+use Rattle.placer.specs.Stages.{Course, answer, StagesAt, Ran, Underway}
 use Rattle.placer.specs.Build.{PlaceAt, Emptied, Blank, TryAt, Filled, Tried, Tidied, Placed}
 use Rattle.placer.proofs.Laws.Laying.{padded-none}
 

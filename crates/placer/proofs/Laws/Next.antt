@@ -1,11 +1,11 @@
 -- One stage of a build: the part of the plan that it is lent is empty, and what it leaves is one stage more. Assumes nothing.
-use Prim.Native.Nat.{ℕ, zero, suc, _+_, _-_, _*_, _^_, _≤_, _<_}
+use Prim.Native.Nat.{ℕ, zero, suc, _+_, _-_, _*_, _≤_, _<_}
 use mathlib.Core.List.{List, [], _∷_, _++_}
 use mathlib.Core.Path.{_≡_, refl, sym, ap, _∙_}
 use native.Mathlib.Nat.{suc-mul}
 use native.Mathlib.Omega.{arith}
 use lib.Pow.{pow-mono}
-use lib.ListN.{length, getD, set, take, drop, replicate, length-append, length-replicate, length-set}
+use lib.ListN.{length, set, take, drop, length-append, length-replicate, length-set}
 use lib.Seq.{drop-drop}
 use Rattle.rules.specs.Lists.{padded, laidAt}
 use Rattle.rules.specs.Cells.{empty, wordLimit, rowAt, stageSize}
@@ -15,8 +15,8 @@ use Rattle.rules.specs.Ending.{refused, stage, oneStage}
 use Rattle.rules.specs.Build as rules
 use Rattle.rules.specs.Lean.{blank}
 use Rattle.rules.proofs.Demand.{graph}
-use Rattle.rules.proofs.Stage.Depth.{Ready, still-ready}
-use Rattle.rules.proofs.Build.Lengths.{stage-length, length-padded}
+use Rattle.rules.proofs.Stage.Depth.{still-ready}
+use Rattle.rules.proofs.Build.Lengths.{length-padded}
 use Rattle.columns.specs.Fields.{DONE}
 use Rattle.columns.specs.Lists.{Marks}
 use Rattle.columns.proofs.Area.Frames.{frame-room}
@@ -27,8 +27,7 @@ use Rattle.stage.specs.Finish.{Whole}
 use Rattle.stage.specs.Stage.{StageAt, built, Staged}
 use Rattle.runs.proofs.Laws.Laid.{laid-none, laid-more, laid-length}
 use Rattle.rules.proofs.Stage.Refusals.{before-refusal}
-use Rattle.placer.specs.Stages as specs
-use Rattle.placer.specs.Stages.{Course, Between, Underway, OneAt, One, Kept, answer}
+use Rattle.placer.specs.Stages.{Course, Underway, OneAt, One, answer}
 use Rattle.placer.proofs.Laws.Laying.{laid-next, blank-part, part-inside}
 use Rattle.placer.proofs.Laws.Course.{limit-small, cells-more, words-more, counts-more, before-more, stage-refused, stage-more}
 

@@ -3,7 +3,6 @@ use mathlib.Core.Path.{sym, _∙_}
 use denote.Ref.{now}
 use Rattle.placer.proofs.Laws.Outcome.{Checked}
 use Rattle.placer.proofs.Laws.Outcome.{need-is, pins-few, records-few}
-use mathlib.Core.Path.{refl}
 use native.Mathlib.Omega.{arith}
 use Rattle.placer.proofs.Laws.Outcome.{outcome-refused, words-inside, counts-inside, work-inside, place-at, outcome-built}
 use borrow.Author.Needs.{needs}

@@ -1,22 +1,21 @@
 -- What a build in the program's areas leaves prints the job's text. Assumes nothing.
 use mathlib.Core.Path.{_≡_, refl, sym, _∙_, ap}
-use mathlib.Core.Bool.{Bool, true, false, _&&_}
-use mathlib.Core.List.{List, [], _∷_, _++_}
-use Prim.Native.Nat.{ℕ, zero, suc, _+_, _-_, _*_, _/_, _%_, _^_, _≤_, _<_}
+use mathlib.Core.Bool.{true}
+use mathlib.Core.List.{List}
+use Prim.Native.Nat.{ℕ, zero, suc, _+_, _-_, _*_, _%_, _≤_}
 use native.Mathlib.Nat.{mul-mod-left, mul-div-cancel}
 use native.Mathlib.Omega.{arith}
 use lib.Dec.{leb, eqb}
-use lib.ListN.{length, take, drop}
+use lib.ListN.{length, take}
 use lib.Pow.{pow-pos, pow-mono}
-use lib.Seq.{length-take-le, take-at}
+use lib.Seq.{length-take-le}
 use borrow.Author.Tests.{leb-true, le-leb, eq-eqb}
 use Rattle.rules.specs.Cells.{empty, isHeight, wordLimit, stageSize, rooms}
 use Rattle.rules.specs.Graph.{graphOf, pinCount}
 use Rattle.rules.specs.Records.{groupsOf}
 use Rattle.rules.specs.Checks.{planSized, workSize, areasSized, refusalOf}
 use Rattle.rules.specs.Build as rules
-use Rattle.rules.specs.Job.{Job}
-use Rattle.rules.specs.Listing.{refusedLine, answerText, jobText}
+use Rattle.rules.specs.Listing.{answerText, jobText}
 use Rattle.rules.proofs.Lists.Members.{split, and-true}
 use Rattle.cells.specs.Answers.{orZero}
 use Rattle.checks.proofs.Laws.Passed.{Passed, passed}
@@ -25,7 +24,7 @@ use Rattle.placer.specs.Answers.{told, areas, outcome}
 use Rattle.listing.specs.Listing.{written, answered}
 use Rattle.listing.proofs.Laws.Answered.{at-height, answered-no}
 use Rattle.listing.proofs.Laws.Built.{answer-printed}
-use Rattle.program.specs.Sizes.{jobOf, Fits, AreasAt, BuildAt}
+use Rattle.program.specs.Sizes.{jobOf, AreasAt, BuildAt}
 
 number-cases : {P : Type 0} (n : ℕ) → (n ≡ 0 → P) → ((m : ℕ) → n ≡ suc m → P) → P
 number-cases zero f g = f refl

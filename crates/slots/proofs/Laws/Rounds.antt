@@ -6,14 +6,13 @@ use mathlib.Core.Path.{_≡_, refl, sym, ap, _∙_}
 use native.Mathlib.Omega.{arith}
 use lib.Dec.{eqb}
 use lib.ListN.{take}
-use borrow.Author.Tests.{eq-eqb, ne-eqb, eqb-true, eqb-false}
-use Rattle.rules.specs.Lists.{mem, Found, nothing, found}
+use Rattle.rules.specs.Lists.{mem, nothing, found}
 use Rattle.rules.specs.Merge.{Common, Part, Rank, before, addRank, rankOf, ranking, accepted, builtOf, partOf, Round, none, some, attempt, without, addPart, Merged, rounds, Result, merging}
 use Rattle.rules.proofs.Bools.{and-none, and-right}
 use Rattle.rules.proofs.Lists.Members.{split}
 use Rattle.slots.specs.Slots.{gathered, listed, best, but}
-use Rattle.slots.proofs.Laws.Best.{Among, gathered-in, gathered-out, gathered-same, but-same, but-other}
-use Rattle.slots.proofs.Laws.Ranks.{ranking-slots, without-slot, attempt-none, attempt-some, attempt-next}
+use Rattle.slots.proofs.Laws.Best.{Among, gathered-in, gathered-out, gathered-same}
+use Rattle.slots.proofs.Laws.Ranks.{ranking-slots, attempt-none, attempt-some, attempt-next}
 
 -- ---- along the ranks
 

@@ -1,10 +1,10 @@
 -- The groups of the slots one after the other, and slot i with those of slot j. Assumes nothing.
 use Prim.Native.Nat.{ℕ, zero, suc, _+_, _-_, _<_, _≤_}
-use mathlib.Core.Bool.{Bool, true, false, _&&_}
+use mathlib.Core.Bool.{Bool, true, _&&_}
 use mathlib.Core.List.{List, [], _∷_, _++_, map, append-nil, append-assoc}
 use mathlib.Core.Path.{_≡_, refl, sym, ap, _∙_}
 use native.Mathlib.Omega.{arith}
-use lib.ListN.{length, getD, set, take, drop, length-append, length-drop, length-set, length-map, length-take, take-append-drop, drop-of-length-le, List·getD-map}
+use lib.ListN.{length, getD, set, take, drop, length-append, length-drop, length-set, take-append-drop, drop-of-length-le, List·getD-map}
 use lib.Seq.{take-append-seam, drop-append-seam, length-take-le, take-take, take-set-lt, drop-set-lt, split-at, set-split, getD-take, take-at, drop-at, take-append-le, drop-append-le}
 use Rattle.rules.specs.Lists.{sum, every}
 use Rattle.rules.specs.Merge.{splitBy, joined}

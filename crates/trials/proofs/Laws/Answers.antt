@@ -1,9 +1,9 @@
 -- A build's answer as a trial reads it: the test, and the words that fit. Assumes nothing.
 use Prim.Native.Nat.{ℕ, zero, suc, _-_, _≤_}
-use mathlib.Core.Bool.{Bool, true, false, _&&_}
+use mathlib.Core.Bool.{false, _&&_}
 use mathlib.Core.List.{List, [], _∷_, _++_}
 use mathlib.Core.Logic.{_≢_}
-use mathlib.Core.Path.{_≡_, refl, sym, ap, _∙_}
+use mathlib.Core.Path.{_≡_, refl}
 use native.Mathlib.Omega.{arith}
 use lib.Dec.{eqb, leb}
 use lib.ListN.{length, length-append}
@@ -14,7 +14,7 @@ use Rattle.rules.specs.Records.{Group, waitingOf}
 use Rattle.rules.specs.Reservation.{reserved, reservable}
 use Rattle.rules.specs.Traversal.{setting}
 use Rattle.rules.specs.Placing.{filledPlan}
-use Rattle.rules.specs.Ending.{refused, stage, oneStage}
+use Rattle.rules.specs.Ending.{oneStage}
 use Rattle.rules.specs.Build.{Stage, Answer, refusal, whole, more, stages, build, wordsOf, refuse, reply}
 use Rattle.rules.specs.Merge.{accepted}
 use Rattle.rules.proofs.Lists.Members.{split}

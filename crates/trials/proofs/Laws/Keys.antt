@@ -1,18 +1,16 @@
 -- The keys of the open slots after slot i: what the loop keeps. Assumes nothing.
-use Prim.Native.Nat.{ℕ, zero, suc, _+_, _-_, _*_, _<_, _≤_, max}
-use mathlib.Core.Bool.{Bool, true, false}
-use mathlib.Core.List.{List, [], _++_}
-use mathlib.Core.Logic.{_⊎_, inl, inr, _≢_}
-use mathlib.Core.Path.{_≡_, refl, sym, ap, _∙_}
+use Prim.Native.Nat.{ℕ, _+_, _-_, _*_, _<_, _≤_}
+use mathlib.Core.Bool.{true}
+use mathlib.Core.List.{List, _++_}
+use mathlib.Core.Logic.{inl, inr, _≢_}
+use mathlib.Core.Path.{_≡_, refl, ap, _∙_}
 use native.Mathlib.Omega.{arith}
-use lib.Dec.{eqb}
 use lib.ListN.{length, getD, take, drop}
-use borrow.Author.Tests.{eq-eqb, ne-eqb}
-use Rattle.rules.specs.Merge.{Common, Part, rankOf, sizeFor}
+use borrow.Author.Tests.{ne-eqb}
+use Rattle.rules.specs.Merge.{Common, Part, rankOf}
 use Rattle.rules.proofs.Lists.Members.{true-false}
 use Rattle.unions.specs.Unions.{Shares, Measured}
 use Rattle.slots.specs.Slots.{own, free, held}
-use Rattle.slots.specs.Moves.{OwnAt}
 use Rattle.slots.specs.Stores.{KeyAt, Ranked}
 use Rattle.slots.proofs.Laws.Accepts.{Ready}
 use Rattle.slots.proofs.Laws.Bars.{same-or}

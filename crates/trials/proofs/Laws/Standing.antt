@@ -1,19 +1,18 @@
 -- What every step keeps, and the groups of a slot as a part of the indices. Assumes nothing.
 use Prim.Native.Nat.{ℕ, zero, suc, _+_, _-_, _*_, _<_, _≤_}
-use mathlib.Core.Bool.{Bool, true, false}
+use mathlib.Core.Bool.{Bool, true}
 use mathlib.Core.List.{List, [], _∷_, _++_}
 use mathlib.Core.Logic.{_⊎_, inl, inr}
-use mathlib.Core.Path.{_≡_, refl, sym, ap, _∙_}
+use mathlib.Core.Path.{_≡_, refl, _∙_}
 use native.Mathlib.Omega.{arith}
 use lib.Dec.{ltb}
-use lib.ListN.{length, getD, take, drop, length-drop, take-append-drop}
+use lib.ListN.{length, take, drop, length-drop, take-append-drop}
 use lib.Seq.{length-take-le, drop-drop, take-take}
 use borrow.Author.Tests.{ltb-true}
 use Rattle.rules.specs.Lists.{sum, every}
 use Rattle.rules.specs.Records.{groupsOf}
 use Rattle.rules.specs.Merge.{splitBy}
 use Rattle.rules.proofs.Lists.Members.{In, split, in-cons, in-nil, in-append-left, in-append-right, true-false}
-use Rattle.columns.specs.Area.{Room}
 use Rattle.start.specs.Opening.{Idle}
 use Rattle.placer.specs.declared.Answer.{Answer}
 use Rattle.unions.specs.Unions.{UnionAt, Leaves, Measured, Built}
@@ -22,7 +21,7 @@ use Rattle.unions.proofs.Laws.Parts.{idle-part}
 use Rattle.slots.specs.Moves.{StartAt}
 use Rattle.slots.proofs.Laws.Sums.{sum-part}
 use Rattle.layout.specs.Layout.{owned}
-use Rattle.trials.specs.Ranks.{groupsAt, Stands, Stays, PairAt}
+use Rattle.trials.specs.Ranks.{groupsAt, Stands, Stays}
 use Rattle.trials.proofs.Laws.Owned.{part-length, part-below, part-above, owned-same}
 
 -- ---- a slot's groups

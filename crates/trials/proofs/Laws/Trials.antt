@@ -1,12 +1,12 @@
 -- The trial of one union: joined slots, and what the test decides. Assumes nothing.
-use Prim.Native.Nat.{ℕ, zero, suc, _+_, _-_, _*_, _<_, _≤_}
+use Prim.Native.Nat.{ℕ, _+_, _-_, _*_, _<_, _≤_}
 use mathlib.Core.Bool.{Bool, true, false, _&&_}
-use mathlib.Core.List.{List, [], _++_}
-use mathlib.Core.Logic.{_⊎_, inl, inr}
+use mathlib.Core.List.{List, _++_}
+use mathlib.Core.Logic.{inl, inr}
 use mathlib.Core.Path.{_≡_, refl, sym, ap, _∙_}
 use native.Mathlib.Omega.{arith}
 use lib.Dec.{eqb, leb}
-use lib.ListN.{length, getD, set, take, drop, replicate, length-set, length-drop, length-replicate}
+use lib.ListN.{length, getD, set, take, drop, length-set, length-drop, length-replicate}
 use lib.Seq.{length-take-le, getD-set-other}
 use borrow.Author.Tests.{leb-true}
 use Rattle.rules.specs.Cells.{isHeight, rooms, empty}
@@ -16,18 +16,16 @@ use Rattle.rules.specs.Build as rules
 use Rattle.rules.specs.Merge.{Common, builtOf, named, accepted}
 use Rattle.rules.proofs.Lists.Members.{and-true, true-false}
 use Rattle.rules.proofs.Stage.Refusals.{refused-some}
-use Rattle.start.specs.Opening.{Idle}
 use Rattle.placer.specs.declared.Answer.{Answer}
 use Rattle.placer.specs.Answers.{told}
 use Rattle.placer.specs.Build.{Blank}
-use Rattle.unions.specs.Unions as unions
-use Rattle.unions.specs.Unions.{Built, Places, Shares}
+use Rattle.unions.specs.Unions.{Built, Places}
 use Rattle.unions.proofs.Laws.Parts.{idle-part}
 use Rattle.slots.specs.Moves.{TakeAt, Taken}
 use Rattle.slots.specs.Stores.{UnionAt, Joined}
 use Rattle.layout.specs.Layout.{owned}
 use Rattle.trials.specs.Ranks.{groupsAt, Stands, Stays}
-use Rattle.trials.specs.Trials.{BuildAt, JoinAt, Joins, TryAt, Barred, Takes, Tried}
+use Rattle.trials.specs.Trials.{BuildAt, JoinAt, Joins, TryAt, Tried}
 use Rattle.trials.proofs.Laws.Owned.{lent, own-length, back-owned, set-owned, owned-same, part-above}
 use Rattle.trials.proofs.Laws.Standing.{stands-stays, stays-leaves, leaves-owned, part-stays, stays-more}
 use Rattle.trials.proofs.Laws.Answers.{accepts-is, words-few}

@@ -1,6 +1,5 @@
 -- `trials::accepts` meets its contract. Assumes nothing.
 use Rattle.trials.proofs.Laws.Answers.{refuses, admits}
-use borrow.Author.Needs.{needs}
 use Rattle.trials.proofs.accepts.Statement.{statement}
 use Rattle.trials.proofs.accepts.Tie as tie
 use Rattle.trials.proofs.accepts.Reads as reads

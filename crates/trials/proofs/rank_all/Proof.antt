@@ -1,7 +1,7 @@
 -- `trials::rank_all` meets its contract: the slots passed have their keys. Assumes nothing.
 use Prim.Native.Nat.{_-_}
 use lib.ListN.{length}
-use Rattle.trials.proofs.Laws.Keys.{Keying, keying-none, keying-at, keying-more, keying-done}
+use Rattle.trials.proofs.Laws.Keys.{Keying, keying-at, keying-more, keying-done}
 use borrow.Author.Needs.{needs}
 use Rattle.trials.proofs.rank_all.Statement.{statement}
 use Rattle.trials.proofs.rank_all.Tie as tie

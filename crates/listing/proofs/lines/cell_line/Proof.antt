@@ -1,5 +1,4 @@
 -- `listing::lines::cell_line` meets its contract: an empty cell has no line. Assumes nothing.
-use native.Mathlib.Omega.{arith}
 use Rattle.rules.specs.Listing.{text}
 use Rattle.listing.proofs.Laws.Laid.{laid-none, laid-as, laid-more}
 use Rattle.listing.proofs.Laws.Lines.{cell-none, cell-one}

@@ -1,13 +1,13 @@
 -- `listing::lines::stages_lines` meets its contract. After k turns the first k stages are laid. Assumes nothing.
 use native.Mathlib.Omega.{arith}
-use mathlib.Core.Path.{_≡_, refl, sym}
+use mathlib.Core.Path.{_≡_, sym}
 use Prim.Native.Nat.{_-_, _≤_}
-use lib.ListN.{length, take}
+use lib.ListN.{take}
 use Rattle.rules.specs.Lists.{sum}
 use Rattle.rules.specs.Listing.{stagesLines}
 use Rattle.listing.specs.Laid.{Laid}
 use Rattle.listing.specs.Listing.{stagesIn}
-use Rattle.listing.proofs.Laws.Laid.{laid-as, laid-size}
+use Rattle.listing.proofs.Laws.Laid.{laid-size}
 use Rattle.listing.proofs.Laws.Lines.{stages-start, stages-next, holds-one, stage-as, sum-add, sum-start}
 use borrow.Author.Needs.{needs}
 use Rattle.listing.proofs.lines.stages_lines.Statement.{statement}

@@ -1,5 +1,5 @@
 -- `listing::lines::whole` meets its contract: the first line, the stages, the end. Assumes nothing.
-use Rattle.rules.specs.Listing.{text, listing}
+use Rattle.rules.specs.Listing.{text}
 use Rattle.listing.proofs.Laws.Laid.{laid-more}
 use Rattle.listing.proofs.Laws.Lines.{listing-as}
 use borrow.Author.Needs.{needs}
