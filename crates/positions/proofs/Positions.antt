@@ -5,9 +5,9 @@ use native.Mathlib.Omega.{arith}
 use lib.Count.{leadingZeros, leading-top}
 use lib.Pow.{pow-mono}
 use lib.Dec.{ltb}
+use borrow.Author.Tests.{ltb-true, ltb-false}
 use Rattle.rules.specs.Cells.{logFrom, log2, rowStart, levelOf, cellOf, position}
 use Rattle.rules.proofs.Lists.Members.{split}
-use Rattle.rules.proofs.Tree.Loads.{ltb-true, ltb-false}
 use Rattle.rules.proofs.Cells.Positions.{log-good, log-one, position-placed}
 use Rattle.cells.proofs.Heights.{shifted}
 

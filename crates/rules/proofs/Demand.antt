@@ -7,6 +7,7 @@ use mathlib.Core.List.{List, [], _∷_, _++_}
 use native.Mathlib.Omega.{arith}
 use lib.Dec.{ltb, lt→ltb}
 use lib.ListN.{length, getD, List·getD-eq-default}
+use borrow.Author.Tests.{ltb-true, ltb-false}
 use Rattle.rules.specs.Lists.{mem, keep, insertAll}
 use Rattle.rules.specs.Cells.{filled, empty, wordLimit}
 use Rattle.rules.specs.Graph.{Node, leaf, gate, pinOf, operands, below, ownBit, value}
@@ -15,7 +16,7 @@ use Rattle.rules.specs.Reservation.{reservable, reserved}
 use Rattle.rules.specs.Traversal.{over, Setting, setting, levelAt}
 use Rattle.rules.specs.Placing.{filledPlan, tree}
 use Rattle.rules.specs.Ending.{stage, oneStage}
-use Rattle.rules.specs.Build.{Stage, refusal, whole, more, stages, build}
+use Rattle.rules.specs.Build.{Stage, refusal, whole, stages, build}
 use Rattle.rules.specs.States.{state, after}
 use Rattle.rules.specs.Depth.{depth, remaining}
 use Rattle.rules.specs.Fold.{bitAt, isLeaf, firstLoad, loadFrom}
@@ -29,7 +30,7 @@ use Rattle.rules.proofs.Stage.Staged.{Ended, the-end, stage-holds, rema
 use Rattle.rules.proofs.Stage.Depth.{Ready, still-ready, stage-cases, shallow, rooms-suffice}
 use Rattle.rules.proofs.Build.Lengths.{Sizes, sizes, Sized, all-sized}
 use Rattle.rules.proofs.Tree.Invariant.{final}
-use Rattle.rules.proofs.Tree.Loads.{Fine, fine-kept, fine-first, ltb-true, ltb-false}
+use Rattle.rules.proofs.Tree.Loads.{Fine, fine-kept, fine-first}
 use Rattle.rules.proofs.Fold.Folds.{value-own}
 use Rattle.rules.proofs.Fold.Whole.{Folded, folded, level-zero, zero-kept}
 use Rattle.rules.proofs.Written.Words.{once-insertAll}

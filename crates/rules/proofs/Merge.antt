@@ -365,11 +365,11 @@ module _ (K : ℕ) (g : List Node) (given : List ℕ) (groups : List Group) (roo
 
 -- ---- the group list
 
-split-joined : (ns is : List ℕ) → sum ns ≡ length is → joined (splitBy ns is) ≡ is
+pub joined-split : (ns is : List ℕ) → sum ns ≡ length is → joined (splitBy ns is) ≡ is
 unfolding splitBy joined sum
-split-joined [] [] e = refl
-split-joined [] (i ∷ is) e = absurd (omega arith)
-split-joined (n ∷ ns) is e = ap (λ (l : List ℕ). take n is ++ l) (split-joined ns (drop n is) (omega (arith, length-drop n is))) ∙ take-append-drop n is
+joined-split [] [] e = refl
+joined-split [] (i ∷ is) e = absurd (omega arith)
+joined-split (n ∷ ns) is e = ap (λ (l : List ℕ). take n is ++ l) (joined-split ns (drop n is) (omega (arith, length-drop n is))) ∙ take-append-drop n is
 
 -- Each group occurs in the lent list as often after a merge as before.
 pub groups-kept : (K : ℕ) (gates given records : List ℕ) (l : GroupList) (extra size : ℕ) → sum (l .lengths) ≡ length (l .indices) → (m : MergeAnswer) → mergeAnswerOf K gates given records l extra size ≡ m →
@@ -377,4 +377,4 @@ pub groups-kept : (K : ℕ) (gates given records : List ℕ) (l : GroupList) (ex
 unfolding mergeAnswerOf groupListAfter
 groups-kept K gates given records l extra size h (turned i n k) e f = refl
 groups-kept K gates given records l extra size h (merged r) e f =
-    merge-keeps K (graphOf gates) given (groupsOf records) (rooms K size) extra (splitBy (l .lengths) (l .indices)) r e .same f ∙ ap (count f) (split-joined (l .lengths) (l .indices) h)
+    merge-keeps K (graphOf gates) given (groupsOf records) (rooms K size) extra (splitBy (l .lengths) (l .indices)) r e .same f ∙ ap (count f) (joined-split (l .lengths) (l .indices) h)

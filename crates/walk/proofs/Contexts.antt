@@ -1,25 +1,25 @@
 -- A context from what a stage is handed, and the bounds that hold in every context: levels are below N + 1, lists of listed pins are no longer than that. Assumes nothing.
 use mathlib.Core.Path.{_≡_, refl, _∙_, ap}
 use mathlib.Core.List.{List, reverse}
-use Prim.Native.Nat.{ℕ, zero, suc, _<_, _≤_}
+use Prim.Native.Nat.{ℕ, _<_, _≤_}
 use native.Mathlib.Omega.{arith}
 use lib.ListN.{length, length-reverse}
 use Rattle.rules.specs.Lists.{distinct, gather}
 use Rattle.rules.specs.Cells.{empty}
-use Rattle.rules.specs.Graph.{Node, below}
+use Rattle.rules.specs.Graph.{Node}
 use Rattle.rules.specs.Traversal.{Setting, setting, levelAt, traverse}
-use Rattle.rules.specs.Depth.{depth}
 use Rattle.rules.specs.Lean.{wanted, lacks}
 use Rattle.rules.specs.Placing.{treeOf}
 use Rattle.rules.proofs.Lists.Members.{In}
-use Rattle.rules.proofs.Walk.Traverse.{Ranked, Topo, none, more}
-use Rattle.rules.proofs.Walk.Levels.{over-least, length-levels}
+use Rattle.rules.proofs.Walk.Traverse.{Topo, none, more}
+use Rattle.rules.proofs.Walk.Levels.{length-levels}
 use Rattle.rules.proofs.Needed.Needs.{Graph, setting-sound, asked-listed}
 use Rattle.rules.proofs.Needed.Lacks.{wanted-in}
 use Rattle.rules.proofs.Fold.Whole.{mark}
 use Rattle.rules.proofs.Stage.Last.{Once, nobody, one}
 use Rattle.rules.proofs.Written.Words.{once-insertAll}
 use Rattle.rules.proofs.Stage.Depth.{Ready}
+use Rattle.rules.proofs.Build.Bounds.{depth-rank}
 use Rattle.columns.proofs.Lists.Swap.{once-few}
 use Rattle.walk.specs.Stands.{Context}
 
@@ -48,11 +48,6 @@ context K g r G low high small done waiting R = record {
 }
 
 -- ---- levels
-
-pub depth-rank : (g : List Node) (stop : List ℕ) (r : ℕ → ℕ) → Ranked g stop r → (f p : ℕ) → depth f g stop p ≤ r p
-unfolding depth
-depth-rank g stop r k zero p = omega arith
-depth-rank g stop r k (suc f) p = over-least (depth f g stop) (below g stop p) (r p) (λ x i. omega (arith, depth-rank g stop r k f x, k p x i))
 
 module _ (C : Context) where
   abbrev m : ℕ

@@ -3,7 +3,6 @@ use Prim.Native.Nat.{ℕ, zero, suc, _+_, _*_, _%_, _≤_, _<_}
 use mathlib.Core.Bool.{Bool, true, _&&_}
 use mathlib.Core.List.{List, [], _∷_}
 use mathlib.Core.Path.{_≡_, refl, sym, ap, _∙_}
-use mathlib.Core.Logic.{inl, inr}
 use native.Mathlib.Omega.{arith}
 use lib.Dec.{leb, ltb, eqb}
 use lib.ListN.{length, getD, drop}
@@ -13,7 +12,7 @@ use Rattle.rules.specs.Cells.{isHeight}
 use Rattle.rules.specs.Graph.{Node, leaf, gate, pinOf, graphOf, pinCount}
 use Rattle.rules.specs.Records.{Group, Groups?, unreadable, groups, sizeOf, groupAt, wholeAt, andThen, read, endpointsOf, allNamed, groupsOf}
 use Rattle.rules.specs.Checks.{nodesRight, graphRight, groupsRight, recordsRight, givenRight, refusalOf}
-use Rattle.rules.proofs.Lists.Members.{In, split, and-true, true-false, in-cons, in-nil, in-getD}
+use Rattle.rules.proofs.Lists.Members.{In, every-in, split, and-true, true-false, in-getD}
 use Rattle.rules.proofs.Demand.{Valid, Ends, first, later}
 use Rattle.records.specs.Values.{sizeAt, endpointAt}
 use Rattle.graph.proofs.Gates.{graph-length}
@@ -49,13 +48,6 @@ gates-below n (gate c d ∷ g) r zero a b e =
     let z : n + 0 ≡ n = omega arith in
     rw (z, ← s .0, ← s .1) (gate-below n c d g r .0)
 gates-below n (gate c d ∷ g) r (suc p) a b e = let z : n + suc p ≡ suc n + p = omega arith in rw z (gates-below (suc n) g (gate-below n c d g r .1) p a b e)
-
-every-in : (f : ℕ → Bool) (q : ℕ) (xs : List ℕ) → every f xs ≡ true → In q xs → f q ≡ true
-unfolding every
-every-in f q [] e i = in-nil q i
-every-in f q (x ∷ xs) e i = split (f x)
-    (λ t. elim (in-cons q x xs i) [ inl d ↦ rw d t | inr d ↦ every-in f q xs (rw (t, every) at e) d ])
-    (λ t. true-false e (rw (t, every)))
 
 named-below : (n q : ℕ) (gs : List Group) → allNamed n gs ≡ true → Ends q gs → q < n
 unfolding allNamed

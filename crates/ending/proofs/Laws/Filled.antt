@@ -6,12 +6,12 @@ use mathlib.Core.List.{List, [], _∷_}
 use Prim.Native.Nat.{ℕ, suc, _*_, _≤_}
 use native.Mathlib.Omega.{arith}
 use lib.Dec.{ltb}
+use borrow.Author.Tests.{ltb-true, ltb-false}
 use Rattle.rules.specs.Lists.{nothing, found}
 use Rattle.rules.specs.Cells.{filled, rowAt, row, firstEmpty}
 use Rattle.rules.specs.Placing.{cellAt}
 use Rattle.rules.proofs.Lists.Members.{split, true-false}
 use Rattle.rules.proofs.Stage.Staged.{two-step, half-height}
-use Rattle.rules.proofs.Tree.Loads.{ltb-true, ltb-false}
 use Rattle.walk.specs.Stands.{Context}
 use Rattle.tree.specs.Search.{SearchAt, First}
 use Rattle.tree.proofs.Search.{cell-found, cell-none}

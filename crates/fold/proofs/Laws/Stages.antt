@@ -9,12 +9,12 @@ use native.Mathlib.Nat.{mod-eq-of-lt, mod-eq-sub-mod}
 use lib.Dec.{ltb}
 use lib.ListN.{length, getD, take, drop, replicate, length-append, length-take, length-drop, length-replicate, getD-replicate, take-append-drop}
 use lib.Seq.{getD-take, getD-drop, take-add, drop-drop, drop-length, length-take-le, ext-getD}
+use borrow.Author.Tests.{ltb-true, ltb-false}
 use Rattle.rules.specs.Lists.{nothing, found, laidOver}
 use Rattle.rules.specs.Cells.{isHeight}
 use Rattle.rules.specs.Graph.{Node, graphOf, pinCount}
 use Rattle.rules.specs.Fold.{asNumber, bitAt, stageBits, lowest, loadFrom, firstLoad, foldBits}
 use Rattle.rules.proofs.Lists.Members.{split}
-use Rattle.rules.proofs.Tree.Loads.{ltb-true, ltb-false}
 use Rattle.rules.proofs.Stage.Puts.{cell}
 use Rattle.rules.proofs.Fold.Bits.{lowest-stands, load-none, load-found, load-past, getD-stageBits, folded, folded-step, folded-none}
 use Rattle.cells.specs.Answers.{orZero}

@@ -7,12 +7,11 @@ use native.Mathlib.Omega.{arith}
 use lib.Dec.{eqb, ltb}
 use lib.ListN.{length, getD, set, length-set}
 use lib.Seq.{getD-set-same, getD-set-other, ext-getD}
-use borrow.Author.Tests.{eq-eqb, ne-eqb}
+use borrow.Author.Tests.{eq-eqb, ne-eqb, ltb-true, ltb-false}
 use Rattle.rules.specs.Cells.{isHeight, empty, filled, rowStart, firstLower, secondLower}
 use Rattle.rules.specs.Graph.{Node, leaf, gateBit}
 use Rattle.rules.specs.Fold.{bitAt, asNumber, stageBits}
 use Rattle.rules.proofs.Lists.Members.{split}
-use Rattle.rules.proofs.Tree.Loads.{ltb-true, ltb-false}
 use Rattle.rules.proofs.Build.Lengths.{length-stageBits}
 use Rattle.rules.proofs.Fold.Bits.{lower-cells, bit-empty, bit-copies, bit-lacks, bit-splits, getD-stageBits}
 use Rattle.cells.specs.Answers.{orZero}

@@ -8,13 +8,12 @@ use native.Mathlib.Omega.{arith}
 use lib.Dec.{ltb, eqb}
 use lib.ListN.{length, getD, take, drop, replicate, length-append, length-take, length-drop, getD-replicate, List·getD-append, List·getD-eq-default}
 use lib.Seq.{getD-take, getD-drop, getD-append-add, length-take-le, ext-getD, take-at, drop-at}
-use borrow.Author.Tests.{not-false}
+use borrow.Author.Tests.{not-false, ltb-true, ltb-false}
 use Rattle.rules.specs.Cells.{empty, filled}
 use Rattle.rules.specs.Lists.{mem}
 use Rattle.rules.specs.Graph.{Node, leaf, graphOf, pinCount, ownBit}
 use Rattle.rules.specs.Fold.{asNumber, bitAt, isLeaf, firstLoad}
 use Rattle.rules.proofs.Lists.Members.{split, eqb-true}
-use Rattle.rules.proofs.Tree.Loads.{ltb-true, ltb-false}
 use Rattle.rules.proofs.Fold.Bits.{bit-empty, bit-load}
 use Rattle.rules.proofs.Bools.{and-none}
 use Rattle.folding.specs.Bits.{RightFrom, UpAt, FoldsUp}

@@ -10,7 +10,7 @@ use Rattle.rules.specs.Cells.{empty, wordLimit}
 use Rattle.rules.specs.Graph.{Node, below}
 use Rattle.rules.specs.Records.{Group, waitingOf}
 use Rattle.rules.specs.Reservation.{reserved, reservable}
-use Rattle.rules.specs.Ending.{stage, oneStage}
+use Rattle.rules.specs.Ending.{oneStage}
 use Rattle.rules.specs.Depth.{depth, remaining}
 use Rattle.rules.specs.Build.{Stage, Answer, refusal, whole, stages, build, reply, refuse}
 use Rattle.rules.proofs.Lists.Members.{in-here, split, eqb-true, eqb-false}

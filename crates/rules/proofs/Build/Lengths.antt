@@ -7,6 +7,7 @@ use native.Mathlib.Nat.{suc-mul}
 use native.Mathlib.Omega.{arith}
 use lib.Dec.{leb}
 use lib.ListN.{length, take, drop, replicate, length-append, length-replicate, length-drop, length-map}
+use borrow.Author.Tests.{ltb-false}
 use Rattle.rules.specs.Lists.{padded, laidOver, upTo}
 use Rattle.rules.specs.Cells.{empty, wordLimit, rooms, stageSize}
 use Rattle.rules.specs.Graph.{Node}
@@ -19,7 +20,6 @@ use Rattle.rules.proofs.Lists.Members.{split, and-true}
 use Rattle.rules.proofs.Lists.Lengths.{length-upTo}
 use Rattle.rules.proofs.Needed.Needs.{Graph, Sound, setting-sound}
 use Rattle.rules.proofs.Needed.Lacks.{leb-true}
-use Rattle.rules.proofs.Tree.Loads.{ltb-false}
 use Rattle.rules.proofs.Tree.Invariant.{final}
 use Rattle.rules.proofs.Stage.Staged.{the-end, not-refused}
 use Rattle.rules.proofs.Stage.Depth.{Ready, still-ready, stage-cases}

@@ -4,9 +4,10 @@ use mathlib.Core.Path.{_≡_, sym, ap}
 use native.Mathlib.Omega.{arith}
 use lib.Dec.{ltb}
 use lib.Pow.{pow-mono, pow-pos}
+use borrow.Author.Tests.{ltb-true, ltb-false}
 use Rattle.rules.specs.Cells.{logFrom, log2, rowStart, levelOf, rowAt, position, cellOf}
 use Rattle.rules.proofs.Lists.Members.{split}
-use Rattle.rules.proofs.Tree.Loads.{ltb-true, ltb-false, rows}
+use Rattle.rules.proofs.Tree.Loads.{rows}
 
 -- 2 ^ j is the greatest power of two not above p
 pub record Log (j p : ℕ) : Type 0 where

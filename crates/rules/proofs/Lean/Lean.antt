@@ -7,6 +7,7 @@ use mathlib.Core.List.{List, [], _∷_, _++_, map, append-assoc}
 use native.Mathlib.Omega.{arith}
 use native.Mathlib.Nat.{mul-le-mul-left, one-le-pow}
 use lib.ListN.{length}
+use borrow.Author.Tests.{ltb-true}
 use Rattle.rules.specs.Lists.{mem, count, nothing, found}
 use Rattle.rules.specs.Cells.{empty, filled, row, rowAt}
 use Rattle.rules.specs.Traversal.{Setting, levelAt, greatest}
@@ -17,7 +18,7 @@ use Rattle.rules.proofs.Lists.Members.{In, split, in-here, in-append, i
 use Rattle.rules.proofs.Walk.Reverse.{Sub}
 use Rattle.rules.proofs.Needed.Needs.{Sound}
 use Rattle.rules.proofs.Stage.Puts.{cell}
-use Rattle.rules.proofs.Tree.Loads.{rows, ltb-true}
+use Rattle.rules.proofs.Tree.Loads.{rows}
 use Rattle.rules.proofs.Tree.Sane.{Marked}
 use Rattle.rules.proofs.Tree.Invariant.{Placeable, row-empty}
 use Rattle.rules.proofs.Stage.Fuel.{vacant, count-length, row-length, one-filled, turns, down, fill-more, fill-any}

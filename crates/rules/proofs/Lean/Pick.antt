@@ -7,6 +7,7 @@ use mathlib.Core.List.{List, [], _∷_, _++_}
 use native.Mathlib.Omega.{arith}
 use lib.Dec.{eqb, ltb}
 use lib.ListN.{length, getD}
+use borrow.Author.Tests.{ltb-true, ltb-false}
 use Rattle.rules.specs.Lists.{mem, keep, Found, nothing, found}
 use Rattle.rules.specs.Cells.{empty}
 use Rattle.rules.specs.Traversal.{Setting, levelAt}
@@ -15,7 +16,6 @@ use Rattle.rules.specs.Lean.{startLevels, rankIn, rank, levelList, candi
 use Rattle.rules.proofs.Lists.Members.{In, Out, split, eqb-true, in-here, in-there, in-cons, in-nil, keep-in}
 use Rattle.rules.proofs.Needed.Needs.{Sound}
 use Rattle.rules.proofs.Stage.Puts.{cell}
-use Rattle.rules.proofs.Tree.Loads.{ltb-true, ltb-false}
 use Rattle.rules.proofs.Tree.Sane.{Marked}
 use Rattle.rules.proofs.Tree.Fair.{Fair, same-reverse}
 use Rattle.rules.proofs.Needed.Lacks.{true-ltb, false-ltb, has-level}

@@ -7,7 +7,7 @@ use mathlib.Core.List.{List, [], _∷_, _++_, map, reverse, reverseAux}
 use native.Mathlib.Omega.{arith}
 use lib.Dec.{T, eqb, eqb→eq, eqb-refl}
 use lib.ListN.{length, getD}
-use Rattle.rules.specs.Lists.{mem, keep, insert, insertAll, distinct, count, gather, lastOf, init, swapOut, swapOutAll}
+use Rattle.rules.specs.Lists.{mem, every, keep, insert, insertAll, distinct, count, gather, lastOf, init, swapOut, swapOutAll}
 
 abbrev pub In : ℕ → List ℕ → Type 0
 In p xs = mem p xs ≡ true
@@ -263,3 +263,10 @@ pub count-append : (f : ℕ → Bool) (xs ys : List ℕ) → count f (xs ++ ys) 
 unfolding count
 count-append f [] ys = omega arith
 count-append f (x ∷ xs) ys = split (f x) (λ e. rw (e, count) (omega (arith, count-append f xs ys))) (λ e. rw (e, count) (count-append f xs ys))
+
+pub every-in : (f : ℕ → Bool) (q : ℕ) (xs : List ℕ) → every f xs ≡ true → In q xs → f q ≡ true
+unfolding every
+every-in f q [] e i = in-nil q i
+every-in f q (x ∷ xs) e i = split (f x)
+    (λ t. elim (in-cons q x xs i) [ inl d ↦ rw d t | inr d ↦ every-in f q xs (rw (t, every) at e) d ])
+    (λ t. true-false e (rw (t, every)))

@@ -7,6 +7,7 @@ use mathlib.Core.List.{List, [], _∷_}
 use native.Mathlib.Omega.{arith}
 use lib.Dec.{eqb, ltb, leb, lt→ltb, le→leb, leb→le}
 use lib.ListN.{length, getD}
+use borrow.Author.Tests.{ltb-true, ltb-false}
 use Rattle.rules.specs.Lists.{mem, keep, distinct, gather}
 use Rattle.rules.specs.Graph.{below}
 use Rattle.rules.specs.Traversal.{Setting, levelAt}
@@ -19,7 +20,6 @@ use Rattle.rules.proofs.Walk.Reverse.{Sub, out-sub, nat, reached}
 use Rattle.rules.proofs.Needed.Needs.{Sound, asked-low}
 use Rattle.rules.proofs.Stage.Last.{nobody, once-length}
 use Rattle.rules.proofs.Written.Words.{once-insertAll}
-use Rattle.rules.proofs.Tree.Loads.{ltb-true, ltb-false}
 use Rattle.rules.proofs.Tree.Sane.{Marked}
 use Rattle.rules.proofs.Tree.Cone.{unplaced}
 use Rattle.rules.proofs.Tree.Fair.{Fair}

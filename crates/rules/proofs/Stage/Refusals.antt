@@ -13,7 +13,7 @@ use Rattle.rules.specs.Records.{Group, waitingOf}
 use Rattle.rules.specs.Reservation.{memories, duplicates, reserved, reservable}
 use Rattle.rules.specs.Traversal.{setting}
 use Rattle.rules.specs.Placing.{filledPlan}
-use Rattle.rules.specs.Ending.{refused, stage, oneStage}
+use Rattle.rules.specs.Ending.{stage, oneStage}
 use Rattle.rules.specs.Build.{Stage, Answer, refusal, more, before, stages, build}
 use Rattle.rules.specs.States.{state, afterFrom, after}
 use Rattle.rules.specs.Capacity.{ReservationOver, no-word-left, over-limit, Stops, nine, over, Refused}

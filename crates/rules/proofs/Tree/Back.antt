@@ -9,6 +9,7 @@ use native.Mathlib.Nat.{pow-succ'}
 use lib.Dec.{eqb, ltb}
 use lib.ListN.{length, getD, set}
 use lib.Seq.{getD-set-same, getD-set-other, set-set, set-getD, set-comm}
+use borrow.Author.Tests.{ltb-false}
 use Rattle.rules.specs.Cells.{empty, filled, rowAt}
 use Rattle.rules.specs.Graph.{leaf, pinOf}
 use Rattle.rules.specs.Traversal.{Setting, levelAt}
@@ -16,7 +17,7 @@ use Rattle.rules.specs.Placing.{place, placed, takeBack}
 use Rattle.rules.proofs.Lists.Members.{In, split, true-false, eqb-true}
 use Rattle.rules.proofs.Needed.Needs.{Sound}
 use Rattle.rules.proofs.Stage.Staged.{two-step}
-use Rattle.rules.proofs.Tree.Loads.{ltb-false, wide, rows, first, second}
+use Rattle.rules.proofs.Tree.Loads.{wide, rows, first, second}
 use Rattle.rules.proofs.Tree.Sane.{Marked, frame}
 use Rattle.rules.proofs.Tree.Invariant.{Placeable}
 use Rattle.rules.proofs.Tree.Fair.{Fair, Under, apart, bare, listed-filled}

@@ -8,6 +8,7 @@ use native.Mathlib.Omega.{arith}
 use native.Mathlib.Nat.{pow-succ'}
 use lib.Dec.{ltb}
 use lib.ListN.{length, getD, set}
+use borrow.Author.Tests.{ltb-true, ltb-false}
 use Rattle.rules.specs.Lists.{mem}
 use Rattle.rules.specs.Cells.{filled, empty, rowAt}
 use Rattle.rules.specs.Graph.{leaf, gate, pinOf, operands, below}
@@ -24,7 +25,7 @@ use Rattle.rules.proofs.Tree.Held.{tree-in, in-tree, node}
 use Rattle.rules.proofs.Stage.Flat.{blank-replicate}
 use Rattle.rules.proofs.Stage.Staged.{two-step}
 use Rattle.rules.proofs.Tree.Invariant.{Placeable, filled-inv}
-use Rattle.rules.proofs.Tree.Loads.{ltb-true, ltb-false, wide, rows, set-either, first, second, level-is}
+use Rattle.rules.proofs.Tree.Loads.{wide, rows, set-either, first, second, level-is}
 use Rattle.rules.proofs.Tree.Sane.{Step, copies, splits, Sane, Marked, same-row, sane-kept, sane-first}
 
 double : (w m k : ℕ) → w * (2 * m) ≡ k → (2 * w) * m ≡ k

@@ -9,6 +9,7 @@ use native.Mathlib.Nat.{pow-succ'}
 use lib.Dec.{ltb}
 use lib.ListN.{length, getD, set, length-set, length-replicate}
 use lib.Seq.{getD-set-other}
+use borrow.Author.Tests.{ltb-true, ltb-false}
 use Rattle.rules.specs.Cells.{filled, empty, rowAt}
 use Rattle.rules.specs.Graph.{leaf, pinOf}
 use Rattle.rules.specs.Traversal.{Setting, levelAt}
@@ -23,7 +24,7 @@ use Rattle.rules.proofs.Stage.Flat.{blank-replicate}
 use Rattle.rules.proofs.Stage.Staged.{two-step, small-filled}
 use Rattle.rules.proofs.Fold.Whole.{zero-kept}
 use Rattle.rules.proofs.Tree.Invariant.{Placeable}
-use Rattle.rules.proofs.Tree.Loads.{ltb-true, ltb-false, wide, rows, first, second}
+use Rattle.rules.proofs.Tree.Loads.{wide, rows, first, second}
 use Rattle.rules.proofs.Tree.Sane.{Sane, Marked, frame, head, sane-kept, sane-first}
 use Rattle.rules.proofs.Tree.Cone.{Tall, tall-kept, cone}
 use Rattle.rules.proofs.Lean.Steady.{Closed, steady}

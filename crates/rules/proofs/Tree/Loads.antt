@@ -2,12 +2,13 @@
 use Prim.Native.Nat.{ℕ, zero, suc, _+_, _-_, _*_, _^_, _≤_, _<_}
 use mathlib.Core.Path.{_≡_, refl, sym, _∙_, ap}
 use mathlib.Core.Logic.{_⊎_, inl, inr}
-use mathlib.Core.Bool.{true, false}
+use mathlib.Core.Bool.{true}
 use mathlib.Core.List.{List, [], _∷_, _++_}
 use native.Mathlib.Omega.{arith}
 use native.Mathlib.Nat.{pow-succ', mul-le-mul-left, one-le-pow, add-zero, add-suc}
-use lib.Dec.{ltb, ltb→lt, nltb→le}
+use lib.Dec.{ltb}
 use lib.ListN.{length, getD, set, replicate}
+use borrow.Author.Tests.{ltb-true, ltb-false}
 use Rattle.rules.specs.Lists.{mem}
 use Rattle.rules.specs.Cells.{filled, empty, rowAt}
 use Rattle.rules.specs.Graph.{Node, leaf, gate, pinOf, operands, below}
@@ -15,7 +16,7 @@ use Rattle.rules.specs.Traversal.{over, Setting, setting, levelAt}
 use Rattle.rules.specs.Placing.{place}
 use Rattle.rules.specs.Ending.{stage, oneStage}
 use Rattle.rules.specs.Depth.{depth}
-use Rattle.rules.proofs.Lists.Members.{In, Out, split, true-false, true→T, in-here, in-there, in-nil}
+use Rattle.rules.proofs.Lists.Members.{In, Out, split, true-false, in-here, in-there, in-nil}
 use Rattle.rules.proofs.Walk.Levels.{depth-at, over-above}
 use Rattle.rules.proofs.Walk.Reverse.{in-below, topo-closed}
 use Rattle.rules.proofs.Needed.Needs.{Sound, Graph, setting-sound}
@@ -25,12 +26,6 @@ use Rattle.rules.proofs.Stage.Depth.{Ready, still-ready}
 use Rattle.rules.proofs.Stage.Flat.{blank-replicate}
 use Rattle.rules.proofs.Tree.Invariant.{Placeable, final}
 use Rattle.rules.proofs.Tree.Held.{node}
-
-pub ltb-true : (m n : ℕ) → ltb m n ≡ true → m < n
-ltb-true m n e = ltb→lt m n (true→T e)
-
-pub ltb-false : (m n : ℕ) → ltb m n ≡ false → n ≤ m
-ltb-false m n e = nltb→le m n (rw e tt)
 
 pub wide : (w h : ℕ) → w + w ≤ w * (2 * 2 ^ h)
 wide w h = omega (arith, mul-le-mul-left w (one-le-pow h 2 (omega arith)))

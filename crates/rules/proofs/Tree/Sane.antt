@@ -9,6 +9,7 @@ use native.Mathlib.Nat.{pow-succ'}
 use lib.Dec.{eqb, ltb}
 use lib.ListN.{length, getD, set, replicate, length-set}
 use lib.Seq.{getD-set-same, getD-set-other}
+use borrow.Author.Tests.{ltb-true, ltb-false}
 use Rattle.rules.specs.Cells.{filled, empty, rowAt}
 use Rattle.rules.specs.Graph.{leaf, gate, pinOf}
 use Rattle.rules.specs.Traversal.{Setting, levelAt}
@@ -19,7 +20,7 @@ use Rattle.rules.proofs.Tree.Invariant.{Placeable}
 use Rattle.rules.proofs.Stage.Flat.{blank-replicate}
 use Rattle.rules.proofs.Stage.Staged.{two-step}
 use Rattle.rules.proofs.Stage.Lengths.{len-place}
-use Rattle.rules.proofs.Tree.Loads.{ltb-true, ltb-false, wide, rows, first, second, leaf-level, not-done}
+use Rattle.rules.proofs.Tree.Loads.{wide, rows, first, second, leaf-level, not-done}
 use Rattle.rules.proofs.Tree.Held.{node}
 
 -- two rows are the same, or one is at least twice as long

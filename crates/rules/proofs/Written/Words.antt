@@ -9,6 +9,7 @@ use native.Mathlib.Nat.{mul-le-mul-left, one-le-pow}
 use lib.Dec.{eqb, ltb, leb}
 use lib.ListN.{length, getD, take, drop, length-take, length-drop}
 use lib.Seq.{getD-set-same, getD-set-other, getD-take, getD-drop}
+use borrow.Author.Tests.{ltb-true, ltb-false}
 use Rattle.rules.specs.Lists.{mem, keep, insert, insertAll, count, init, lastOf, swapOut, swapOutAll}
 use Rattle.rules.specs.Cells.{filled, empty, firstEmpty, rowAt, row}
 use Rattle.rules.specs.Traversal.{Setting}
@@ -19,7 +20,7 @@ use Rattle.rules.proofs.Walk.Reverse.{Sub}
 use Rattle.rules.proofs.Tree.Held.{length-place1, place1-other}
 use Rattle.rules.proofs.Stage.Puts.{list, cell, Runs, none, more, Keeps, cell-keeps, cells-keep, lowest}
 use Rattle.rules.proofs.Stage.Last.{Once, nobody, one, swapped}
-use Rattle.rules.proofs.Tree.Loads.{ltb-true, ltb-false, rows}
+use Rattle.rules.proofs.Tree.Loads.{rows}
 use Rattle.rules.proofs.Stage.Staged.{two-step, not-refused}
 
 -- lists without repeats grow by inserting

@@ -6,8 +6,8 @@ use native.Mathlib.Omega.{arith}
 use lib.Dec.{ltb}
 use lib.ListN.{length, getD, set, take, drop, length-append, length-drop, take-append-drop, List·getD-append}
 use lib.Seq.{drop-cons, set-at, getD-take, getD-drop, getD-append-add, length-take-le, ext-getD}
+use borrow.Author.Tests.{ltb-true, ltb-false}
 use Rattle.rules.proofs.Lists.Members.{split}
-use Rattle.rules.proofs.Tree.Loads.{ltb-true, ltb-false}
 use Rattle.rules.specs.Lists.{laidAt}
 
 pub laid-none : (at : ℕ) (words : List ℕ) → laidAt at [] words ≡ words

@@ -8,6 +8,7 @@ use native.Mathlib.Omega.{arith}
 use lib.Dec.{eqb, leb, ltb}
 use lib.ListN.{length, getD, take, length-map}
 use lib.Seq.{length-take-le}
+use borrow.Author.Tests.{ltb-true, ltb-false}
 use Rattle.rules.specs.Lists.{mem, keep, isNil, insert, insertAll}
 use Rattle.rules.specs.Traversal.{levelAt}
 use Rattle.rules.specs.Placing.{treeOf}
@@ -18,7 +19,6 @@ use Rattle.rules.proofs.Stage.Last.{Once, nobody, one}
 use Rattle.rules.proofs.Stage.Puts.{runs-fit}
 use Rattle.rules.proofs.Needed.Lacks.{keep-ext, same-truth, leb-true, true-leb, same-inNeed, same-untouched}
 use Rattle.rules.proofs.Tree.Tally.{tree-cells}
-use Rattle.rules.proofs.Tree.Loads.{ltb-true, ltb-false}
 use Rattle.rules.proofs.Tree.Fair.{listed-filled}
 use Rattle.columns.specs.Fields.{LEVEL, CELLS, WAITING, STACK, PHASE, MARK, SPARE}
 use Rattle.columns.specs.Lists.{list, span, Marked}

@@ -7,11 +7,11 @@ use native.Mathlib.Omega.{arith}
 use lib.Dec.{leb, ltb}
 use lib.ListN.{length, getD, take, drop, length-append, length-drop, length-map, length-take, drop-of-length-le}
 use lib.Seq.{take-nil, take-all, take-append-le, length-take-le}
+use borrow.Author.Tests.{ltb-true, ltb-false}
 use Rattle.rules.specs.Cells.{rowAt}
 use Rattle.rules.specs.Ending as rules
 use Rattle.rules.proofs.Lists.Members.{split}
 use Rattle.rules.proofs.Needed.Lacks.{same-truth, leb-true, true-leb}
-use Rattle.rules.proofs.Tree.Loads.{ltb-true, ltb-false}
 use Rattle.rules.proofs.Stage.Puts as fits
 use Rattle.rules.proofs.Stage.Branches.{runs-end, runs-go, runs-stop}
 use Rattle.columns.specs.Fields.{PHASE}

@@ -4,11 +4,12 @@ use mathlib.Core.Bool.{Bool, true, _&&_}
 use mathlib.Core.List.{List, [], _∷_, _++_, map, append-nil, append-assoc}
 use mathlib.Core.Path.{_≡_, refl, sym, ap, _∙_}
 use native.Mathlib.Omega.{arith}
-use lib.ListN.{length, getD, set, take, drop, length-append, length-drop, length-set, take-append-drop, drop-of-length-le, List·getD-map}
+use lib.ListN.{length, getD, set, take, drop, length-append, length-drop, length-set, drop-of-length-le, List·getD-map}
 use lib.Seq.{take-append-seam, drop-append-seam, length-take-le, take-take, take-set-lt, drop-set-lt, split-at, set-split, getD-take, take-at, drop-at, take-append-le, drop-append-le}
 use Rattle.rules.specs.Lists.{sum, every}
 use Rattle.rules.specs.Merge.{splitBy, joined}
 use Rattle.rules.proofs.Lists.Members.{split, and-true}
+use Rattle.rules.proofs.Merge.{joined-split}
 use Rattle.slots.specs.Moves.{TurnAt, TakeAt, Taken}
 use Rattle.slots.proofs.Laws.Sums.{sum-part, sum-next}
 
@@ -26,15 +27,6 @@ pub split-joined : (hs : List (List ℕ)) → splitBy (map length hs) (joined hs
 unfolding splitBy joined
 split-joined [] = refl
 split-joined (h ∷ hs) = rw (take-append-seam h (joined hs), drop-append-seam h (joined hs), split-joined hs) refl
-
-nothing-left : (xs : List ℕ) → 0 ≡ length xs → [] ≡ xs
-nothing-left [] e = refl
-nothing-left (x ∷ xs) e = absurd (omega arith)
-
-pub joined-split : (ls xs : List ℕ) → sum ls ≡ length xs → joined (splitBy ls xs) ≡ xs
-unfolding splitBy joined sum
-joined-split [] xs e = nothing-left xs e
-joined-split (l ∷ ls) xs e = ap (λ (y : List ℕ). take l xs ++ y) (joined-split ls (drop l xs) (rw length-drop (omega arith))) ∙ take-append-drop l xs
 
 pub lengths-split : (ls xs : List ℕ) → sum ls ≡ length xs → map length (splitBy ls xs) ≡ ls
 unfolding splitBy sum

@@ -1,6 +1,5 @@
 -- What every step keeps, and the groups of a slot as a part of the indices. Assumes nothing.
 use Prim.Native.Nat.{ℕ, zero, suc, _+_, _-_, _*_, _<_, _≤_}
-use mathlib.Core.Bool.{Bool, true}
 use mathlib.Core.List.{List, [], _∷_, _++_}
 use mathlib.Core.Logic.{_⊎_, inl, inr}
 use mathlib.Core.Path.{_≡_, refl, _∙_}
@@ -9,10 +8,10 @@ use lib.Dec.{ltb}
 use lib.ListN.{length, take, drop, length-drop, take-append-drop}
 use lib.Seq.{length-take-le, drop-drop, take-take}
 use borrow.Author.Tests.{ltb-true}
-use Rattle.rules.specs.Lists.{sum, every}
+use Rattle.rules.specs.Lists.{sum}
 use Rattle.rules.specs.Records.{groupsOf}
 use Rattle.rules.specs.Merge.{splitBy}
-use Rattle.rules.proofs.Lists.Members.{In, split, in-cons, in-nil, in-append-left, in-append-right, true-false}
+use Rattle.rules.proofs.Lists.Members.{In, every-in, in-nil, in-append-left, in-append-right}
 use Rattle.start.specs.Opening.{Idle}
 use Rattle.placer.specs.declared.Answer.{Answer}
 use Rattle.unions.specs.Unions.{UnionAt, Leaves, Measured, Built}
@@ -40,13 +39,6 @@ unfolding splitBy
 slot-in q [] xs s i = in-nil q i
 slot-in q (l ∷ ls) xs zero i = let z = take-append-drop l xs in rw z at (in-append-left q (take l xs) (drop l xs) i)
 slot-in q (l ∷ ls) xs (suc s) i = let z = take-append-drop l xs in rw z at (in-append-right q (take l xs) (drop l xs) (slot-in q ls (drop l xs) s i))
-
-every-in : (f : ℕ → Bool) (q : ℕ) (xs : List ℕ) → every f xs ≡ true → In q xs → f q ≡ true
-unfolding every
-every-in f q [] e i = in-nil q i
-every-in f q (x ∷ xs) e i = split (f x)
-    (λ t. elim (in-cons q x xs i) [ inl d ↦ rw d t | inr d ↦ every-in f q xs (rw (t, every) at e) d ])
-    (λ t. true-false e (rw (t, every)))
 
 sum-below : (ls : List ℕ) (a b : ℕ) → a ≤ b → sum (take a ls) ≤ sum (take b ls)
 sum-below ls a b h = rw (take-take a b ls h) at (sum-part (take b ls) a)
