@@ -19,17 +19,13 @@ use Rattle.trials.specs.Ranks.{AllAt, AllRanked}
 use Rattle.trials.proofs.Laws.Standing.{stands-stays}
 use Rattle.rounds.specs.declared.Outcome.{Outcome}
 use Rattle.rounds.specs.Rounds.{partsIn, opensIn, Tries, Keeps, RoundAt, Fails, Wins, Rounded, IntoAt, Into}
+use Rattle.rounds.proofs.Laws.Round.{held-same}
 
 -- ---- the slots
 
 pub numbered : (n : ℕ) (ls xs o : List ℕ) (s : ℕ) → held n ls xs o s .nr ≡ s
 unfolding held
 numbered n ls xs o s = refl
-
--- a partition has its numbers in the first three columns
-pub held-same : (n : ℕ) (ls xs o o′ : List ℕ) → ((x : ℕ) → x < 3 * n → getD o′ x 0 ≡ getD o x 0) → (s : ℕ) → s < n → held n ls xs o′ s ≡ held n ls xs o s
-unfolding held own
-held-same n ls xs o o′ e s h = rw (e (0 * n + s) (omega arith), e (1 * n + s) (omega arith), e (2 * n + s) (omega arith)) refl
 
 free-same : (n : ℕ) (o o′ : List ℕ) → ((x : ℕ) → x < 4 * n → getD o′ x 0 ≡ getD o x 0) → (s : ℕ) → s < n → free n o′ s ≡ free n o s
 unfolding free own
@@ -43,6 +39,10 @@ merged P f k i t = record { part = P i; later = listed P f k (suc i); trials = t
 
 pub merged-same : (P Q : ℕ → Part) (f g : ℕ → Bool) (k i t : ℕ) → ((s : ℕ) → i ≤ s → s < suc i + k → g s ≡ f s) → ((s : ℕ) → i ≤ s → s < suc i + k → Q s ≡ P s) → merged P f k i t ≡ merged Q g k i t
 merged-same P Q f g k i t d e = rw (e i (omega arith) (omega arith), listed-same Q P g f k (suc i) (λ s l u. d s (omega arith) u) (λ s l u z. e s (omega arith) u)) refl
+
+pub rounds-same : (J : Common) (P Q : ℕ → Part) (f : ℕ → Bool) (k i left : ℕ) (barred : List ℕ) (t : ℕ) → ((s : ℕ) → i ≤ s → s < suc i + k → Q s ≡ P s)
+    → rounds J left (P i) (listed P f k (suc i)) barred t ≡ rounds J left (Q i) (listed Q f k (suc i)) barred t
+rounds-same J P Q f k i left barred t e = rw (e i (omega arith) (omega arith), listed-same Q P f f k (suc i) (λ s l u. refl) (λ s l u z. e s (omega arith) u)) refl
 
 -- with `left` rounds more, and these slots barred, they come to `whole`
 pub record Going (J : Common) (k i left t : ℕ) (P : ℕ → Part) (f opens : ℕ → Bool) (whole : Merged) : Type 0 where
@@ -58,7 +58,7 @@ module _ {J : Common} {k i left t : ℕ} {P : ℕ → Part} {f opens : ℕ → B
   going-same Q opens′ e d = record {
     barred = G .barred;
     bars = bars-same (G .bars) (λ s l u. d s (omega arith) u);
-    same = G .same ∙ rw (e i (omega arith) (omega arith), listed-same Q P f f k (suc i) (λ s l u. refl) (λ s l u z. e s (omega arith) u)) refl;
+    same = G .same ∙ rounds-same J P Q f k i left (G .barred) t e;
   }
 
   module _ (n : (s : ℕ) → P s .nr ≡ s) (h : 0 < left) {r : ℕ} (e : J .ranks ≡ r) where

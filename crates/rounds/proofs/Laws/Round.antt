@@ -55,7 +55,7 @@ unfolding seen
 seen-some n b e = rw (ne-eqb b n e, seen) refl
 
 -- the first three columns say what the partitions are
-held-same : (n : ℕ) (ls xs o o′ : List ℕ) → ((x : ℕ) → x < 3 * n → getD o′ x 0 ≡ getD o x 0) → (s : ℕ) → s < n → held n ls xs o′ s ≡ held n ls xs o s
+pub held-same : (n : ℕ) (ls xs o o′ : List ℕ) → ((x : ℕ) → x < 3 * n → getD o′ x 0 ≡ getD o x 0) → (s : ℕ) → s < n → held n ls xs o′ s ≡ held n ls xs o s
 unfolding held own
 held-same n ls xs o o′ e s h = rw (e (0 * n + s) (omega arith), e (1 * n + s) (omega arith), e (2 * n + s) (omega arith)) refl
 
