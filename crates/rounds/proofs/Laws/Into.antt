@@ -1,5 +1,5 @@
 -- Round after round for one slot: what the loop keeps. Assumes nothing.
-use Prim.Native.Nat.{ℕ, zero, suc, _+_, _-_, _*_, _<_, _≤_}
+use Prim.Native.Nat.{ℕ, suc, _+_, _-_, _*_, _<_, _≤_}
 use mathlib.Core.Bool.{Bool, true, false}
 use mathlib.Core.List.{List, []}
 use mathlib.Core.Logic.{_≢_}
@@ -23,7 +23,7 @@ use Rattle.rounds.proofs.Laws.Round.{held-same}
 
 -- ---- the slots
 
-pub numbered : (n : ℕ) (ls xs o : List ℕ) (s : ℕ) → held n ls xs o s .nr ≡ s
+numbered : (n : ℕ) (ls xs o : List ℕ) (s : ℕ) → held n ls xs o s .nr ≡ s
 unfolding held
 numbered n ls xs o s = refl
 
@@ -37,7 +37,7 @@ free-same n o o′ e s h = rw (e (3 * n + s) (omega arith)) refl
 abbrev pub merged : (ℕ → Part) → (ℕ → Bool) → (k i t : ℕ) → Merged
 merged P f k i t = record { part = P i; later = listed P f k (suc i); trials = t }
 
-pub merged-same : (P Q : ℕ → Part) (f g : ℕ → Bool) (k i t : ℕ) → ((s : ℕ) → i ≤ s → s < suc i + k → g s ≡ f s) → ((s : ℕ) → i ≤ s → s < suc i + k → Q s ≡ P s) → merged P f k i t ≡ merged Q g k i t
+merged-same : (P Q : ℕ → Part) (f g : ℕ → Bool) (k i t : ℕ) → ((s : ℕ) → i ≤ s → s < suc i + k → g s ≡ f s) → ((s : ℕ) → i ≤ s → s < suc i + k → Q s ≡ P s) → merged P f k i t ≡ merged Q g k i t
 merged-same P Q f g k i t d e = rw (e i (omega arith) (omega arith), listed-same Q P g f k (suc i) (λ s l u. d s (omega arith) u) (λ s l u z. e s (omega arith) u)) refl
 
 pub rounds-same : (J : Common) (P Q : ℕ → Part) (f : ℕ → Bool) (k i left : ℕ) (barred : List ℕ) (t : ℕ) → ((s : ℕ) → i ≤ s → s < suc i + k → Q s ≡ P s)

@@ -1,13 +1,13 @@
 -- Slot after slot: one slot in its turn, and what the loop over the slots keeps. Assumes nothing.
 use Prim.Native.Nat.{ℕ, suc, _+_, _-_, _*_, _<_, _≤_}
-use mathlib.Core.Bool.{Bool, true, false, not}
+use mathlib.Core.Bool.{true}
 use mathlib.Core.List.{List, [], _++_}
 use mathlib.Core.Logic.{_≢_, inr}
 use mathlib.Core.Path.{_≡_, refl, sym, ap, subst, _∙_}
 use native.Mathlib.Omega.{arith}
 use lib.ListN.{length, getD, take, drop}
 use borrow.Author.Tests.{eq-eqb, ne-eqb}
-use Rattle.rules.specs.Merge.{Common, Part, merging, addPart, Result}
+use Rattle.rules.specs.Merge.{Common, merging, addPart, Result}
 use Rattle.slots.specs.Slots.{gathered, listed, full}
 use Rattle.slots.specs.Moves.{Opened}
 use Rattle.slots.proofs.Laws.Rounds.{Merging, merging-none, merging-empty, merging-full, merging-done}
@@ -16,7 +16,7 @@ use Rattle.trials.specs.Ranks.{Stays}
 use Rattle.trials.proofs.Laws.Owned.{lent, back-owned}
 use Rattle.trials.proofs.Laws.Standing.{stands-stays, part-stays}
 use Rattle.rounds.specs.declared.Course.{Course}
-use Rattle.rounds.specs.Rounds.{partsIn, opensIn, Tries, Keeps, IntoAt, Into, SlotAt, Stepped, SlotsAt, Slotted}
+use Rattle.rounds.specs.Rounds.{partsIn, Tries, Keeps, IntoAt, Into, SlotAt, Stepped, SlotsAt, Slotted}
 use Rattle.rounds.proofs.Laws.Round.{held-same}
 use Rattle.rounds.proofs.Laws.Into.{keeps-more, tries-same, rounds-same}
 
