@@ -96,7 +96,7 @@ pub record Into (K m table base i cap ranks fuel trials : ℕ) (gates given reco
       → rounds J fuel (partsIn base xs ls w i) (listed (partsIn base xs ls w) (full ls) (length ls - suc i) (suc i)) [] trials
       ≡ record { part = partsIn base xs′ ls′ w′ i; later = listed (partsIn base xs′ ls′ w′) (full ls′) (length ls - suc i) (suc i); trials = r }
 
--- ---- all slots
+-- ---- all slots: each has 1024 rounds of 260 ranks at most
 
 pub record SlotAt (K m table base i cap ranks fuel trials : ℕ) (gates given records xs ls pl ws cs w : List ℕ) : Type 0 where
   pub at : Stands K m table base gates given records xs ls w
@@ -104,12 +104,14 @@ pub record SlotAt (K m table base i cap ranks fuel trials : ℕ) (gates given re
   pub first : i < length ls
   pub cap-fits : cap < 4294967296
   pub few : ranks ≤ 260
-  pub trials-fit : trials + 260 * fuel ≤ 4294967295
+  pub fuel-few : fuel ≤ 1024
+  pub trials-fit : trials + 266240 * fuel ≤ 4294967295
   pub enough : length ls ≤ i + fuel
 
 pub record Stepped (K m table base i cap ranks fuel trials : ℕ) (gates given records xs ls pl w : List ℕ) (r : Course) (xs′ ls′ pl′ ws′ cs′ w′ : List ℕ) : Type 0 where
   pub keeps : Keeps K m table base gates given records ls pl xs′ ls′ pl′ ws′ cs′ w′
-  pub few : r .trials + 260 * r .fuel ≤ trials + 260 * fuel
+  pub fuel-few : r .fuel ≤ fuel
+  pub few : r .trials + 266240 * r .fuel ≤ trials + 266240 * fuel
   pub enough : length ls ≤ i + 1 + r .fuel
   pub is : (J : Common) → Tries K (length pl) cap gates given records J → J .ranks ≡ ranks → (whole : Result)
       → Merging J (length ls) whole (partsIn base xs ls w) (full ls) i fuel trials → Merging J (length ls) whole (partsIn base xs′ ls′ w′) (full ls′) (i + 1) (r .fuel) (r .trials)
