@@ -1,5 +1,3 @@
-pub mod Laid
-pub mod Decimal
-pub mod Lines
+pub mod Written
 pub mod Answered
 pub mod Built

@@ -6,8 +6,8 @@ use lib.Dec.{leb, eqb}
 use lib.ListN.{length, take, drop, getD}
 use Rattle.rules.specs.Lists.{laidOver, sum}
 use Rattle.rules.specs.Cells.{isHeight, stageSize, rooms}
-use Rattle.rules.specs.Build as rules
 use Rattle.rules.specs.Listing.{listing, refusedLine}
+use Rattle.lines.specs.Stages.{stagesIn}
 
 -- what is answered, and the area for the text
 pub record Outcome : Type 0 where
@@ -21,29 +21,6 @@ outcome number size out = record { number = number; length = size; out = out }
 -- a text over the front of an area; 2 and nothing changed where it is too short
 unfoldable pub written : List ℕ → List ℕ → Outcome
 written text out = elim (leb (length text) (length out)) [ true ↦ outcome 0 (length text) (laidOver text out) | false ↦ outcome 2 0 out ]
-
--- n stages that stand one after the other: cells, a stage's size each, and words by their counts
-unfoldable pub stagesIn : ℕ → ℕ → (plan words counts : List ℕ) → List rules.Stage
-stagesIn size zero plan words counts = []
-stagesIn size (suc n) plan words counts =
-    record { plan = take size plan; words = take (getD counts 0 0) words }
-    ∷ stagesIn size n (drop size plan) (drop (getD counts 0 0) words) (drop 1 counts)
-
--- stage k, from 0
-unfoldable pub stageIn : ℕ → ℕ → (plan words counts : List ℕ) → rules.Stage
-stageIn size k plan words counts = record { plan = take size (drop (k * size) plan); words = take (getD counts k 0) (drop (sum (take k counts)) words) }
-
--- n stages stand there
-pub record Holds (size n : ℕ) (plan words counts : List ℕ) : Type 0 where
-  pub cells : n * size ≤ length plan
-  pub counted : n ≤ length counts
-  pub spent : sum (take n counts) ≤ length words
-
--- stage k does, with `count` words from `from` on
-pub record HoldsOne (size k from count : ℕ) (plan words : List ℕ) : Type 0 where
-  pub few : k < 2 ^ 63
-  pub cells : k * size + size ≤ length plan
-  pub spent : from + count ≤ length words
 
 -- do the areas hold so many stages
 unfoldable pub hold : ℕ → ℕ → (plan words counts : List ℕ) → Bool

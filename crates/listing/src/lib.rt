@@ -13,10 +13,8 @@ ghost use lib.ListN.{length, take};
 ghost use Rattle.rules.specs.Lists.{sum};
 ghost use Rattle.rules.specs.Cells.{isHeight};
 ghost use Rattle.rules.specs.Listing.{listing, refusedLine};
-ghost use Rattle.listing.specs.Listing.{outcome, written, stagesIn, hold, Holds, listed, answered};
-
-mod lines;
-mod text;
+ghost use Rattle.lines.specs.Stages.{stagesIn, Holds};
+ghost use Rattle.listing.specs.Listing.{outcome, written, hold, listed, answered};
 
 // 0 and the length of the text; 1 for a bad height, 2 for an area of the wrong size, with length 0.
 pub struct Written {

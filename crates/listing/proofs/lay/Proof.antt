@@ -2,8 +2,8 @@
 use mathlib.Core.Path.{refl, sym}
 use native.Mathlib.Omega.{arith}
 use Rattle.rules.specs.Listing.{listing}
-use Rattle.listing.specs.Listing.{stagesIn}
-use Rattle.listing.proofs.Laws.Laid.{written-not, written-all}
+use Rattle.lines.specs.Stages.{stagesIn}
+use Rattle.listing.proofs.Laws.Written.{written-not, written-all}
 use borrow.Author.Needs.{needs}
 use Rattle.listing.proofs.lay.Statement.{statement}
 use Rattle.listing.proofs.lay.Tie as tie

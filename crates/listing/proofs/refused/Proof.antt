@@ -2,7 +2,7 @@
 use mathlib.Core.Path.{refl, sym}
 use native.Mathlib.Omega.{arith}
 use Rattle.rules.specs.Listing.{refusedLine}
-use Rattle.listing.proofs.Laws.Laid.{written-not, written-all}
+use Rattle.listing.proofs.Laws.Written.{written-not, written-all}
 use borrow.Author.Needs.{needs}
 use Rattle.listing.proofs.refused.Statement.{statement}
 use Rattle.listing.proofs.refused.Tie as tie
