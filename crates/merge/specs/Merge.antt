@@ -1,13 +1,12 @@
 -- A merge: what its calls find, answer and leave. Assumes nothing.
-use Prim.Native.Nat.{ℕ, _+_, _*_, _<_, _≤_}
+use Prim.Native.Nat.{ℕ, _*_, _≤_}
 use mathlib.Core.Bool.{Bool, true}
 use mathlib.Core.List.{List}
 use mathlib.Core.Path.{_≡_}
 use lib.ListN.{length, replicate}
-use Rattle.rules.specs.Lists.{sum, every}
+use Rattle.rules.specs.Lists.{sum}
 use Rattle.rules.specs.Cells.{empty, rooms, wordLimit, stageSize}
-use Rattle.rules.specs.Build.{Areas}
-use Rattle.rules.specs.Merge.{MergeReply, MergeOutcome, GroupList, mergeReply, groupListAfter, mergeAnswerOf, mergeWorkSize, mergeable}
+use Rattle.rules.specs.Merge.{MergeReply, MergeOutcome, mergeReply, groupListAfter, mergeAnswerOf, mergeWorkSize, mergeable}
 use Rattle.checks.proofs.Laws.Passed.{Passed}
 use Rattle.placer.specs.Build.{Blank}
 use Rattle.mergechecks.specs.Values.{groupList, areas}

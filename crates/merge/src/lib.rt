@@ -14,6 +14,8 @@ ghost use Rattle.rules.specs.Merge.{merger};
 ghost use Rattle.mergechecks.specs.Values.{groupList, areas};
 ghost use Rattle.merge.specs.Merge.{JoinAt, Joined, PlaceAt, Placed, refusedFor, outcome};
 
+mod entry;
+
 // The scope document's number, the sums of stages and words, the refused stage, the partitions left, the unions examined, the refused
 // partition from 1.
 pub struct Answer {

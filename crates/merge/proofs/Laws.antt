@@ -1,0 +1,5 @@
+pub mod Joining
+pub mod Placing
+pub mod Outcome
+pub mod Entry
+pub mod Unique
