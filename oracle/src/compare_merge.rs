@@ -98,7 +98,7 @@ fn filled(merge: &Merge, lent: Sizes) -> Lent {
 /// Err says what differs, and what the areas' sizes are.
 pub fn compare(merge: &Merge) -> Result<Agreed, (String, Sizes)> {
     let (mut stages, mut not_begun, mut answer) = (1, false, None);
-    if merge.valid() {
+    if check::merge_input(merge) {
         let graph = published::graph(&merge.case);
         let ruled = catch_unwind(AssertUnwindSafe(|| merge::answer(merge, &graph)))
             .unwrap_or_else(|_| Err("the Rust panics on a partition or a union".into()))

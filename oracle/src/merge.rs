@@ -1,6 +1,5 @@
 //! Merges: random ones, the Rust's answers, and the unions that it examines.
 use crate::case::{joined, Case, Sizes, EMPTY};
-use crate::check;
 use crate::published::{self, Graph, Merged, Outcome, Part};
 use crate::random::{self, Random};
 use std::collections::HashSet;
@@ -293,11 +292,6 @@ impl Merge {
                             self.case.gates.len(), self.case.old, indices.len(), joined(&lengths));
         }
         out + "end\n"
-    }
-
-    /// Whether none of 1 to 5 and 10 applies, whatever areas are lent.
-    pub fn valid(&self) -> bool {
-        check::merge_input(self)
     }
 }
 

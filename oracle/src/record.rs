@@ -28,8 +28,11 @@ const TWICE: u16 = 2;
 const SEVERAL: u16 = 4;
 const GIVEN: u16 = 8;
 const KIND: u16 = 16; // times 1, 2, 4, 8 for the record kinds 1 to 4
+const MARKS: [&str; 8] = ["pins taken back", "a word twice in a stage", "several stages", "given pins",
+                          "with outputs", "with flip-flops", "with memories", "with staged pins"];
 
-struct Build {
+/// A build or a merge as a program of the gate reads it.
+struct Recorded {
     height: u32,
     number: u32,
     marks: u16,
@@ -54,7 +57,7 @@ fn cells(case: &Case, stages: &[Stage]) -> Vec<u16> {
 }
 
 /// A build in the form that crates/vectors reads; None if it is damaged or too large.
-fn build(case: &Case) -> Option<Build> {
+fn build(case: &Case) -> Option<Recorded> {
     let fits = case.pins() <= MOST_PINS && case.records.len() <= MOST_RECORDS && case.given.len() <= MOST_GIVEN;
     if !fits || check::input(case) != 0 {
         return None;
@@ -92,25 +95,31 @@ fn build(case: &Case) -> Option<Build> {
                 rooms * case.stage_size(), case.word_limit(), rooms, case.work_size(),
                 number as usize, counts.len(), words.len(), stage, cells.len() / 2, marks as usize];
     let numbers = head.iter().map(|&n| u16::try_from(n).unwrap()).chain(body).collect();
-    Some(Build { height: case.height, number, marks, numbers })
+    Some(Recorded { height: case.height, number, marks, numbers })
 }
 
-/// What crates/vectors prints if all agree.
-fn tally(kept: &[Build]) -> String {
-    let names = ["pins taken back", "a word twice in a stage", "several stages", "given pins",
-                 "with outputs", "with flip-flops", "with memories", "with staged pins"];
-    let count = |has: &dyn Fn(&Build) -> bool| kept.iter().filter(|build| has(build)).count();
-    let mut out = format!("whole {}\n", count(&|build| build.number == 0));
-    for number in 6..=9 {
-        out += &format!("refused with {number}: {}\n", count(&|build| build.number == number));
+/// What a program prints if all agree: `whole` and `all` are its words for those that aren't refused and for all.
+fn tally(kept: &[Recorded], whole: &str, all: &str, refusals: &[u32], marks: &[&str]) -> String {
+    let count = |has: &dyn Fn(&Recorded) -> bool| kept.iter().filter(|one| has(one)).count();
+    let mut out = format!("{whole} {}\n", count(&|one| one.number == 0));
+    for &number in refusals {
+        out += &format!("refused with {number}: {}\n", count(&|one| one.number == number));
     }
-    for (bit, name) in names.iter().enumerate() {
-        out += &format!("{name} {}\n", count(&|build| build.marks >> bit & 1 == 1));
+    for (bit, name) in marks.iter().enumerate() {
+        out += &format!("{name} {}\n", count(&|one| one.marks >> bit & 1 == 1));
     }
     for height in 6..=9 {
-        out += &format!("height {height}: {}\n", count(&|build| build.height == height));
+        out += &format!("height {height}: {}\n", count(&|one| one.height == height));
     }
-    out + &format!("{} builds agree, 0 differ\n", kept.len())
+    out + &format!("{} {all} agree, 0 differ\n", kept.len())
+}
+
+/// `stdin` and `stdout` of a program. How many bytes it reads.
+fn write(folder: &Path, kept: &[Recorded], told: String) -> io::Result<usize> {
+    let bytes: Vec<u8> = kept.iter().flat_map(|one| one.numbers.iter().flat_map(|n| n.to_le_bytes())).collect();
+    fs::write(folder.join("stdin"), &bytes)?;
+    fs::write(folder.join("stdout"), told)?;
+    Ok(bytes.len())
 }
 
 /// The builds to `stdin` and what is to be printed to `stdout` in this folder.
@@ -133,10 +142,9 @@ fn builds(folder: &Path) -> io::Result<()> {
             break;
         }
     }
-    println!("{} builds, {size} bytes", kept.len());
-    let bytes: Vec<u8> = kept.iter().flat_map(|build| build.numbers.iter().flat_map(|n| n.to_le_bytes())).collect();
-    fs::write(folder.join("stdin"), bytes)?;
-    fs::write(folder.join("stdout"), tally(&kept))
+    let bytes = write(folder, &kept, tally(&kept, "whole", "builds", &[6, 7, 8, 9], &MARKS))?;
+    println!("{} builds, {bytes} bytes", kept.len());
+    Ok(())
 }
 
 const MERGES: usize = 120;
@@ -154,16 +162,9 @@ const MOST_PARTITIONS: usize = 64;
 const MOST_PLAN: usize = 32_768;
 const MOST_WORK: usize = 25_600;
 
-/// Marks of a merge, by bit, with what crates/merges prints of them.
+/// Marks of a merge, by bit.
 const MERGE_MARKS: [&str; 8] = ["unions that fail", "a block not begun", "over 30 partitions", "more stages than before",
                                 "no extra stages allowed", "a group twice", "an empty partition", "given pins"];
-
-struct Recorded {
-    height: u32,
-    number: u32,
-    marks: u16,
-    numbers: Vec<u16>,
-}
 
 fn merge_marks(merge: &Merge, ruled: &Ruled) -> u16 {
     let parts = merge.split();
@@ -211,22 +212,6 @@ fn recorded(merge: &Merge, ruled: &Ruled) -> Recorded {
     Recorded { height: case.height, number, marks, numbers }
 }
 
-/// What crates/merges prints if all agree.
-fn merge_tally(kept: &[Recorded]) -> String {
-    let count = |has: &dyn Fn(&Recorded) -> bool| kept.iter().filter(|merge| has(merge)).count();
-    let mut out = format!("merged {}\n", count(&|merge| merge.number == 0));
-    for number in 6..=8 {
-        out += &format!("refused with {number}: {}\n", count(&|merge| merge.number == number));
-    }
-    for (bit, name) in MERGE_MARKS.iter().enumerate() {
-        out += &format!("{name} {}\n", count(&|merge| merge.marks >> bit & 1 == 1));
-    }
-    for height in 6..=9 {
-        out += &format!("height {height}: {}\n", count(&|merge| merge.height == height));
-    }
-    out + &format!("{} merges agree, 0 differ\n", kept.len())
-}
-
 fn answered(merge: &Merge) -> Ruled {
     merge::answer(merge, &published::graph(&merge.case)).unwrap_or_else(|what| panic!("{what}"))
 }
@@ -271,7 +256,7 @@ fn drawn_merges() -> Vec<(Merge, Ruled)> {
     }
     for index in 0.. {
         let merge = merge::drawn(SEED, index, 6 + (index % 4) as u32);
-        if !merge.valid() || merge.list().0.len() > MERGE_RECORDS || merge.case.records.len() > MOST_RECORDS {
+        if !check::merge_input(&merge) || merge.list().0.len() > MERGE_RECORDS || merge.case.records.len() > MOST_RECORDS {
             continue;
         }
         let ruled = answered(&merge);
@@ -297,10 +282,8 @@ fn merges(folder: &Path, texts: &Path) -> io::Result<()> {
         told += &ruled.answer.text(&format!("m{}", i + 1));
         kept.push(recorded(merge, ruled));
     }
-    let bytes: Vec<u8> = kept.iter().flat_map(|merge| merge.numbers.iter().flat_map(|n| n.to_le_bytes())).collect();
-    println!("{} merges of {parts} partitions, {trials} unions examined, {} bytes", kept.len(), bytes.len());
-    fs::write(folder.join("stdin"), bytes)?;
-    fs::write(folder.join("stdout"), merge_tally(&kept))?;
+    let bytes = write(folder, &kept, tally(&kept, "merged", "merges", &[6, 7, 8], &MERGE_MARKS))?;
+    println!("{} merges of {parts} partitions, {trials} unions examined, {bytes} bytes", kept.len());
     fs::write(texts.join("merges.cases"), asked)?;
     fs::write(texts.join("merges.answers"), told)
 }
