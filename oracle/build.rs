@@ -1,20 +1,22 @@
 //! Makes a module of each published file, out of the folder that PUBLISHED names, in cargo's build folder. Height 13 is pe.rs as it
-//! stands; for heights 6 to 12 the one line with BOOMERANG_NUM_STAGES has another number. Links LIBRARY, the proved library.
+//! stands; for heights 6 to 12 the one line with BOOMERANG_NUM_STAGES has another number. Links LIBRARIES, the proved ones, parted
+//! by colons.
 use std::{env, fs, path::PathBuf};
 
 const LINE: &str = "pub const BOOMERANG_NUM_STAGES: usize = 13;\n";
 
-fn named(variable: &str) -> PathBuf {
+fn named(variable: &str) -> String {
     println!("cargo:rerun-if-env-changed={variable}");
-    PathBuf::from(env::var(variable).unwrap_or_else(|_| panic!("{variable} is not set: build by oracle/run")))
+    env::var(variable).unwrap_or_else(|_| panic!("{variable} is not set: build by oracle/run"))
 }
 
 fn main() {
-    let published = named("PUBLISHED");
-    let library = named("LIBRARY");
+    let published = PathBuf::from(named("PUBLISHED"));
     println!("cargo:rerun-if-changed=build.rs");
-    println!("cargo:rerun-if-changed={}", library.display());
-    println!("cargo:rustc-link-arg={}", library.display());
+    for library in named("LIBRARIES").split(':') {
+        println!("cargo:rerun-if-changed={library}");
+        println!("cargo:rustc-link-arg={library}");
+    }
     let out = PathBuf::from(env::var("OUT_DIR").unwrap());
     let read = |name: &str| {
         let path = published.join(format!("{name}.rs"));

@@ -1,4 +1,4 @@
-/* The placer, for C. Link libplacer.a, which `rt staticlib placer` writes.
+/* The placer, for C. Link libplacer.a to build and libmerge.a to merge, which `rt staticlib placer` and `rt staticlib merge` write.
  *
  * Every call returns, whatever it is handed; the caller checks nothing beforehand. Each area is a pointer and a number of
  * elements. An area of no elements may have any pointer that is not null and is aligned. No two areas may overlap. */
@@ -28,6 +28,23 @@ uint32_t placer_build(uint32_t height, const uint32_t *gates, size_t gates_len, 
                       const uint32_t *records, size_t records_len, uint32_t *plan, size_t plan_len, uint32_t *words,
                       size_t words_len, uint32_t *counts, size_t counts_len, uint32_t *work, size_t work_len, size_t *answer,
                       size_t answer_len);
+
+/* Merges partitions of the records while no union takes more stages than the greatest of them and `extra` more. As above, and:
+ * indices: the partitions' records, counted from 0, partition after partition
+ * lengths: how many of them each partition has; 1 to 1,024 partitions
+ * stages:  a number a partition, for the stages that it takes
+ * extra:   at most 255
+ * work:    at least 16 * (pins + 1) + 8 * records_len + 512 + 8 * lengths_len + 8 * indices_len numbers
+ * answer:  at least 7 numbers: the number; the sums of stages and words; the refused stage; the partitions left; the unions examined;
+ *          the refused partition from 1
+ *
+ * After 0 the three lists hold the merged partitions in their final order, and 0 for those that are gone; else they are unchanged.
+ * Plan, words, counts and work are scratch. Returns the number, 2 also where `answer` is too short. */
+uint32_t merge_partitions(uint32_t height, const uint32_t *gates, size_t gates_len, const uint32_t *given, size_t given_len,
+                          const uint32_t *records, size_t records_len, uint32_t *indices, size_t indices_len, uint32_t *lengths,
+                          size_t lengths_len, uint32_t *stages, size_t stages_len, size_t extra, uint32_t *plan, size_t plan_len,
+                          uint32_t *words, size_t words_len, uint32_t *counts, size_t counts_len, uint32_t *work, size_t work_len,
+                          size_t *answer, size_t answer_len);
 
 #ifdef __cplusplus
 }

@@ -1,4 +1,5 @@
-//! The placer, for Rust. Link `libplacer.a`, which `rt staticlib placer` writes. No crate beyond `core` is needed.
+//! The placer, for Rust. Link `libplacer.a` to build and `libmerge.a` to merge, which `rt staticlib placer` and `rt staticlib merge` write.
+//! No crate beyond `core` is needed.
 
 /// An empty cell of a plan, an unused word, and each literal of a leaf.
 pub const EMPTY: u32 = u32::MAX;
@@ -12,12 +13,33 @@ pub struct Answer {
     pub stage: usize,
 }
 
-/// The areas that a build writes. Each counts at its own size; numbers past it are never changed.
+/// The areas that a build or a merge writes. Each counts at its own size; numbers past it are never changed.
 pub struct Areas<'a> {
     pub plan: &'a mut [u32],
     pub words: &'a mut [u32],
     pub counts: &'a mut [u32],
     pub work: &'a mut [u32],
+}
+
+/// The numbers that a merge answers: 0, the sums of the stages and words, the partitions left and the unions examined; or what refuses it,
+/// in which stage, and which partition from 1.
+#[derive(Clone, Copy, Debug, PartialEq, Eq)]
+pub struct Merged {
+    pub number: u32,
+    pub stages: usize,
+    pub words: usize,
+    pub stage: usize,
+    pub partitions: usize,
+    pub trials: usize,
+    pub refused: usize,
+}
+
+/// The partitions that a merge is handed and leaves: the indices of their records from 0, partition after partition; a length and a
+/// number of stages for each. It changes only when the merge is accepted.
+pub struct Groups<'a> {
+    pub indices: &'a mut [u32],
+    pub lengths: &'a mut [u32],
+    pub stages: &'a mut [u32],
 }
 
 #[rustfmt::skip]
@@ -27,6 +49,22 @@ extern "C" {
         gates: *const u32, gates_len: usize,
         given: *const u32, given_len: usize,
         records: *const u32, records_len: usize,
+        plan: *mut u32, plan_len: usize,
+        words: *mut u32, words_len: usize,
+        counts: *mut u32, counts_len: usize,
+        work: *mut u32, work_len: usize,
+        answer: *mut usize, answer_len: usize,
+    ) -> u32;
+
+    fn merge_partitions(
+        height: u32,
+        gates: *const u32, gates_len: usize,
+        given: *const u32, given_len: usize,
+        records: *const u32, records_len: usize,
+        indices: *mut u32, indices_len: usize,
+        lengths: *mut u32, lengths_len: usize,
+        stages: *mut u32, stages_len: usize,
+        extra: usize,
         plan: *mut u32, plan_len: usize,
         words: *mut u32, words_len: usize,
         counts: *mut u32, counts_len: usize,
@@ -54,4 +92,31 @@ pub fn build(height: u32, gates: &[u32], given: &[u32], records: &[u32], areas: 
         )
     };
     Answer { number, stages: answer[1], words: answer[2], stage: answer[3] }
+}
+
+/// Merges partitions while no union takes more stages than the greatest of them and `extra` more. It takes any numbers and slices.
+pub fn merge(height: u32, gates: &[u32], given: &[u32], records: &[u32], groups: Groups<'_>, extra: usize, areas: Areas<'_>) -> Merged {
+    let mut answer = [0usize; 7];
+    let Groups { indices, lengths, stages } = groups;
+    let Areas { plan, words, counts, work } = areas;
+    // SAFETY: as for `build`.
+    let number = unsafe {
+        merge_partitions(
+            height,
+            gates.as_ptr(), gates.len(),
+            given.as_ptr(), given.len(),
+            records.as_ptr(), records.len(),
+            indices.as_mut_ptr(), indices.len(),
+            lengths.as_mut_ptr(), lengths.len(),
+            stages.as_mut_ptr(), stages.len(),
+            extra,
+            plan.as_mut_ptr(), plan.len(),
+            words.as_mut_ptr(), words.len(),
+            counts.as_mut_ptr(), counts.len(),
+            work.as_mut_ptr(), work.len(),
+            answer.as_mut_ptr(), answer.len(),
+        )
+    };
+    let [_, stages, words, stage, partitions, trials, refused] = answer;
+    Merged { number, stages, words, stage, partitions, trials, refused }
 }

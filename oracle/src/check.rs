@@ -1,15 +1,18 @@
-//! The scope document's refusals 1 to 5, read off its table.
+//! The scope document's refusals 1 to 5 and 10, read off its table.
 use crate::case::{record_size, Case, Sizes, EMPTY, GREATEST, LEAST};
+use crate::merge::Merge;
 
 const MOST_PINS: usize = 65_535;
 const MOST_NUMBERS: usize = 65_536;
+const MOST_PARTITIONS: usize = 1_024;
+const MOST_EXTRA: usize = 255;
 
-fn sizes_fit(case: &Case, lent: Sizes) -> bool {
+fn sizes_fit(case: &Case, lent: Sizes, needed: usize) -> bool {
     let [plan, words, counts, work] = lent;
     plan % case.stage_size() == 0
         && words >= case.word_limit()
         && counts >= plan / case.stage_size()
-        && work >= case.work_size()
+        && work >= needed
 }
 
 fn graph_fits(gates: &[u32]) -> bool {
@@ -61,7 +64,33 @@ pub fn input(case: &Case) -> u32 {
 pub fn number(case: &Case, lent: Sizes) -> u32 {
     match input(case) {
         1 => 1,
-        _ if !sizes_fit(case, lent) => 2,
+        _ if !sizes_fit(case, lent, case.work_size()) => 2,
         number => number,
     }
+}
+
+fn list_fits(merge: &Merge) -> bool {
+    let (indices, lengths, stages) = merge.list();
+    lengths.len() == stages && lengths.iter().map(|&length| length as usize).sum::<usize>() == indices.len()
+}
+
+fn merge_fits(merge: &Merge) -> bool {
+    let (indices, lengths, _) = merge.list();
+    let groups = merge.case.split().len();
+    (1..=MOST_PARTITIONS).contains(&lengths.len()) && merge.extra <= MOST_EXTRA && indices.iter().all(|&index| (index as usize) < groups)
+}
+
+/// The first of 1 to 5 and 10 that applies to a merge; 0 if none does.
+pub fn merge_number(merge: &Merge, lent: Sizes) -> u32 {
+    match input(&merge.case) {
+        1 => 1,
+        _ if !list_fits(merge) || !sizes_fit(&merge.case, lent, merge.work_size()) => 2,
+        0 if !merge_fits(merge) => 10,
+        number => number,
+    }
+}
+
+/// Whether none of 1 to 5 and 10 applies, whatever areas are lent.
+pub fn merge_input(merge: &Merge) -> bool {
+    input(&merge.case) == 0 && list_fits(merge) && merge_fits(merge)
 }

@@ -8,7 +8,7 @@ use crate::random::Random;
 const NAMES: [&str; 4] = ["plan", "words", "counts", "work"];
 
 /// Numbers around each lent area, which the library must not reach.
-const AROUND: usize = 16;
+pub const AROUND: usize = 16;
 
 /// What a case that agreed was like.
 pub struct Agreed {

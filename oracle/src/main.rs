@@ -3,6 +3,7 @@ mod bench;
 mod case;
 mod check;
 mod compare;
+mod compare_merge;
 mod merge;
 #[path = "../../ffi/rust/placer.rs"]
 mod placer;
@@ -14,7 +15,7 @@ mod shrink;
 
 include!(concat!(env!("OUT_DIR"), "/published.rs"));
 
-const USAGE: &str = "usage: oracle run SECONDS CASES SEED LOW HIGH | oracle bench TURNS | oracle record VECTORS RECORDED";
+const USAGE: &str = "usage: oracle run SECONDS BUILDS MERGES SEED LOW HIGH | oracle bench TURNS | oracle record VECTORS MERGES RECORDED";
 
 /// The published traversal calls itself as deep as the graph is.
 const STACK: usize = 512 << 20;
@@ -29,12 +30,12 @@ fn number(word: &str) -> u64 {
 fn work(words: &[String]) -> bool {
     let words: Vec<&str> = words.iter().map(String::as_str).collect();
     match words[..] {
-        ["run", seconds, cases, seed, low, high] => {
+        ["run", seconds, builds, merges, seed, low, high] => {
             let height = |word| number(word).clamp(6, 13) as u32;
-            run::run(number(seconds), number(cases), number(seed), height(low), height(high))
+            run::run(number(seconds), [number(builds), number(merges)], number(seed), height(low), height(high))
         }
         ["bench", turns] => bench::bench(number(turns).max(1) as usize),
-        ["record", vectors, recorded] => record::record(vectors, recorded),
+        ["record", vectors, merges, recorded] => record::record(vectors, merges, recorded),
         _ => {
             eprintln!("{USAGE}");
             std::process::exit(2)

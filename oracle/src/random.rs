@@ -30,14 +30,14 @@ impl Random {
         choices[self.between(0, choices.len() - 1)]
     }
 
-    fn shuffle<T>(&mut self, items: &mut [T]) {
+    pub fn shuffle<T>(&mut self, items: &mut [T]) {
         for i in (1..items.len()).rev() {
             let j = self.between(0, i);
             items.swap(i, j);
         }
     }
 
-    fn literal(&mut self, pin: usize) -> u32 {
+    pub fn literal(&mut self, pin: usize) -> u32 {
         (2 * pin + self.between(0, 1)) as u32
     }
 }
@@ -264,7 +264,7 @@ fn given(r: &mut Random, pins: usize) -> Vec<u32> {
     out
 }
 
-fn with(r: &mut Random, height: u32, gates: Vec<u32>, given: Vec<u32>, records: Vec<u32>) -> Case {
+pub fn with(r: &mut Random, height: u32, gates: Vec<u32>, given: Vec<u32>, records: Vec<u32>) -> Case {
     let rooms = if r.chance(8) { -(r.between(1, 3) as i64) } else { r.pick(&[0, 0, 1, 3]) };
     let beyond = if r.chance(50) { [0; 4] } else { [0, r.between(0, 40) as i64, r.between(0, 9) as i64, r.between(0, 40) as i64] };
     Case { height, gates, given, records, rooms, beyond, old: r.next() }

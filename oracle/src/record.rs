@@ -1,8 +1,9 @@
-//! Recorded answers of the Rust: builds as numbers of 16 bits for crates/vectors, merges in the text of PROTOCOL.md.
+//! Recorded answers of the Rust, as numbers of 16 bits: builds for crates/vectors, merges for crates/merges; these in the text of
+//! PROTOCOL.md too.
 use crate::case::{Case, EMPTY};
 use crate::check;
-use crate::merge::{self, Answer, Merge};
-use crate::published::{self, Outcome, Stage};
+use crate::merge::{self, Answer, Merge, Ruled};
+use crate::published::{self, Outcome, Part, Stage};
 use crate::random::{self, Random};
 use std::collections::HashMap;
 use std::{fs, io, path::Path};
@@ -27,8 +28,11 @@ const TWICE: u16 = 2;
 const SEVERAL: u16 = 4;
 const GIVEN: u16 = 8;
 const KIND: u16 = 16; // times 1, 2, 4, 8 for the record kinds 1 to 4
+const MARKS: [&str; 8] = ["pins taken back", "a word twice in a stage", "several stages", "given pins",
+                          "with outputs", "with flip-flops", "with memories", "with staged pins"];
 
-struct Build {
+/// A build or a merge as a program of the gate reads it.
+struct Recorded {
     height: u32,
     number: u32,
     marks: u16,
@@ -53,7 +57,7 @@ fn cells(case: &Case, stages: &[Stage]) -> Vec<u16> {
 }
 
 /// A build in the form that crates/vectors reads; None if it is damaged or too large.
-fn build(case: &Case) -> Option<Build> {
+fn build(case: &Case) -> Option<Recorded> {
     let fits = case.pins() <= MOST_PINS && case.records.len() <= MOST_RECORDS && case.given.len() <= MOST_GIVEN;
     if !fits || check::input(case) != 0 {
         return None;
@@ -91,25 +95,31 @@ fn build(case: &Case) -> Option<Build> {
                 rooms * case.stage_size(), case.word_limit(), rooms, case.work_size(),
                 number as usize, counts.len(), words.len(), stage, cells.len() / 2, marks as usize];
     let numbers = head.iter().map(|&n| u16::try_from(n).unwrap()).chain(body).collect();
-    Some(Build { height: case.height, number, marks, numbers })
+    Some(Recorded { height: case.height, number, marks, numbers })
 }
 
-/// What crates/vectors prints if all agree.
-fn tally(kept: &[Build]) -> String {
-    let names = ["pins taken back", "a word twice in a stage", "several stages", "given pins",
-                 "with outputs", "with flip-flops", "with memories", "with staged pins"];
-    let count = |has: &dyn Fn(&Build) -> bool| kept.iter().filter(|build| has(build)).count();
-    let mut out = format!("whole {}\n", count(&|build| build.number == 0));
-    for number in 6..=9 {
-        out += &format!("refused with {number}: {}\n", count(&|build| build.number == number));
+/// What a program prints if all agree: `whole` and `all` are its words for those that aren't refused and for all.
+fn tally(kept: &[Recorded], whole: &str, all: &str, refusals: &[u32], marks: &[&str]) -> String {
+    let count = |has: &dyn Fn(&Recorded) -> bool| kept.iter().filter(|one| has(one)).count();
+    let mut out = format!("{whole} {}\n", count(&|one| one.number == 0));
+    for &number in refusals {
+        out += &format!("refused with {number}: {}\n", count(&|one| one.number == number));
     }
-    for (bit, name) in names.iter().enumerate() {
-        out += &format!("{name} {}\n", count(&|build| build.marks >> bit & 1 == 1));
+    for (bit, name) in marks.iter().enumerate() {
+        out += &format!("{name} {}\n", count(&|one| one.marks >> bit & 1 == 1));
     }
     for height in 6..=9 {
-        out += &format!("height {height}: {}\n", count(&|build| build.height == height));
+        out += &format!("height {height}: {}\n", count(&|one| one.height == height));
     }
-    out + &format!("{} builds agree, 0 differ\n", kept.len())
+    out + &format!("{} {all} agree, 0 differ\n", kept.len())
+}
+
+/// `stdin` and `stdout` of a program. How many bytes it reads.
+fn write(folder: &Path, kept: &[Recorded], told: String) -> io::Result<usize> {
+    let bytes: Vec<u8> = kept.iter().flat_map(|one| one.numbers.iter().flat_map(|n| n.to_le_bytes())).collect();
+    fs::write(folder.join("stdin"), &bytes)?;
+    fs::write(folder.join("stdout"), told)?;
+    Ok(bytes.len())
 }
 
 /// The builds to `stdin` and what is to be printed to `stdout` in this folder.
@@ -132,10 +142,9 @@ fn builds(folder: &Path) -> io::Result<()> {
             break;
         }
     }
-    println!("{} builds, {size} bytes", kept.len());
-    let bytes: Vec<u8> = kept.iter().flat_map(|build| build.numbers.iter().flat_map(|n| n.to_le_bytes())).collect();
-    fs::write(folder.join("stdin"), bytes)?;
-    fs::write(folder.join("stdout"), tally(&kept))
+    let bytes = write(folder, &kept, tally(&kept, "whole", "builds", &[6, 7, 8, 9], &MARKS))?;
+    println!("{} builds, {bytes} bytes", kept.len());
+    Ok(())
 }
 
 const MERGES: usize = 120;
@@ -143,18 +152,82 @@ const MERGE_GATES: usize = 150;
 const MERGE_RECORDS: usize = 60;
 /// At most so many that are refused, that examine no union, and that examine one or two.
 const DULL: [usize; 3] = [12, 8, 24];
+/// So many more whose unions mostly fail, and that are refused with 8.
+const CROWDED: usize = 8;
+const FULL: usize = 4;
 
-fn merges(folder: &Path) -> io::Result<()> {
-    let (mut asked, mut told, mut count, mut dull, mut trials, mut parts) = (String::new(), String::new(), 0, [0; 3], 0, 0);
+/// What crates/merges has room for.
+const MOST_INDICES: usize = 1024;
+const MOST_PARTITIONS: usize = 64;
+const MOST_PLAN: usize = 32_768;
+const MOST_WORK: usize = 25_600;
+
+/// Marks of a merge, by bit.
+const MERGE_MARKS: [&str; 8] = ["unions that fail", "a block not begun", "over 30 partitions", "more stages than before",
+                                "no extra stages allowed", "a group twice", "an empty partition", "given pins"];
+
+fn merge_marks(merge: &Merge, ruled: &Ruled) -> u16 {
+    let parts = merge.split();
+    let (full, seen) = (parts.iter().filter(|part| !part.is_empty()).count(), parts.concat());
+    let twice = (1..seen.len()).any(|i| seen[..i].contains(&seen[i]));
+    let graph = published::graph(&merge.case);
+    let stages = |part: &Vec<usize>| match published::build_records(merge.case.height, &graph, part).0 {
+        Outcome::Whole(stages) => stages.len(),
+        _ => usize::MAX,
+    };
+    let most = parts.iter().map(stages).max().unwrap();
+    let (failed, deeper) = match &ruled.answer {
+        Answer::Whole { parts, trials } => (*trials > full - parts.len(), parts.iter().any(|part| part.stages > most)),
+        Answer::Refused { .. } => (false, false),
+    };
+    let has = [failed, ruled.not_begun, parts.len() > 30, deeper, merge.extra == 0, twice, full < parts.len(), !merge.case.given.is_empty()];
+    has.iter().enumerate().map(|(bit, &on)| (on as u16) << bit).sum()
+}
+
+/// A merge in the form that crates/merges reads; it has room for all that are recorded.
+fn recorded(merge: &Merge, ruled: &Ruled) -> Recorded {
+    let (case, rooms) = (&merge.case, ruled.deepest);
+    let (indices, lengths, _) = merge.list();
+    let none = Vec::new();
+    let (number, stage, refused, trials, parts) = match &ruled.answer {
+        Answer::Refused { number, stage, part } => (*number, *stage, *part, 0, &none),
+        Answer::Whole { parts, trials } => (0, 0, 0, *trials, parts),
+    };
+    let sum = |of: &dyn Fn(&Part) -> usize| parts.iter().map(of).sum::<usize>();
+    let short = |numbers: &[u32]| numbers.iter().map(|&n| if n == EMPTY { 0 } else { u16::try_from(n).unwrap() }).collect::<Vec<_>>();
+    let left = |of: &dyn Fn(&Part) -> Vec<usize>| parts.iter().flat_map(of).map(|n| n as u16).collect::<Vec<_>>();
+    let body = [
+        short(&case.gates), short(&case.given), short(&case.records), short(&indices), short(&lengths),
+        left(&|part| part.records.clone()), left(&|part| vec![part.records.len()]), left(&|part| vec![part.stages]),
+    ].concat();
+    let (plan, work) = (rooms * case.stage_size(), merge.work_size());
+    assert!(case.pins() <= MOST_PINS && case.records.len() <= MOST_RECORDS && case.given.len() <= MOST_GIVEN && body.len() <= MOST_BODY);
+    assert!(indices.len() <= MOST_INDICES && lengths.len() <= MOST_PARTITIONS);
+    assert!(rooms <= MOST_ROOMS && plan <= MOST_PLAN && work <= MOST_WORK);
+    let marks = merge_marks(merge, ruled);
+    let head = [body.len(), case.height as usize, case.gates.len(), case.given.len(), case.records.len(), indices.len(), lengths.len(),
+                merge.extra, plan, case.word_limit(), rooms, work,
+                number as usize, sum(&|part| part.stages), sum(&|part| part.words), stage, parts.len(), trials, refused, marks as usize];
+    let numbers = head.iter().map(|&n| u16::try_from(n).unwrap()).chain(body).collect();
+    Recorded { height: case.height, number, marks, numbers }
+}
+
+fn answered(merge: &Merge) -> Ruled {
+    merge::answer(merge, &published::graph(&merge.case)).unwrap_or_else(|what| panic!("{what}"))
+}
+
+/// Merges of random cases, few of them dull, then crowded ones, then those with a partition that level 1 is too small for.
+fn drawn_merges() -> Vec<(Merge, Ruled)> {
+    let (mut out, mut dull) = (Vec::new(), [0; 3]);
     for index in 0.. {
         let case = random::case(SEED + 1, index, 6 + (index % 4) as u32);
         let records = case.split().len();
         if check::input(&case) != 0 || case.gate_count() > MERGE_GATES || records < 2 || records > MERGE_RECORDS {
             continue;
         }
-        let merge: Merge = merge::random(&mut Random::new(index), case);
-        let answer = merge::answer(&merge);
-        let kind = match &answer {
+        let merge = merge::random(&mut Random::new(index), case);
+        let ruled = answered(&merge);
+        let kind = match &ruled.answer {
             Answer::Refused { .. } => Some(0),
             Answer::Whole { trials: 0, .. } => Some(1),
             Answer::Whole { trials: 1 | 2, .. } => Some(2),
@@ -166,24 +239,57 @@ fn merges(folder: &Path) -> io::Result<()> {
                 continue;
             }
         }
-        if let Answer::Whole { trials: n, .. } = answer {
-            trials += n;
-        }
-        parts += merge.parts.len();
-        count += 1;
-        asked += &merge.text(&format!("m{count}"));
-        told += &answer.text(&format!("m{count}"));
-        if count == MERGES {
+        out.push((merge, ruled));
+        if out.len() == MERGES {
             break;
         }
     }
-    println!("{count} merges of {parts} partitions, {trials} unions examined");
-    fs::write(folder.join("merges.cases"), asked)?;
-    fs::write(folder.join("merges.answers"), told)
+    for index in 0.. {
+        let merge = merge::crowded(&mut Random::new(SEED + index), 6 + (index % 2) as u32);
+        let ruled = answered(&merge);
+        if ruled.not_begun && merge.list().0.len() <= MOST_INDICES && merge.work_size() <= MOST_WORK {
+            out.push((merge, ruled));
+        }
+        if out.len() == MERGES + CROWDED {
+            break;
+        }
+    }
+    for index in 0.. {
+        let merge = merge::drawn(SEED, index, 6 + (index % 4) as u32);
+        if !check::merge_input(&merge) || merge.list().0.len() > MERGE_RECORDS || merge.case.records.len() > MOST_RECORDS {
+            continue;
+        }
+        let ruled = answered(&merge);
+        if let Answer::Refused { number: 8, .. } = ruled.answer {
+            out.push((merge, ruled));
+        }
+        if out.len() == MERGES + CROWDED + FULL {
+            break;
+        }
+    }
+    out
 }
 
-pub fn record(vectors: &str, recorded: &str) -> bool {
+/// The merges to `stdin` and what is to be printed to `stdout` in the first folder, their text to the second.
+fn merges(folder: &Path, texts: &Path) -> io::Result<()> {
+    let (mut asked, mut told, mut kept, mut trials, mut parts) = (String::new(), String::new(), Vec::new(), 0, 0);
+    for (i, (merge, ruled)) in drawn_merges().iter().enumerate() {
+        if let Answer::Whole { trials: n, .. } = ruled.answer {
+            trials += n;
+        }
+        parts += merge.parts.len();
+        asked += &merge.text(&format!("m{}", i + 1), None);
+        told += &ruled.answer.text(&format!("m{}", i + 1));
+        kept.push(recorded(merge, ruled));
+    }
+    let bytes = write(folder, &kept, tally(&kept, "merged", "merges", &[6, 7, 8], &MERGE_MARKS))?;
+    println!("{} merges of {parts} partitions, {trials} unions examined, {bytes} bytes", kept.len());
+    fs::write(texts.join("merges.cases"), asked)?;
+    fs::write(texts.join("merges.answers"), told)
+}
+
+pub fn record(vectors: &str, folder: &str, texts: &str) -> bool {
     builds(Path::new(vectors)).expect(vectors);
-    merges(Path::new(recorded)).expect(recorded);
+    merges(Path::new(folder), Path::new(texts)).expect(folder);
     true
 }

@@ -1,5 +1,6 @@
-//! Makes a case smaller as long as it still fails.
+//! Makes a case, or a merge, smaller as long as it still fails.
 use crate::case::{Case, EMPTY, LEAST};
+use crate::merge::Merge;
 use std::time::{Duration, Instant};
 
 /// Spans of a list to leave out: halves first, then ever smaller ones.
@@ -52,15 +53,35 @@ fn renumbered(case: &Case) -> Case {
     out
 }
 
-fn steps(case: &Case) -> Vec<Case> {
+/// What can be made smaller: all that is one step smaller, the largest steps first.
+pub trait Shrinks: Clone + PartialEq {
+    fn steps(&self) -> Vec<Self>;
+}
+
+/// Keeps what a change makes of a case, if it changes it.
+fn keep<T: Clone + PartialEq>(out: &mut Vec<T>, case: &T, change: &dyn Fn(&mut T)) {
+    let mut next = case.clone();
+    change(&mut next);
+    if next != *case {
+        out.push(next);
+    }
+}
+
+impl Shrinks for Case {
+    fn steps(&self) -> Vec<Case> {
+        case_steps(self)
+    }
+}
+
+impl Shrinks for Merge {
+    fn steps(&self) -> Vec<Merge> {
+        merge_steps(self)
+    }
+}
+
+fn case_steps(case: &Case) -> Vec<Case> {
     let mut out = Vec::new();
-    let mut step = |change: &dyn Fn(&mut Case)| {
-        let mut next = case.clone();
-        change(&mut next);
-        if next != *case {
-            out.push(next);
-        }
-    };
+    let mut step = |change: &dyn Fn(&mut Case)| keep(&mut out, case, change);
     let records = case.split();
     for span in spans(records.len()) {
         step(&|c| c.records = without(&records, span).concat());
@@ -85,10 +106,49 @@ fn steps(case: &Case) -> Vec<Case> {
     out
 }
 
+/// The merge without these records; the indices of the others fall, those past the last too.
+fn without_records(merge: &Merge, records: &[Vec<u32>], (from, to): (usize, usize)) -> Merge {
+    let mut out = merge.clone();
+    out.case.records = without(records, (from, to)).concat();
+    for part in &mut out.parts {
+        part.retain(|&index| !(from..to).contains(&(index as usize)));
+        part.iter_mut().filter(|index| **index as usize >= to).for_each(|index| *index -= (to - from) as u32);
+    }
+    out
+}
+
+fn merge_steps(merge: &Merge) -> Vec<Merge> {
+    let mut out = Vec::new();
+    let mut step = |change: &dyn Fn(&mut Merge)| keep(&mut out, merge, change);
+    for span in spans(merge.parts.len()) {
+        step(&|m| m.parts = without(&merge.parts, span));
+    }
+    let records = merge.case.split();
+    for span in spans(records.len()) {
+        step(&|m| *m = without_records(m, &records, span));
+    }
+    for (p, part) in merge.parts.iter().enumerate() {
+        for span in spans(part.len()) {
+            step(&|m| m.parts[p] = without(part, span));
+        }
+    }
+    for i in 0..3 {
+        step(&|m| m.beyond[i] = 0);
+    }
+    step(&|m| m.wrong = None);
+    step(&|m| m.extra = 0);
+    step(&|m| m.extra /= 2);
+    // Those with other records would change what the indices name.
+    for case in case_steps(&merge.case).into_iter().filter(|case| case.split().len() == records.len()) {
+        step(&|m| m.case = case.clone());
+    }
+    out
+}
+
 /// The smallest case found in the time at hand.
-pub fn shrink(case: &Case, fails: &dyn Fn(&Case) -> bool, most: Duration) -> Case {
+pub fn shrink<T: Shrinks>(case: &T, fails: &dyn Fn(&T) -> bool, most: Duration) -> T {
     let (start, mut best) = (Instant::now(), case.clone());
-    while let Some(next) = steps(&best).into_iter().take_while(|_| start.elapsed() < most).find(|c| fails(c)) {
+    while let Some(next) = best.steps().into_iter().take_while(|_| start.elapsed() < most).find(|c| fails(c)) {
         best = next;
     }
     best
@@ -115,5 +175,26 @@ mod tests {
             }
         }
         assert!(shrunk > 20);
+    }
+
+    #[test]
+    fn keeps_only_the_partitions_that_fail() {
+        // Fails with a gate's output in the second of two partitions that are not empty.
+        let fails = |m: &Merge| {
+            let (records, full) = (m.case.split(), m.parts.iter().filter(|part| !part.is_empty()).collect::<Vec<_>>());
+            let gate = |r: &Vec<u32>| r[0] == 1 && r.len() == 2 && m.case.gates.get(r[1] as usize & !1).map_or(false, |&l| l != EMPTY);
+            full.len() > 1 && full[1].iter().any(|&index| records.get(index as usize).map_or(false, gate))
+        };
+        let mut shrunk = 0;
+        for index in 0..60 {
+            let merge = crate::merge::drawn(1, index, 6);
+            if fails(&merge) {
+                let least = shrink(&merge, &fails, Duration::from_secs(60));
+                let kept = (least.parts.len(), least.list().0.len(), least.case.split().len() <= 2, least.case.gate_count(), least.extra);
+                assert_eq!(kept, (2, 2, true, 1, 0), "merge {index}");
+                shrunk += 1;
+            }
+        }
+        assert!(shrunk > 10);
     }
 }
