@@ -61,6 +61,10 @@ module _ (K : ℕ) (gates given records xs ls st : List ℕ) (extra : ℕ) (pl w
 pub record Checked (K : ℕ) (gates given records xs ls st : List ℕ) (extra : ℕ) (pl ws cs w : List ℕ) : Type 0 where
   pub none : mergeRefusal K gates given records (groupList xs ls st) extra (areas pl ws cs w) ≡ 0
 
+pub checked : {K : ℕ} {gates given records xs ls st : List ℕ} {extra : ℕ} {pl ws cs w : List ℕ} {number : ℕ} → number ≡ mergeRefusal K gates given records (groupList xs ls st) extra (areas pl ws cs w) → number ≡ 0
+    → Checked K gates given records xs ls st extra pl ws cs w
+checked e z = record { none = sym e ∙ z }
+
 module _ {K : ℕ} {gates given records xs ls st : List ℕ} {extra : ℕ} {pl ws cs w : List ℕ} (H : Checked K gates given records xs ls st extra pl ws cs w) where
   clear : (refusalOf K (mergeSized K gates records (groupList xs ls st) (areas pl ws cs w)) gates given records ≡ 0) × (mergeable records (groupList xs ls st) extra ≡ true)
   clear = both K gates given records xs ls st extra pl ws cs w _ refl (H .none)

@@ -1,8 +1,6 @@
 -- `merge::merge` meets its contract: what the checks refuse changes nothing, the rest is merged in the parts that count. Assumes nothing.
-use mathlib.Core.Path.{sym, _∙_}
 use native.Mathlib.Omega.{arith}
-use denote.Ref.{now}
-use Rattle.merge.proofs.Laws.Outcome.{Checked, need-is, pins-few, records-few, indices-few, lengths-few, words-inside, counts-inside, work-inside, place-at, outcome-refused, outcome-merged}
+use Rattle.merge.proofs.Laws.Outcome.{checked, need-is, pins-few, records-few, indices-few, lengths-few, words-inside, counts-inside, work-inside, place-at, outcome-refused, outcome-merged}
 use borrow.Author.Needs.{needs}
 use Rattle.merge.proofs.merge.Statement.{statement}
 use Rattle.merge.proofs.merge.Tie as tie
@@ -50,25 +48,25 @@ mul-own-2 : tie.Need-mul-own-2
 mul-own-2 c = search needs
 
 add-own : tie.Need-add-own
-add-own c = let a = c .before .before .before .before .before .before .before .before .before .before .before .before .before .before .before .before .before .before .before .before .before .args in let H : Checked (a .height) (now (a .gates)) (now (a .given)) (now (a .records)) (now (a .indices)) (now (a .lengths)) (now (a .stages)) (a .extra) (now (a .plan)) (now (a .words)) (now (a .counts)) (now (a .work)) = record { none = sym (c .before .before .before .merge-refusal .ensures) ∙ c .before .before .if1 .left } in omega (arith, indices-few H, lengths-few H)
+add-own c = let H = checked (c .before .before .before .merge-refusal .ensures) (c .before .before .if1 .left) in omega (arith, indices-few H, lengths-few H)
 
 pin-count-requires : tie.Need-pin-count-requires
 pin-count-requires c κs = search needs
 
 mul-need : tie.Need-mul-need
-mul-need c = let a = c .before .before .before .before .before .before .before .before .before .before .before .before .before .before .before .before .before .before .before .before .before .before .args in let H : Checked (a .height) (now (a .gates)) (now (a .given)) (now (a .records)) (now (a .indices)) (now (a .lengths)) (now (a .stages)) (a .extra) (now (a .plan)) (now (a .words)) (now (a .counts)) (now (a .work)) = record { none = sym (c .before .before .before .before .merge-refusal .ensures) ∙ c .before .before .before .if1 .left } in omega (arith, pins-few H, c .pin-count .ensures)
+mul-need c = let H = checked (c .before .before .before .before .merge-refusal .ensures) (c .before .before .before .if1 .left) in omega (arith, pins-few H, c .pin-count .ensures)
 
 mul-need-2 : tie.Need-mul-need-2
 mul-need-2 c = search needs
 
 add-need : tie.Need-add-need
-add-need c = let a = c .before .before .before .before .before .before .before .before .before .before .before .before .before .before .before .before .before .before .before .before .before .before .args in let H : Checked (a .height) (now (a .gates)) (now (a .given)) (now (a .records)) (now (a .indices)) (now (a .lengths)) (now (a .stages)) (a .extra) (now (a .plan)) (now (a .words)) (now (a .counts)) (now (a .work)) = record { none = sym (c .before .before .before .before .merge-refusal .ensures) ∙ c .before .before .before .if1 .left } in omega (arith, pins-few H, records-few H, indices-few H, lengths-few H, c .pin-count .ensures)
+add-need c = let H = checked (c .before .before .before .before .merge-refusal .ensures) (c .before .before .before .if1 .left) in omega (arith, pins-few H, records-few H, indices-few H, lengths-few H, c .pin-count .ensures)
 
 add-need-2 : tie.Need-add-need-2
-add-need-2 c = let a = c .before .before .before .before .before .before .before .before .before .before .before .before .before .before .before .before .before .before .before .before .before .before .args in let H : Checked (a .height) (now (a .gates)) (now (a .given)) (now (a .records)) (now (a .indices)) (now (a .lengths)) (now (a .stages)) (a .extra) (now (a .plan)) (now (a .words)) (now (a .counts)) (now (a .work)) = record { none = sym (c .before .before .before .before .merge-refusal .ensures) ∙ c .before .before .before .if1 .left } in omega (arith, pins-few H, records-few H, indices-few H, lengths-few H, c .pin-count .ensures)
+add-need-2 c = let H = checked (c .before .before .before .before .merge-refusal .ensures) (c .before .before .before .if1 .left) in omega (arith, pins-few H, records-few H, indices-few H, lengths-few H, c .pin-count .ensures)
 
 add-need-3 : tie.Need-add-need-3
-add-need-3 c = let a = c .before .before .before .before .before .before .before .before .before .before .before .before .before .before .before .before .before .before .before .before .before .before .args in let H : Checked (a .height) (now (a .gates)) (now (a .given)) (now (a .records)) (now (a .indices)) (now (a .lengths)) (now (a .stages)) (a .extra) (now (a .plan)) (now (a .words)) (now (a .counts)) (now (a .work)) = record { none = sym (c .before .before .before .before .merge-refusal .ensures) ∙ c .before .before .before .if1 .left } in omega (arith, pins-few H, records-few H, indices-few H, lengths-few H, c .pin-count .ensures)
+add-need-3 c = let H = checked (c .before .before .before .before .merge-refusal .ensures) (c .before .before .before .if1 .left) in omega (arith, pins-few H, records-few H, indices-few H, lengths-few H, c .pin-count .ensures)
 
 sub-place : tie.Need-sub-place
 sub-place c = search needs
@@ -77,7 +75,7 @@ part-place-start : tie.Need-part-place-start
 part-place-start c = search needs
 
 part-place-end : tie.Need-part-place-end
-part-place-end c = let a = c .before .before .before .before .before .before .before .before .before .before .before .before .before .before .before .before .before .before .before .before .before .before .before .before .before .before .args in let H : Checked (a .height) (now (a .gates)) (now (a .given)) (now (a .records)) (now (a .indices)) (now (a .lengths)) (now (a .stages)) (a .extra) (now (a .plan)) (now (a .words)) (now (a .counts)) (now (a .work)) = record { none = sym (c .before .before .before .before .before .before .before .before .merge-refusal .ensures) ∙ c .before .before .before .before .before .before .before .if1 .left } in words-inside H (c .before .before .before .before .before .before .word-limit .ensures) (c .before .before .before .before .before .rooms .ensures) (need-is _ _ _ _ _ _ (c .before .before .before .before .pin-count .ensures))
+part-place-end c = let H = checked (c .before .before .before .before .before .before .before .before .merge-refusal .ensures) (c .before .before .before .before .before .before .before .if1 .left) in words-inside H (c .before .before .before .before .before .before .word-limit .ensures) (c .before .before .before .before .before .rooms .ensures) (need-is _ _ _ _ _ _ (c .before .before .before .before .pin-count .ensures))
 
 sub-place-2 : tie.Need-sub-place-2
 sub-place-2 c = search needs
@@ -86,7 +84,7 @@ part-place-start-2 : tie.Need-part-place-start-2
 part-place-start-2 c = search needs
 
 part-place-end-2 : tie.Need-part-place-end-2
-part-place-end-2 c = let a = c .before .before .before .before .before .before .before .before .before .before .before .before .before .before .before .before .before .before .before .before .before .before .before .before .before .before .before .args in let H : Checked (a .height) (now (a .gates)) (now (a .given)) (now (a .records)) (now (a .indices)) (now (a .lengths)) (now (a .stages)) (a .extra) (now (a .plan)) (now (a .words)) (now (a .counts)) (now (a .work)) = record { none = sym (c .before .before .before .before .before .before .before .before .before .merge-refusal .ensures) ∙ c .before .before .before .before .before .before .before .before .if1 .left } in counts-inside H (c .before .before .before .before .before .before .before .word-limit .ensures) (c .before .before .before .before .before .before .rooms .ensures) (need-is _ _ _ _ _ _ (c .before .before .before .before .before .pin-count .ensures))
+part-place-end-2 c = let H = checked (c .before .before .before .before .before .before .before .before .before .merge-refusal .ensures) (c .before .before .before .before .before .before .before .before .if1 .left) in counts-inside H (c .before .before .before .before .before .before .before .word-limit .ensures) (c .before .before .before .before .before .before .rooms .ensures) (need-is _ _ _ _ _ _ (c .before .before .before .before .before .pin-count .ensures))
 
 sub-place-3 : tie.Need-sub-place-3
 sub-place-3 c = search needs
@@ -95,10 +93,10 @@ part-place-start-3 : tie.Need-part-place-start-3
 part-place-start-3 c = search needs
 
 part-place-end-3 : tie.Need-part-place-end-3
-part-place-end-3 c = let a = c .before .before .before .before .before .before .before .before .before .before .before .before .before .before .before .before .before .before .before .before .before .before .before .before .before .before .before .before .args in let H : Checked (a .height) (now (a .gates)) (now (a .given)) (now (a .records)) (now (a .indices)) (now (a .lengths)) (now (a .stages)) (a .extra) (now (a .plan)) (now (a .words)) (now (a .counts)) (now (a .work)) = record { none = sym (c .before .before .before .before .before .before .before .before .before .before .merge-refusal .ensures) ∙ c .before .before .before .before .before .before .before .before .before .if1 .left } in work-inside H (c .before .before .before .before .before .before .before .before .word-limit .ensures) (c .before .before .before .before .before .before .before .rooms .ensures) (need-is _ _ _ _ _ _ (c .before .before .before .before .before .before .pin-count .ensures))
+part-place-end-3 c = let H = checked (c .before .before .before .before .before .before .before .before .before .before .merge-refusal .ensures) (c .before .before .before .before .before .before .before .before .before .if1 .left) in work-inside H (c .before .before .before .before .before .before .before .before .word-limit .ensures) (c .before .before .before .before .before .before .before .rooms .ensures) (need-is _ _ _ _ _ _ (c .before .before .before .before .before .before .pin-count .ensures))
 
 place-requires : tie.Need-place-requires
-place-requires c κs = let a = c .before .before .before .before .before .before .before .before .before .before .before .before .before .before .before .before .before .before .before .before .before .before .before .before .before .before .before .before .before .args in let H : Checked (a .height) (now (a .gates)) (now (a .given)) (now (a .records)) (now (a .indices)) (now (a .lengths)) (now (a .stages)) (a .extra) (now (a .plan)) (now (a .words)) (now (a .counts)) (now (a .work)) = record { none = sym (c .before .before .before .before .before .before .before .before .before .before .before .merge-refusal .ensures) ∙ c .before .before .before .before .before .before .before .before .before .before .if1 .left } in place-at H (c .before .before .before .before .before .before .before .before .before .word-limit .ensures) (c .before .before .before .before .before .before .before .before .rooms .ensures) (need-is _ _ _ _ _ _ (c .before .before .before .before .before .before .before .pin-count .ensures))
+place-requires c κs = let H = checked (c .before .before .before .before .before .before .before .before .before .before .before .merge-refusal .ensures) (c .before .before .before .before .before .before .before .before .before .before .if1 .left) in place-at H (c .before .before .before .before .before .before .before .before .before .word-limit .ensures) (c .before .before .before .before .before .before .before .before .rooms .ensures) (need-is _ _ _ _ _ _ (c .before .before .before .before .before .before .before .pin-count .ensures))
 
 same-length-8 : tie.Need-same-length-8
 same-length-8 c = search needs
@@ -122,7 +120,7 @@ same-length-14 : tie.Need-same-length-14
 same-length-14 c = search needs
 
 returns-2 : tie.Need-returns-2
-returns-2 c = let a = c .before .before .before .before .before .before .before .before .before .before .before .before .before .before .before .before .before .before .before .before .before .before .before .before .before .before .before .before .before .before .before .before .before .before .before .before .before .before .before .before .before .before .before .before .args in let H : Checked (a .height) (now (a .gates)) (now (a .given)) (now (a .records)) (now (a .indices)) (now (a .lengths)) (now (a .stages)) (a .extra) (now (a .plan)) (now (a .words)) (now (a .counts)) (now (a .work)) = record { none = sym (c .before .before .before .before .before .before .before .before .before .before .before .before .before .before .before .before .before .before .before .before .before .before .before .before .before .before .merge-refusal .ensures) ∙ c .before .before .before .before .before .before .before .before .before .before .before .before .before .before .before .before .before .before .before .before .before .before .before .before .before .if1 .left } in outcome-merged H (c .before .before .before .before .before .before .before .before .before .before .before .before .before .before .before .before .before .before .before .before .before .before .before .before .word-limit .ensures) (c .before .before .before .before .before .before .before .before .before .before .before .before .before .before .before .before .before .before .before .before .before .before .before .rooms .ensures) (need-is _ _ _ _ _ _ (c .before .before .before .before .before .before .before .before .before .before .before .before .before .before .before .before .before .before .before .before .before .before .pin-count .ensures)) (c .before .before .before .before .before .before .before .before .before .before .before .before .before .before .place .ensures)
+returns-2 c = let H = checked (c .before .before .before .before .before .before .before .before .before .before .before .before .before .before .before .before .before .before .before .before .before .before .before .before .before .before .merge-refusal .ensures) (c .before .before .before .before .before .before .before .before .before .before .before .before .before .before .before .before .before .before .before .before .before .before .before .before .before .if1 .left) in outcome-merged H (c .before .before .before .before .before .before .before .before .before .before .before .before .before .before .before .before .before .before .before .before .before .before .before .before .word-limit .ensures) (c .before .before .before .before .before .before .before .before .before .before .before .before .before .before .before .before .before .before .before .before .before .before .before .rooms .ensures) (need-is _ _ _ _ _ _ (c .before .before .before .before .before .before .before .before .before .before .before .before .before .before .before .before .before .before .before .before .before .before .pin-count .ensures)) (c .before .before .before .before .before .before .before .before .before .before .before .before .before .before .place .ensures)
 
 pub merge-spec : {M : Type 1} → statement M
 merge-spec =

@@ -17,9 +17,9 @@ use Rattle.unions.specs.Unions.{Shares}
 use Rattle.layout.specs.Layout.{owned}
 use Rattle.trials.specs.Ranks.{AllAt, AllRanked}
 use Rattle.trials.proofs.Laws.Standing.{stands-stays}
+use Rattle.trials.proofs.Laws.Keys.{held-same}
 use Rattle.rounds.specs.declared.Outcome.{Outcome}
 use Rattle.rounds.specs.Rounds.{partsIn, opensIn, Tries, Keeps, RoundAt, Fails, Wins, Rounded, IntoAt, Into}
-use Rattle.rounds.proofs.Laws.Round.{held-same}
 
 -- ---- the slots
 

@@ -26,6 +26,7 @@ use Rattle.layout.specs.Layout.{owned}
 use Rattle.trials.specs.Ranks.{Stands}
 use Rattle.trials.specs.Trials.{TryAt, Tried}
 use Rattle.trials.proofs.Laws.Owned.{lent, own-length}
+use Rattle.trials.proofs.Laws.Keys.{held-same}
 use Rattle.rounds.specs.Rounds.{partsIn, opensIn, Tries, Keeps, RoundAt, Rounded}
 
 -- ---- tests, and what is found
@@ -53,11 +54,6 @@ seen-none n b e = rw (eq-eqb b n e, seen) refl
 seen-some : (n b : ℕ) → b ≢ n → seen n b ≡ found b
 unfolding seen
 seen-some n b e = rw (ne-eqb b n e, seen) refl
-
--- the first three columns say what the partitions are
-pub held-same : (n : ℕ) (ls xs o o′ : List ℕ) → ((x : ℕ) → x < 3 * n → getD o′ x 0 ≡ getD o x 0) → (s : ℕ) → s < n → held n ls xs o′ s ≡ held n ls xs o s
-unfolding held own
-held-same n ls xs o o′ e s h = rw (e (0 * n + s) (omega arith), e (1 * n + s) (omega arith), e (2 * n + s) (omega arith)) refl
 
 -- ---- along the ranks
 

@@ -15,9 +15,9 @@ use Rattle.layout.specs.Layout.{owned}
 use Rattle.trials.specs.Ranks.{Stays}
 use Rattle.trials.proofs.Laws.Owned.{lent, back-owned}
 use Rattle.trials.proofs.Laws.Standing.{stands-stays, part-stays}
+use Rattle.trials.proofs.Laws.Keys.{held-same}
 use Rattle.rounds.specs.declared.Course.{Course}
 use Rattle.rounds.specs.Rounds.{partsIn, Tries, Keeps, IntoAt, Into, SlotAt, Stepped, SlotsAt, Slotted}
-use Rattle.rounds.proofs.Laws.Round.{held-same}
 use Rattle.rounds.proofs.Laws.Into.{keeps-more, tries-same, rounds-same}
 
 -- ---- one slot

@@ -68,9 +68,10 @@ module _ {m table base i s : ℕ} {gates given records xs ls w : List ℕ} (A : 
 
 -- ---- slot after slot
 
-held-low : (n : ℕ) (ls xs o o′ : List ℕ) → ((x : ℕ) → x < 4 * n → getD o′ x 0 ≡ getD o x 0) → (s : ℕ) → s < n → held n ls xs o′ s ≡ held n ls xs o s
+-- the first three columns say what the partitions are
+pub held-same : (n : ℕ) (ls xs o o′ : List ℕ) → ((x : ℕ) → x < 3 * n → getD o′ x 0 ≡ getD o x 0) → (s : ℕ) → s < n → held n ls xs o′ s ≡ held n ls xs o s
 unfolding held own
-held-low n ls xs o o′ e s h = rw (e (0 * n + s) (omega arith), e (1 * n + s) (omega arith), e (2 * n + s) (omega arith)) refl
+held-same n ls xs o o′ e s h = rw (e (0 * n + s) (omega arith), e (1 * n + s) (omega arith), e (2 * n + s) (omega arith)) refl
 
 -- the slots after i and before s have keys
 pub record Keying (m table base i s : ℕ) (gates given records xs ls w w′ : List ℕ) : Type 0 where
@@ -110,8 +111,8 @@ module _ {m table base i : ℕ} {gates given records xs ls w : List ℕ} (A : Al
       this : (J : Common) → Shares gates given records J → free c o₀ s ≡ true → Ready J (held c ls xs o₀ i) (held c ls xs o₀) c o₂ s
       this J S f =
           let r = R .ready J S (free-low ∙ f) in
-          let a = held-low c ls xs o₀ o₁ (N .low) i (A .first) in
-          let b = held-low c ls xs o₀ o₁ (N .low) s h in
+          let a = held-same c ls xs o₀ o₁ (λ x l. N .low x (omega arith)) i (A .first) in
+          let b = held-same c ls xs o₀ o₁ (λ x l. N .low x (omega arith)) s h in
           record { grows = r .grows ∙ ap (λ (p : Part). rankOf J p (held c ls xs o₁ s) .grows) a ∙ ap (λ (q : Part). rankOf J (held c ls xs o₀ i) q .grows) b; union = r .union ∙ ap (λ (p : Part). rankOf J p (held c ls xs o₁ s) .union) a ∙ ap (λ (q : Part). rankOf J (held c ls xs o₀ i) q .union) b }
 
       pub keying-more : Keying m table base i (s + 1) gates given records xs ls w w₂

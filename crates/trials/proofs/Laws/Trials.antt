@@ -39,9 +39,6 @@ module _ {m table base i j stages words : ℕ} {xs ls w : List ℕ} (A : JoinAt 
   abbrev front : ℕ
   front = 16 * m + 512
 
-  pub join-ends : (front ≤ table) × (table ≤ length w)
-  join-ends = (omega (arith, A .spare), omega (arith, A .behind, A .room))
-
   pub join-take : TakeAt xs ls (take (table - front) (drop front w)) i j
   join-take =
       let l : length (take (table - front) (drop front w)) ≡ table - front = length-take-le (table - front) (drop front w) (rw length-drop (omega (arith, A .behind, A .room))) in
@@ -62,9 +59,6 @@ module _ {m table base i j stages words : ℕ} {xs ls w : List ℕ} (A : JoinAt 
 
     lent-now : take (base + 8 * n - base) (drop base w₁) ≡ owned base n w
     lent-now = lent base n w₁ join-room ∙ same
-
-    pub join-store : UnionAt n i j stages words (take (base + 8 * n - base) (drop base w₁))
-    join-store = rw lent-now (record { area = record { few = A .few; room = own-length base n w (A .room) }; first = omega (arith, A .order, A .second); second = A .second; stages-fit = A .stages-fit; words-fit = A .words-fit })
 
     pub joins : {xs′ ls′ ys : List ℕ} → Taken i j xs ls xs′ ls′ → Joined n i j stages words (take (base + 8 * n - base) (drop base w₁)) ys → Joins m table base i j stages words xs ls w xs′ ls′ (take base w₁ ++ (ys ++ drop (base + 8 * n - base) (drop base w₁)))
     joins {xs′} {ls′} {ys} T U = record {
