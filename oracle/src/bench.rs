@@ -20,12 +20,12 @@ fn outputs(gates: Vec<u32>, last: usize, count: usize) -> Case {
 fn inputs() -> Vec<(&'static str, Case)> {
     let r = &mut Random::new(2024);
     vec![
-        ("20,000 gates, near operands", outputs(random::scattered(r, 2000, 20_000, 1000, 0), 6000, 50)),
-        ("20,000 gates, far operands", outputs(random::scattered(r, 2000, 20_000, 1000, 20), 6000, 50)),
-        ("60,000 gates, near operands", outputs(random::scattered(r, 3000, 60_000, 3000, 0), 12_000, 50)),
-        ("60,000 gates, far operands", outputs(random::scattered(r, 3000, 60_000, 3000, 20), 12_000, 50)),
-        ("a chain of 3,000 gates", outputs(random::chain(r, 64, 3000), usize::MAX, 1)),
-        ("64 adders of 8 bits", outputs(random::adders(8, 64), usize::MAX, 1000)),
+        ("20,000 gates, near operands", outputs(random::scattered(r, 2000, 20_000, 1000, 0), 20_000, 200)),
+        ("20,000 gates, far operands", outputs(random::scattered(r, 2000, 20_000, 1000, 20), 20_000, 200)),
+        ("60,000 gates, near operands", outputs(random::scattered(r, 3000, 60_000, 3000, 0), 30_000, 100)),
+        ("60,000 gates, far operands", outputs(random::scattered(r, 3000, 60_000, 3000, 20), 40_000, 200)),
+        ("a chain of 10,000 gates", outputs(random::chain(r, 64, 10_000), usize::MAX, 1)),
+        ("64 adders of 16 bits", outputs(random::adders(16, 64), usize::MAX, 1000)),
     ]
 }
 
