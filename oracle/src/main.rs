@@ -15,7 +15,7 @@ mod shrink;
 
 include!(concat!(env!("OUT_DIR"), "/published.rs"));
 
-const USAGE: &str = "usage: oracle run SECONDS BUILDS MERGES SEED LOW HIGH | oracle bench TURNS | oracle record VECTORS MERGES RECORDED";
+const USAGE: &str = "usage: oracle run SECONDS BUILDS MERGES SEED LOW HIGH | oracle bench TURNS | oracle record VECTORS RECORDED";
 
 /// The published traversal calls itself as deep as the graph is.
 const STACK: usize = 512 << 20;
@@ -35,7 +35,7 @@ fn work(words: &[String]) -> bool {
             run::run(number(seconds), [number(builds), number(merges)], number(seed), height(low), height(high))
         }
         ["bench", turns] => bench::bench(number(turns).max(1) as usize),
-        ["record", vectors, merges, recorded] => record::record(vectors, merges, recorded),
+        ["record", vectors, recorded] => record::record(vectors, recorded),
         _ => {
             eprintln!("{USAGE}");
             std::process::exit(2)

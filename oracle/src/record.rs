@@ -1,5 +1,4 @@
-//! Recorded answers of the Rust, as numbers of 16 bits: builds for crates/vectors, merges for crates/merges; these in the text of
-//! PROTOCOL.md too.
+//! Recorded answers of the Rust for crates/vectors, as numbers of 16 bits: builds, then merges; these in the text of PROTOCOL.md too.
 use crate::case::{Case, EMPTY};
 use crate::check;
 use crate::merge::{self, Answer, Merge, Ruled};
@@ -16,6 +15,13 @@ const MOST_RECORDS: usize = 1024;
 const MOST_GIVEN: usize = 256;
 const MOST_ROOMS: usize = 32;
 const MOST_BODY: usize = 6000;
+const MOST_INDICES: usize = 1024;
+const MOST_PARTITIONS: usize = 64;
+const MOST_PLAN: usize = 32_768;
+const MOST_WORK: usize = 25_600;
+
+/// The numbers of a build's head; so many zeros end the builds.
+const HEAD: usize = 15;
 
 const BUILDS: usize = 400;
 /// At most so many builds that are alike: of one height, number and marks.
@@ -31,7 +37,7 @@ const KIND: u16 = 16; // times 1, 2, 4, 8 for the record kinds 1 to 4
 const MARKS: [&str; 8] = ["pins taken back", "a word twice in a stage", "several stages", "given pins",
                           "with outputs", "with flip-flops", "with memories", "with staged pins"];
 
-/// A build or a merge as a program of the gate reads it.
+/// A build or a merge as crates/vectors reads it.
 struct Recorded {
     height: u32,
     number: u32,
@@ -56,7 +62,7 @@ fn cells(case: &Case, stages: &[Stage]) -> Vec<u16> {
     out
 }
 
-/// A build in the form that crates/vectors reads; None if it is damaged or too large.
+/// A build in that form; None if it is damaged or too large.
 fn build(case: &Case) -> Option<Recorded> {
     let fits = case.pins() <= MOST_PINS && case.records.len() <= MOST_RECORDS && case.given.len() <= MOST_GIVEN;
     if !fits || check::input(case) != 0 {
@@ -91,17 +97,19 @@ fn build(case: &Case) -> Option<Recorded> {
     if body.len() > MOST_BODY {
         return None;
     }
-    let head = [body.len(), case.height as usize, case.gates.len(), case.given.len(), case.records.len(),
-                rooms * case.stage_size(), case.word_limit(), rooms, case.work_size(),
-                number as usize, counts.len(), words.len(), stage, cells.len() / 2, marks as usize];
+    let head: [usize; HEAD] = [
+        body.len(), case.height as usize, case.gates.len(), case.given.len(), case.records.len(),
+        rooms * case.stage_size(), case.word_limit(), rooms, case.work_size(),
+        number as usize, counts.len(), words.len(), stage, cells.len() / 2, marks as usize,
+    ];
     let numbers = head.iter().map(|&n| u16::try_from(n).unwrap()).chain(body).collect();
     Some(Recorded { height: case.height, number, marks, numbers })
 }
 
-/// What a program prints if all agree: `whole` and `all` are its words for those that aren't refused and for all.
+/// What is printed of the builds or the merges if all agree: `whole` and `all` are the words for those that aren't refused and for all.
 fn tally(kept: &[Recorded], whole: &str, all: &str, refusals: &[u32], marks: &[&str]) -> String {
     let count = |has: &dyn Fn(&Recorded) -> bool| kept.iter().filter(|one| has(one)).count();
-    let mut out = format!("{whole} {}\n", count(&|one| one.number == 0));
+    let mut out = format!("recorded {all}\n{whole} {}\n", count(&|one| one.number == 0));
     for &number in refusals {
         out += &format!("refused with {number}: {}\n", count(&|one| one.number == number));
     }
@@ -114,16 +122,8 @@ fn tally(kept: &[Recorded], whole: &str, all: &str, refusals: &[u32], marks: &[&
     out + &format!("{} {all} agree, 0 differ\n", kept.len())
 }
 
-/// `stdin` and `stdout` of a program. How many bytes it reads.
-fn write(folder: &Path, kept: &[Recorded], told: String) -> io::Result<usize> {
-    let bytes: Vec<u8> = kept.iter().flat_map(|one| one.numbers.iter().flat_map(|n| n.to_le_bytes())).collect();
-    fs::write(folder.join("stdin"), &bytes)?;
-    fs::write(folder.join("stdout"), told)?;
-    Ok(bytes.len())
-}
-
-/// The builds to `stdin` and what is to be printed to `stdout` in this folder.
-fn builds(folder: &Path) -> io::Result<()> {
+/// Builds of random cases, few of them alike.
+fn drawn_builds() -> Vec<Recorded> {
     let (mut alike, mut size, mut kept) = (HashMap::new(), 0, Vec::new());
     for index in 0.. {
         let height = 6 + (index % 4) as u32;
@@ -142,9 +142,8 @@ fn builds(folder: &Path) -> io::Result<()> {
             break;
         }
     }
-    let bytes = write(folder, &kept, tally(&kept, "whole", "builds", &[6, 7, 8, 9], &MARKS))?;
-    println!("{} builds, {bytes} bytes", kept.len());
-    Ok(())
+    println!("{} builds, {size} bytes", kept.len());
+    kept
 }
 
 const MERGES: usize = 120;
@@ -155,12 +154,6 @@ const DULL: [usize; 3] = [12, 8, 24];
 /// So many more whose unions mostly fail, and that are refused with 8.
 const CROWDED: usize = 8;
 const FULL: usize = 4;
-
-/// What crates/merges has room for.
-const MOST_INDICES: usize = 1024;
-const MOST_PARTITIONS: usize = 64;
-const MOST_PLAN: usize = 32_768;
-const MOST_WORK: usize = 25_600;
 
 /// Marks of a merge, by bit.
 const MERGE_MARKS: [&str; 8] = ["unions that fail", "a block not begun", "over 30 partitions", "more stages than before",
@@ -184,7 +177,7 @@ fn merge_marks(merge: &Merge, ruled: &Ruled) -> u16 {
     has.iter().enumerate().map(|(bit, &on)| (on as u16) << bit).sum()
 }
 
-/// A merge in the form that crates/merges reads; it has room for all that are recorded.
+/// A merge in the form that crates/vectors reads; it has room for all that are recorded.
 fn recorded(merge: &Merge, ruled: &Ruled) -> Recorded {
     let (case, rooms) = (&merge.case, ruled.deepest);
     let (indices, lengths, _) = merge.list();
@@ -270,8 +263,8 @@ fn drawn_merges() -> Vec<(Merge, Ruled)> {
     out
 }
 
-/// The merges to `stdin` and what is to be printed to `stdout` in the first folder, their text to the second.
-fn merges(folder: &Path, texts: &Path) -> io::Result<()> {
+/// The merges, and their text to this folder.
+fn merges(texts: &Path) -> io::Result<Vec<Recorded>> {
     let (mut asked, mut told, mut kept, mut trials, mut parts) = (String::new(), String::new(), Vec::new(), 0, 0);
     for (i, (merge, ruled)) in drawn_merges().iter().enumerate() {
         if let Answer::Whole { trials: n, .. } = ruled.answer {
@@ -282,14 +275,24 @@ fn merges(folder: &Path, texts: &Path) -> io::Result<()> {
         told += &ruled.answer.text(&format!("m{}", i + 1));
         kept.push(recorded(merge, ruled));
     }
-    let bytes = write(folder, &kept, tally(&kept, "merged", "merges", &[6, 7, 8], &MERGE_MARKS))?;
+    let bytes = 2 * kept.iter().map(|one| one.numbers.len()).sum::<usize>();
     println!("{} merges of {parts} partitions, {trials} unions examined, {bytes} bytes", kept.len());
     fs::write(texts.join("merges.cases"), asked)?;
-    fs::write(texts.join("merges.answers"), told)
+    fs::write(texts.join("merges.answers"), told)?;
+    Ok(kept)
 }
 
-pub fn record(vectors: &str, folder: &str, texts: &str) -> bool {
-    builds(Path::new(vectors)).expect(vectors);
-    merges(Path::new(folder), Path::new(texts)).expect(folder);
+/// `stdin` and `stdout` in the first folder, the merges' text in the second.
+fn write(folder: &Path, texts: &Path) -> io::Result<()> {
+    let (builds, merges) = (drawn_builds(), merges(texts)?);
+    let numbers = |kept: &[Recorded]| kept.iter().flat_map(|one| one.numbers.clone()).collect::<Vec<_>>();
+    let read = [numbers(&builds), vec![0; HEAD], numbers(&merges)].concat();
+    let told = tally(&builds, "whole", "builds", &[6, 7, 8, 9], &MARKS) + &tally(&merges, "merged", "merges", &[6, 7, 8], &MERGE_MARKS);
+    fs::write(folder.join("stdin"), read.iter().flat_map(|n| n.to_le_bytes()).collect::<Vec<_>>())?;
+    fs::write(folder.join("stdout"), told)
+}
+
+pub fn record(vectors: &str, texts: &str) -> bool {
+    write(Path::new(vectors), Path::new(texts)).expect(vectors);
     true
 }

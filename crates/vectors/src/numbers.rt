@@ -42,32 +42,10 @@ pub fn put(bytes: &[u8], from: usize, xs: &mut [u32]) {
     }
 }
 
-// The first n numbers from `from` on.
+// The first n numbers from `from` on, where there is room.
 pub fn put_first(bytes: &[u8], from: usize, n: usize, xs: &mut [u32]) {
-    let mut i = 0;
-    while i < n {
-        set(xs, i, narrow(bytes, more(from, i)));
-        i += 1;
-    }
-}
-
-// n pairs: where, and what.
-pub fn put_cells(bytes: &[u8], from: usize, n: usize, xs: &mut [u32]) {
-    let mut at = from;
-    let mut i = 0;
-    while i < n {
-        set(xs, number(bytes, at), narrow(bytes, more(at, 1)));
-        at = more(at, 2);
-        i += 1;
-    }
-}
-
-// The first n become x.
-pub fn fill(xs: &mut [u32], n: usize, x: u32) {
-    let mut i = 0;
-    while i < n {
-        set(xs, i, x);
-        i += 1;
+    if n <= xs.len() {
+        put(bytes, from, &mut xs[0..n]);
     }
 }
 
@@ -84,22 +62,8 @@ pub fn mark_leaves(xs: &mut [u32], empty: u32) {
     }
 }
 
-pub fn same(xs: &[u32], ys: &[u32]) -> bool {
-    if xs.len() != ys.len() {
-        return false;
-    }
-    let mut i = 0;
-    while i < xs.len() {
-        if xs[i] != item(ys, i) {
-            return false;
-        }
-        i += 1;
-    }
-    true
-}
-
 // Number i; 0 behind the last.
-fn item(xs: &[u32], i: usize) -> u32 {
+pub fn item(xs: &[u32], i: usize) -> u32 {
     if i < xs.len() { xs[i] } else { 0 }
 }
 

@@ -4,10 +4,10 @@ use Rattle.vectors.proofs.replay_all.Statement.{statement}
 use Rattle.vectors.proofs.replay_all.Tie as tie
 
 abbrev Inv-loop : tie.InvT-loop
-Inv-loop tally₀ turns₀ tally turns = Unit {0}
+Inv-loop merging tally₀ turns₀ tally turns = Unit {0}
 
 abbrev μ-loop : tie.MeasureT-loop
-μ-loop tally₀ turns₀ tally turns = turns
+μ-loop merging tally₀ turns₀ tally turns = turns
 
 loop-holds : tie.Need-loop-holds Inv-loop μ-loop
 loop-holds c = search needs

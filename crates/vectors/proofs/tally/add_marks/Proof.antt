@@ -1,28 +1,25 @@
--- `vectors::numbers::put_first` is safe. Assumes nothing.
+-- `vectors::tally::add_marks` is safe. Assumes nothing.
 use Prim.Native.Nat.{_-_}
 use lib.ListN.{length}
 use mathlib.Core.Path.{_≡_}
 use borrow.Author.Needs.{needs}
-use Rattle.vectors.proofs.numbers.put_first.Statement.{statement}
-use Rattle.vectors.proofs.numbers.put_first.Tie as tie
+use Rattle.vectors.proofs.tally.add_marks.Statement.{statement}
+use Rattle.vectors.proofs.tally.add_marks.Tie as tie
 
 abbrev Inv-loop : tie.InvT-loop
-Inv-loop bytes from n xs₀ i₀ xs i = length xs ≡ length xs₀
+Inv-loop tally₀ marks rest₀ i₀ tally rest i = length tally ≡ length tally₀
 
 abbrev μ-loop : tie.MeasureT-loop
-μ-loop bytes from n xs₀ i₀ xs i = n - i
+μ-loop tally₀ marks rest₀ i₀ tally rest i = 8 - i
 
 loop-holds : tie.Need-loop-holds Inv-loop μ-loop
 loop-holds c = search needs
 
-more-requires : tie.Need-more-requires Inv-loop μ-loop
-more-requires c κs = search needs
+add-add-if : tie.Need-add-add-if Inv-loop μ-loop
+add-add-if c = search needs
 
-narrow-requires : tie.Need-narrow-requires Inv-loop μ-loop
-narrow-requires c κs = search needs
-
-set-requires : tie.Need-set-requires Inv-loop μ-loop
-set-requires c κs = search needs
+add-if-requires : tie.Need-add-if-requires Inv-loop μ-loop
+add-if-requires c κs = search needs
 
 add-i : tie.Need-add-i Inv-loop μ-loop
 add-i c = search needs
@@ -39,16 +36,15 @@ same-length c = search needs
 returns : tie.Need-returns Inv-loop μ-loop
 returns c = search needs
 
-pub put-first-spec : {M : Type 1} → statement M
-put-first-spec =
+pub add-marks-spec : {M : Type 1} → statement M
+add-marks-spec =
     tie.close
     (tie.spec
     Inv-loop
     μ-loop
     loop-holds
-    more-requires
-    narrow-requires
-    set-requires
+    add-add-if
+    add-if-requires
     add-i
     loop-less
     loop-again

@@ -1,16 +1,16 @@
--- `vectors::numbers::put_cells` is safe. Assumes nothing.
+-- `vectors::areas::take_cells` is safe. Assumes nothing.
 use Prim.Native.Nat.{_-_}
 use lib.ListN.{length}
 use mathlib.Core.Path.{_≡_}
 use borrow.Author.Needs.{needs}
-use Rattle.vectors.proofs.numbers.put_cells.Statement.{statement}
-use Rattle.vectors.proofs.numbers.put_cells.Tie as tie
+use Rattle.vectors.proofs.areas.take_cells.Statement.{statement}
+use Rattle.vectors.proofs.areas.take_cells.Tie as tie
 
 abbrev Inv-loop : tie.InvT-loop
-Inv-loop bytes from n xs₀ at₀ i₀ xs at i = length xs ≡ length xs₀
+Inv-loop body from n plan₀ at₀ i₀ plan at i = length plan ≡ length plan₀
 
 abbrev μ-loop : tie.MeasureT-loop
-μ-loop bytes from n xs₀ at₀ i₀ xs at i = n - i
+μ-loop body from n plan₀ at₀ i₀ plan at i = n - i
 
 loop-holds : tie.Need-loop-holds Inv-loop μ-loop
 loop-holds c = search needs
@@ -18,11 +18,20 @@ loop-holds c = search needs
 number-requires : tie.Need-number-requires Inv-loop μ-loop
 number-requires c κs = search needs
 
+item-requires : tie.Need-item-requires Inv-loop μ-loop
+item-requires c κs = search needs
+
 more-requires : tie.Need-more-requires Inv-loop μ-loop
 more-requires c κs = search needs
 
 narrow-requires : tie.Need-narrow-requires Inv-loop μ-loop
 narrow-requires c κs = search needs
+
+same-length : tie.Need-same-length Inv-loop μ-loop
+same-length c = search needs
+
+returns : tie.Need-returns Inv-loop μ-loop
+returns c = search needs
 
 set-requires : tie.Need-set-requires Inv-loop μ-loop
 set-requires c κs = search needs
@@ -39,26 +48,29 @@ loop-less c = search needs
 loop-again : tie.Need-loop-again Inv-loop μ-loop
 loop-again c = search needs
 
-same-length : tie.Need-same-length Inv-loop μ-loop
-same-length c = search needs
+same-length-2 : tie.Need-same-length-2 Inv-loop μ-loop
+same-length-2 c = search needs
 
-returns : tie.Need-returns Inv-loop μ-loop
-returns c = search needs
+returns-2 : tie.Need-returns-2 Inv-loop μ-loop
+returns-2 c = search needs
 
-pub put-cells-spec : {M : Type 1} → statement M
-put-cells-spec =
+pub take-cells-spec : {M : Type 1} → statement M
+take-cells-spec =
     tie.close
     (tie.spec
     Inv-loop
     μ-loop
     loop-holds
     number-requires
+    item-requires
     more-requires
     narrow-requires
+    same-length
+    returns
     set-requires
     more-requires-2
     add-i
     loop-less
     loop-again
-    same-length
-    returns)
+    same-length-2
+    returns-2)
