@@ -1,3 +1,4 @@
+-- `cells::has_level` meets its contract. Assumes nothing.
 use mathlib.Core.Path.{sym, _∙_}
 use Rattle.cells.proofs.Heights.{level-tested, level-none}
 use borrow.Author.Needs.{needs}

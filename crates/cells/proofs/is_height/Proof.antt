@@ -1,3 +1,4 @@
+-- `cells::is_height` meets its contract. Assumes nothing.
 use Rattle.cells.proofs.Heights.{not-low, not-above}
 use mathlib.Core.Path.{sym}
 use Rattle.cells.proofs.is_height.Statement.{statement}

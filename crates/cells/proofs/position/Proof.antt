@@ -1,3 +1,4 @@
+-- `cells::position` meets its contract. Assumes nothing.
 use native.Mathlib.Omega.{arith}
 use Rattle.cells.proofs.Heights.{row-small, cell-none, cell-there}
 use borrow.Author.Needs.{needs}

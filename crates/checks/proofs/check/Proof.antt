@@ -1,3 +1,4 @@
+-- `checks::check` meets its contract. Assumes nothing.
 use mathlib.Core.Path.{_∙_}
 use Rattle.rules.specs.Checks.{workSize}
 use Rattle.rules.specs.Graph.{pinCount}

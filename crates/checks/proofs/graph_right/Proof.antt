@@ -1,3 +1,4 @@
+-- `checks::graph_right` meets its contract. Assumes nothing.
 use mathlib.Core.Path.{_∙_}
 use Rattle.checks.proofs.Laws.Refusing.{gates-odd, no-pins, many-pins, pins-right}
 use borrow.Author.Needs.{needs}

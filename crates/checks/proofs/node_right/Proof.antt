@@ -1,3 +1,4 @@
+-- `checks::node_right` meets its contract. Assumes nothing.
 use Rattle.rules.specs.Checks.{nodesRight}
 use Rattle.graph.specs.Values.{nodeFor}
 use Rattle.checks.proofs.Laws.Gates.{gate-right}

@@ -1,3 +1,4 @@
+-- `checks::nodes_right` meets its contract. Assumes nothing.
 use Prim.Native.Nat.{_-_}
 use native.Mathlib.Omega.{arith}
 use Rattle.checks.proofs.Laws.Turns.{NodesLeft, nodes-begin, nodes-more, nodes-wrong, nodes-done}

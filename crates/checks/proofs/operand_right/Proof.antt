@@ -1,3 +1,4 @@
+-- `checks::operand_right` meets its contract. Assumes nothing.
 use mathlib.Core.Path.{_∙_}
 use Rattle.checks.proofs.Laws.Gates.{operand-zero, operand-below}
 use borrow.Author.Needs.{needs}

@@ -1,3 +1,4 @@
+-- `checks::record_right` meets its contract. Assumes nothing.
 use Rattle.checks.proofs.Laws.Turns.{PinsLeft, pins-begin, pins-more, pins-wrong, pins-done}
 use native.Mathlib.Omega.{arith}
 use Prim.Native.Nat.{_-_}

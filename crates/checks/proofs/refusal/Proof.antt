@@ -1,3 +1,4 @@
+-- `checks::refusal` meets its contract. Assumes nothing.
 use mathlib.Core.Bool.{true}
 use mathlib.Core.Path.{_≡_, refl}
 use denote.Ref.{now}

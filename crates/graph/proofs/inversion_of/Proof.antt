@@ -1,3 +1,4 @@
+-- `graph::inversion_of` meets its contract. Assumes nothing.
 use Rattle.rules.specs.Graph.{inversionOf}
 use borrow.Author.Needs.{needs}
 use Rattle.graph.proofs.inversion_of.Statement.{statement}

@@ -1,3 +1,4 @@
+-- `graph::literal_of` meets its contract. Assumes nothing.
 use mathlib.Core.Logic.{inl, inr}
 use Rattle.graph.proofs.Gates.{literal-made, literal-refused}
 use borrow.Author.Needs.{needs}

@@ -1,3 +1,4 @@
+-- `graph::node_of` meets its contract. Assumes nothing.
 use mathlib.Core.Logic.{inl, inr}
 use Rattle.graph.specs.Values.{nodeFor}
 use Rattle.graph.proofs.Gates.{node-leaf, node-gate}

@@ -1,3 +1,4 @@
+-- `graph::pin_count` meets its contract. Assumes nothing.
 use Rattle.rules.specs.Graph.{pinCount}
 use borrow.Author.Needs.{needs}
 use Rattle.graph.proofs.pin_count.Statement.{statement}

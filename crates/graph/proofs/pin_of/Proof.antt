@@ -1,3 +1,4 @@
+-- `graph::pin_of` meets its contract. Assumes nothing.
 use Rattle.rules.specs.Graph.{pinOf}
 use borrow.Author.Needs.{needs}
 use Rattle.graph.proofs.pin_of.Statement.{statement}

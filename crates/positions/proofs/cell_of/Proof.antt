@@ -1,3 +1,4 @@
+-- `positions::cell_of` meets its contract. Assumes nothing.
 use native.Mathlib.Omega.{arith}
 use Rattle.rules.specs.Cells.{cellOf}
 use Rattle.positions.proofs.Positions.{start-low}

@@ -1,3 +1,4 @@
+-- `positions::first_lower` meets its contract. Assumes nothing.
 use native.Mathlib.Omega.{arith}
 use Rattle.rules.specs.Cells.{firstLower}
 use borrow.Author.Needs.{needs}

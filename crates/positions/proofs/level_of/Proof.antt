@@ -1,3 +1,4 @@
+-- `positions::level_of` meets its contract. Assumes nothing.
 use native.Mathlib.Omega.{arith}
 use Rattle.rules.specs.Cells.{levelOf}
 use borrow.Author.Needs.{needs}

@@ -1,3 +1,4 @@
+-- `positions::log2` meets its contract. Assumes nothing.
 use native.Mathlib.Omega.{arith}
 use Rattle.positions.proofs.Positions.{log-zero, few-zeros, zeros-log}
 use Rattle.positions.proofs.log2.Statement.{statement}

@@ -1,3 +1,4 @@
+-- `positions::row_start` meets its contract. Assumes nothing.
 use native.Mathlib.Omega.{arith}
 use Rattle.positions.proofs.Positions.{log-few, start-shifted}
 use borrow.Author.Needs.{needs}

@@ -1,3 +1,4 @@
+-- `positions::second_lower` meets its contract. Assumes nothing.
 use native.Mathlib.Omega.{arith}
 use Rattle.rules.specs.Cells.{secondLower}
 use borrow.Author.Needs.{needs}

@@ -1,3 +1,4 @@
+-- `records::endpoint` meets its contract. Assumes nothing.
 use Prim.Native.Nat.{_+_, _<_}
 use native.Mathlib.Omega.{arith}
 use lib.ListN.{length}

@@ -1,3 +1,4 @@
+-- `records::kind_of` meets its contract. Assumes nothing.
 use Rattle.rules.specs.Records.{sizeOf}
 use Rattle.cells.specs.Answers.{orZero}
 use Rattle.records.specs.Values.{numberOf, known}

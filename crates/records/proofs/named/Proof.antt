@@ -1,3 +1,4 @@
+-- `records::named` meets its contract. Assumes nothing.
 use Rattle.rules.specs.Records.{groupAt, endpointsOf}
 use Rattle.records.specs.Values.{numberOf, namedBy}
 use borrow.Author.Needs.{needs}

@@ -1,3 +1,4 @@
+-- `records::size_at` meets its contract. Assumes nothing.
 use mathlib.Core.Path.{_∙_, ap}
 use Rattle.rules.specs.Records.{sizeOf}
 use Rattle.records.proofs.Reading.{known-size, size-past, size-there, size-cut}

@@ -1,3 +1,4 @@
+-- `records::size_of` meets its contract. Assumes nothing.
 use Rattle.rules.specs.Records.{sizeOf}
 use Rattle.records.specs.Values.{numberOf}
 use borrow.Author.Needs.{needs}

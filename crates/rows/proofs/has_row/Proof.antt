@@ -1,3 +1,4 @@
+-- `rows::has_row` meets its contract. Assumes nothing.
 use native.Mathlib.Omega.{arith}
 use mathlib.Core.Logic.{inl, inr}
 use mathlib.Core.Path.{sym, _∙_}

@@ -1,3 +1,4 @@
+-- `rows::row` meets its contract. Assumes nothing.
 use denote.Ref.{now}
 use Rattle.rules.specs.Cells.{rowOf}
 use native.Mathlib.Omega.{arith}

@@ -1,3 +1,4 @@
+-- `rows::row_span` meets its contract. Assumes nothing.
 use native.Mathlib.Omega.{arith}
 use mathlib.Core.Path.{sym, _∙_}
 use Rattle.rows.proofs.Rows.{rowed, stands, span-there, span-none}

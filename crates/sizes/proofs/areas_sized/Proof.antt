@@ -1,3 +1,4 @@
+-- `sizes::areas_sized` meets its contract. Assumes nothing.
 use mathlib.Core.Path.{_∙_, ap}
 use Rattle.sizes.specs.Values.{fits}
 use Rattle.rules.proofs.Bools.{no, yes}

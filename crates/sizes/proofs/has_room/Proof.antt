@@ -1,3 +1,4 @@
+-- `sizes::has_room` meets its contract. Assumes nothing.
 use Rattle.sizes.specs.Values.{fits}
 use borrow.Author.Needs.{needs}
 use Rattle.sizes.proofs.has_room.Statement.{statement}

@@ -1,3 +1,4 @@
+-- `sizes::lent_sized` meets its contract. Assumes nothing.
 use Rattle.rules.proofs.Bools.{no, yes}
 use Rattle.sizes.proofs.Rooms.{plan-odd, words-few, counts-tested}
 use borrow.Author.Needs.{needs}

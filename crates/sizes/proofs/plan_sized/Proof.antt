@@ -1,3 +1,4 @@
+-- `sizes::plan_sized` meets its contract. Assumes nothing.
 use Rattle.rules.proofs.Bools.{no, yes}
 use Rattle.sizes.proofs.Rooms.{no-height, stage-there, plan-tested}
 use lib.Pow.{pow-pos}

@@ -1,3 +1,4 @@
+-- `sizes::take_eights` meets its contract. Assumes nothing.
 use Rattle.sizes.proofs.Rooms.{eights-there, eights-short, short-less}
 use borrow.Author.Needs.{needs}
 use Rattle.sizes.proofs.take_eights.Statement.{statement}

@@ -1,3 +1,4 @@
+-- `sizes::work_left` meets its contract. Assumes nothing.
 use Rattle.sizes.proofs.Rooms.{work-taken}
 use borrow.Author.Needs.{needs}
 use Rattle.sizes.proofs.work_left.Statement.{statement}

@@ -1,3 +1,4 @@
+-- `cells::Height::new` meets its contract. Assumes nothing.
 use mathlib.Core.Path.{sym, _∙_}
 use Rattle.cells.specs.Answers.{heightOf}
 use borrow.Author.Needs.{needs}

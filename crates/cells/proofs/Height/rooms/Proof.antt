@@ -1,3 +1,4 @@
+-- `cells::Height::rooms` meets its contract. Assumes nothing.
 use Rattle.cells.proofs.Heights.{rooms-none, rooms-there}
 use borrow.Author.Needs.{needs}
 use Rattle.cells.proofs.Height.rooms.Statement.{statement}

@@ -1,3 +1,4 @@
+-- `cells::Height::word_limit` meets its contract. Assumes nothing.
 use native.Mathlib.Omega.{arith}
 use borrow.Author.Needs.{needs}
 use Rattle.rules.specs.Cells.{wordLimit}

@@ -1,3 +1,4 @@
+-- `placer::stages::stages` meets its contract: one stage more, its words spent, until no pin waits or one is refused. Assumes nothing.
 use Rattle.tally.proofs.Laws.Tests.{counted-more, bound-same, spent-more}
 use Rattle.tally.specs.Spending.{bound, Counted}
 use Rattle.placer.proofs.Laws.Course.{still-rooms, next-at, spent-within, room-small, room-within, rooms-nine, one-on, refused-told, whole-told, whole-stands}
@@ -6,7 +7,6 @@ use lib.ListN.{length}
 use native.Mathlib.Omega.{arith}
 use mathlib.Core.Path.{_≡_, refl, _∙_}
 use Prim.Native.Nat.{_-_}
--- `placer::stages::stages` meets its contract: one stage more, its words spent, until no pin waits or one is refused. Assumes nothing.
 use borrow.Author.Needs.{needs}
 use Rattle.placer.proofs.stages.stages.Statement.{statement}
 use Rattle.placer.proofs.stages.stages.Tie as tie
