@@ -1,3 +1,4 @@
+pub mod Owned
 pub mod Orders
 pub mod Gathers
 pub mod Tables

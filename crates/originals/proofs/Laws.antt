@@ -1,4 +1,3 @@
-pub mod Own
 pub mod Measuring
 pub mod Parts
 pub mod Building

@@ -1,4 +1,3 @@
-pub mod Owned
 pub mod Standing
 pub mod Keys
 pub mod Answers

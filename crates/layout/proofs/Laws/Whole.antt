@@ -17,6 +17,7 @@ use Rattle.slots.proofs.Laws.Best.{gathered-in, gathered-out}
 use Rattle.slots.proofs.Laws.Splits.{lengths-split}
 use Rattle.layout.specs.declared.Totals.{Totals}
 use Rattle.layout.specs.Layout.{OrderAt, Ordered, GatherAt, Gathered, Tabled, TotalAt, sums, WriteAt, column, Written, owned, LayAt, Arranged, sorted, Laid}
+use Rattle.layout.proofs.Laws.Owned.{lent, own-length, back-owned, part-length}
 use Rattle.layout.proofs.Laws.Gathers.{getD-map}
 
 drop-same : (k : ℕ) (o o′ : List ℕ) → length o′ ≡ length o → ((x : ℕ) → k ≤ x → getD o′ x 0 ≡ getD o x 0) → drop k o′ ≡ drop k o
@@ -94,14 +95,14 @@ module _ {ls st : List ℕ} {k : ℕ} {o : List ℕ} (A : WriteAt ls st k o) {o�
   unfolding own
   part-of f i h l = getD-take n (drop (f * n) o₁) i 0 h ∙ getD-drop (f * n) o₁ i 0
 
-  part-length : (f : ℕ) → f * n + n ≤ 8 * n → length (take n (drop (f * n) o₁)) ≡ n
-  part-length f l = length-take-le n (drop (f * n) o₁) (rw length-drop (omega (arith, T .size, A .table .room)))
+  column-long : (f : ℕ) → f * n + n ≤ 8 * n → length (take n (drop (f * n) o₁)) ≡ n
+  column-long f l = length-take-le n (drop (f * n) o₁) (rw length-drop (omega (arith, T .size, A .table .room)))
 
   pub lengths-inside : length ls ≡ length (take (5 * n - 4 * n) (drop (4 * n) o₁))
-  lengths-inside = let z : 5 * n - 4 * n ≡ n = omega arith in rw z (sym (part-length 4 (omega arith)))
+  lengths-inside = let z : 5 * n - 4 * n ≡ n = omega arith in rw z (sym (column-long 4 (omega arith)))
 
   pub stages-inside : length st ≡ length (take (6 * n - 5 * n) (drop (5 * n) o₁))
-  stages-inside = let z : 6 * n - 5 * n ≡ n = omega arith in rw z (A .same ∙ sym (part-length 5 (omega arith)))
+  stages-inside = let z : 6 * n - 5 * n ≡ n = omega arith in rw z (A .same ∙ sym (column-long 5 (omega arith)))
 
   module _ {ls′ st′ : List ℕ} {t₁ t₂ : ℕ} (el : ls′ ≡ take (5 * n - 4 * n) (drop (4 * n) o₁)) (es : st′ ≡ take (6 * n - 5 * n) (drop (5 * n) o₁)) (e₁ : t₁ ≡ sums n 1 o₁ k) (e₂ : t₂ ≡ sums n 2 o₁ k) where
     pub written : Written ls k o ls′ st′ (record { partitions = k; stages = t₁; words = t₂ })
@@ -110,10 +111,10 @@ module _ {ls st : List ℕ} {k : ℕ} {o : List ℕ} (A : WriteAt ls st k o) {o�
         let y : 6 * n - 5 * n ≡ n = omega arith in
         let few : length ks ≤ n = omega (arith, long, A .table .inside) in
         record {
-          lengths = el ∙ rw z (column-is n (λ s. getD ls s 0) ks few (take n (drop (4 * n) o₁)) (part-length 4 (omega arith))
+          lengths = el ∙ rw z (column-is n (λ s. getD ls s 0) ks few (take n (drop (4 * n) o₁)) (column-long 4 (omega arith))
               (λ i h. let b : i < k = omega (arith, long) in part-of 4 i (omega (arith, A .table .inside)) (omega arith) ∙ T .lengths i b ∙ ap (λ (s : ℕ). getD ls s 0) (sym (order-at n k o (A .table .inside) (A .table .room) i b)))
               (λ i h l. part-of 4 i l (omega arith) ∙ T .no-lengths i (omega (arith, long)) l));
-          stages = es ∙ rw y (column-is n (λ s. own 1 n o s) ks few (take n (drop (5 * n) o₁)) (part-length 5 (omega arith))
+          stages = es ∙ rw y (column-is n (λ s. own 1 n o s) ks few (take n (drop (5 * n) o₁)) (column-long 5 (omega arith))
               (λ i h. let b : i < k = omega (arith, long) in part-of 5 i (omega (arith, A .table .inside)) (omega arith) ∙ T .stages i b ∙ ap (λ (s : ℕ). own 1 n o s) (sym (order-at n k o (A .table .inside) (A .table .room) i b)))
               (λ i h l. part-of 5 i l (omega arith) ∙ T .no-stages i (omega (arith, long)) l));
           partitions = refl;
@@ -205,19 +206,8 @@ module _ {spare base : ℕ} {xs ls st w : List ℕ} (A : LayAt spare base xs ls 
   abbrev size : ℕ
   size = base + 8 * length ls - base
 
-  eights : size ≡ 8 * length ls
-  eights = omega arith
-
-  lent : (v : List ℕ) → take size (drop base v) ≡ owned base (length ls) v
-  unfolding owned
-  lent v = rw eights refl
-
-  own-length : (v : List ℕ) → length v ≡ length w → length (owned base (length ls) v) ≡ 8 * length ls
-  unfolding owned
-  own-length v e = length-take-le (8 * length ls) (drop base v) (rw length-drop (omega (arith, A .room)))
-
   pub order-ready : OrderAt ls (take size (drop base w))
-  order-ready = rw (lent w) (record { few = A .few; room = own-length w refl; small = A .small })
+  order-ready = rw (lent base (length ls) w (A .room)) (record { few = A .few; room = own-length base (length ls) w (A .room); small = A .small })
 
   module _ {xs′ st₁ w′ : List ℕ} {r : ℕ} (R : Arranged base xs ls st w xs′ st₁ w′ r) where
     abbrev m : ℕ
@@ -226,11 +216,14 @@ module _ {spare base : ℕ} {xs ls st w : List ℕ} (A : LayAt spare base xs ls 
     abbrev o′ : List ℕ
     o′ = owned base m w′
 
+    inside : base + 8 * m ≤ length w′
+    inside = omega (arith, A .room, R .size)
+
     room′ : length o′ ≡ 8 * m
-    room′ = own-length w′ (R .size)
+    room′ = own-length base m w′ inside
 
     pub write-at : WriteAt ls st₁ r (take size (drop base w′))
-    write-at = rw (lent w′) (record { table = record { few = A .few; room = room′; inside = R .order-is .few; slots = R .order-is .slots }; same = R .same ∙ A .same })
+    write-at = rw (lent base m w′ inside) (record { table = record { few = A .few; room = room′; inside = R .order-is .few; slots = R .order-is .slots }; same = R .same ∙ A .same })
 
     abbrev js : List ℕ
     js = order m o′ r
@@ -238,7 +231,7 @@ module _ {spare base : ℕ} {xs ls st w : List ℕ} (A : LayAt spare base xs ls 
     pub laid : {ls′ st′ : List ℕ} {t : Totals} → Written ls r (take size (drop base w′)) ls′ st′ t → Laid base xs ls w xs′ ls′ st′ t
     unfolding sorted column sums
     laid {ls′} {st′} {t} W₀ =
-        let W : Written ls r o′ ls′ st′ t = rw (lent w′) at W₀ in
+        let W : Written ls r o′ ls′ st′ t = rw (lent base m w′ inside) at W₀ in
         let e : sorted base xs ls w ≡ map (held m ls xs (owned base m w)) js = R .order-is .is (held m ls xs (owned base m w)) (same-stages m ls xs (owned base m w)) in
         let b : (i : ℕ) → i < length js → getD js i 0 < m = order-below m r o′ (R .order-is .few) room′ (R .order-is .slots) in
         let s₁ : map (λ s. own 1 m o′ s) js ≡ map (λ s. own 1 m (owned base m w) s) js = map-below (λ s. own 1 m o′ s) (λ s. own 1 m (owned base m w) s) m js b (same-own 1 m o′ (owned base m w) (omega arith) (R .order-is .kept)) in
@@ -264,17 +257,16 @@ module _ {spare base : ℕ} {xs ls st w : List ℕ} (A : LayAt spare base xs ls 
     front = length-take-le base w (omega (arith, A .room))
 
     ys-length : length ys ≡ 8 * c
-    ys-length = O .size ∙ ap length (lent w) ∙ own-length w refl
+    ys-length = O .size ∙ ap length (lent base c w (A .room)) ∙ own-length base c w (A .room)
 
     behind : drop base w₁ ≡ ys ++ drop size (drop base w)
     behind = drop-at (take base w) (ys ++ drop size (drop base w)) base front
 
     owned-now : owned base c w₁ ≡ ys
-    unfolding owned
-    owned-now = rw behind (take-at ys (drop size (drop base w)) (8 * c) ys-length)
+    owned-now = back-owned base c w (A .room) ys (O .size)
 
     pub same-size : length w₁ ≡ length w
-    same-size = simp (length-append, length-drop) (omega (arith, front, ys-length, A .room))
+    same-size = part-length base (base + 8 * c) w (omega arith) (A .room) ys (O .size)
 
     module _ {from to : ℕ} (ef : from ≡ base + 6 * c) (et : to ≡ from + c) where
       column-six : take (to - from) (drop from w₁) ≡ take c (drop (6 * c) ys)
@@ -296,7 +288,7 @@ module _ {spare base : ℕ} {xs ls st w : List ℕ} (A : LayAt spare base xs ls 
 
         along : sorted base xs ls w ≡ map (held c ls xs (owned base c w)) (order c ys k)
         unfolding sorted
-        along = O .is (held c ls xs (owned base c w)) (λ s h. same-stages c ls xs (owned base c w) s h ∙ ap (λ (o : List ℕ). own 1 c o s) (sym (lent w)))
+        along = O .is (held c ls xs (owned base c w)) (λ s h. same-stages c ls xs (owned base c w) s h ∙ ap (λ (o : List ℕ). own 1 c o s) (sym (lent base c w (A .room))))
 
         st-length : length st₁ ≡ c
         st-length = ap length as-column ∙ length-take-le c (drop (6 * c) ys) (rw length-drop (omega (arith, ys-length)))
@@ -347,14 +339,11 @@ module _ {spare base : ℕ} {xs ls st w : List ℕ} (A : LayAt spare base xs ls 
           owned-after = same-owned base c w₁ w₂ above ∙ owned-now
 
           pub after-size : length w₂ ≡ length w
-          after-size =
-              let r : length (drop gap (drop spare w₁)) ≡ length w - spare - gap = length-drop gap (drop spare w₁) ∙ ap (λ (x : ℕ). x - gap) (length-drop spare w₁ ∙ ap (λ (x : ℕ). x - spare) same-size) in
-              let q = length-append zs (drop gap (drop spare w₁)) in
-              length-append (take spare w₁) (zs ++ drop gap (drop spare w₁)) ∙ omega (arith, head, zs-length, A .before, A .room)
+          after-size = part-length spare (spare + length xs) w₁ (omega arith) (omega (arith, same-size, A .before, A .room)) zs lz ∙ same-size
 
           pub arranged : {xs′ : List ℕ} → xs′ ≡ take gap (drop spare w₂) → Arranged base xs ls st w xs′ st₁ w₂ k
           arranged ex = record {
-            order-is = rw (owned-after, ← lent w) O;
+            order-is = rw (owned-after, ← lent base c w (A .room)) O;
             groups = ex ∙ lent-now ∙ G .is ∙ ap (λ (l : List ℕ). joined (map (λ s. getD (splitBy ls xs) s []) l)) (in-order ∙ ap (λ (o : List ℕ). order c o k) (sym owned-after));
             same = st-length ∙ sym (A .same);
             size = after-size;

@@ -7,7 +7,6 @@ use mathlib.Core.Path.{_≡_, refl, sym, ap, _∙_}
 use native.Mathlib.Omega.{arith}
 use lib.Dec.{leb}
 use lib.ListN.{length, take, drop}
-use lib.Pow.{pow-mono}
 use borrow.Author.Tests.{leb-true}
 use Rattle.rules.specs.Cells.{isHeight, empty, wordLimit, rooms}
 use Rattle.rules.specs.Graph.{graphOf}
@@ -19,6 +18,7 @@ use Rattle.rules.proofs.Demand.{Ends, first, later, build-few}
 use Rattle.rules.proofs.Build.Bounds.{Few}
 use Rattle.placer.specs.declared.Answer.{Answer}
 use Rattle.placer.specs.Answers.{told}
+use Rattle.placer.proofs.Laws.Course.{limit-small}
 use Rattle.unions.specs.Names.{picked}
 use Rattle.unions.specs.Unions.{UnionAt, Leaves, SizeAt, Measured, TryAt, Places, Built}
 use Rattle.unions.proofs.Laws.Names.{group-ends}
@@ -27,8 +27,8 @@ use Rattle.unions.proofs.Laws.Parts.{idle-part}
 use Rattle.unions.proofs.Laws.Table.{located-same}
 use Rattle.slots.specs.Stores.{BuiltAt, Stored}
 use Rattle.layout.specs.Layout.{owned}
+use Rattle.layout.proofs.Laws.Owned.{lent, own-length, owned-same, back-owned, part-length, part-below, part-above}
 use Rattle.originals.specs.Originals.{Ground, Grouped, Changes, NoteAt, Noted, MeasureAt, Measures}
-use Rattle.originals.proofs.Laws.Own.{lent, own-length, own-same, back-own, back-length, back-below, back-past}
 
 -- ---- what calls leave
 
@@ -56,7 +56,7 @@ module _ {K m table base n : ℕ} {gates given records w : List ℕ} (G : Ground
   leaves-changes L = record { len = L .len; idle = L .idle; starts = λ j a b. L .past j a; past = λ j h. L .past j (omega (arith, G .behind)) }
 
   pub leaves-own : {w₁ : List ℕ} → Leaves m table w w₁ → owned base n w₁ ≡ owned base n w
-  leaves-own {w₁} L = own-same base n w (G .room) w₁ (L .len) (λ j h. L .past j (omega (arith, G .behind)))
+  leaves-own {w₁} L = owned-same base n w w₁ (G .room) (L .len) (λ j h. L .past j (omega (arith, G .behind)))
 
   pub union-at : {part : List ℕ} → Grouped m table records part → UnionAt K m table gates given records part [] w
   union-at P = record {
@@ -93,17 +93,17 @@ module _ {m table base n s stages words : ℕ} {gates given records part w : Lis
     pub noted : {ys : List ℕ} → Stored n s size stages words (take (base + 8 * n - base) (drop base w₁)) ys → Noted m table base n s stages words gates given records part w (take base w₁ ++ (ys ++ drop (base + 8 * n - base) (drop base w₁)))
     noted {ys} S₀ =
         let S : Stored n s size stages words (owned base n w₁) ys = rw (lent base n w₁ note-end) at S₀ in
-        let l : length ys ≡ length (owned base n w₁) = S .long in
+        let l : length ys ≡ length (take (base + 8 * n - base) (drop base w₁)) = S₀ .long in
         record {
           changes = record {
-            len = back-length base n w₁ note-end ys l ∙ M .leaves .len;
-            idle = idle-part w₁ _ (λ j h. back-below base n w₁ note-end ys l j (omega (arith, A .ground .front, A .ground .behind)))
-                (record { small = A .ground .idle .area .small; room = omega (arith, back-length base n w₁ note-end ys l, M .leaves .len, A .ground .idle .area .room) }) (M .leaves .idle);
-            starts = λ j a b. back-below base n w₁ note-end ys l j b ∙ M .leaves .past j a;
-            past = λ j h. back-past base n w₁ note-end ys l j h ∙ M .leaves .past j (omega (arith, A .ground .behind));
+            len = part-length base (base + 8 * n) w₁ (omega arith) note-end ys l ∙ M .leaves .len;
+            idle = idle-part w₁ _ (λ j h. part-below base (base + 8 * n) w₁ (omega arith) note-end ys l j (omega (arith, A .ground .front, A .ground .behind)))
+                (record { small = A .ground .idle .area .small; room = omega (arith, part-length base (base + 8 * n) w₁ (omega arith) note-end ys l, M .leaves .len, A .ground .idle .area .room) }) (M .leaves .idle);
+            starts = λ j a b. part-below base (base + 8 * n) w₁ (omega arith) note-end ys l j b ∙ M .leaves .past j a;
+            past = λ j h. part-above base (base + 8 * n) w₁ (omega arith) note-end ys l j h ∙ M .leaves .past j (omega (arith, A .ground .behind));
           };
           size = size;
-          stored = rw (back-own base n w₁ note-end ys l, ← leaves-own (A .ground) (M .leaves)) S;
+          stored = rw (back-owned base n w₁ note-end ys l, ← leaves-own (A .ground) (M .leaves)) S;
           measured = λ J h. rw (append-nil part) at (M .size J h);
         }
 
@@ -120,7 +120,7 @@ tall K h = let t = and-true (leb 6 K) (leb K 13) h in (leb-true 6 K (t .0), leb-
 
 limit-fits : (K : ℕ) → isHeight K ≡ true → wordLimit K ≤ 256
 unfolding wordLimit
-limit-fits K h = omega (arith, pow-mono {i = K - 5} {j = 8} (omega (arith, tall K h .1)))
+limit-fits K h = limit-small K (tall K h .1)
 
 module _ {K m table base n s : ℕ} {gates given records part pl ws cs w : List ℕ} (A : MeasureAt K m table base n s gates given records part pl ws cs w) where
   pub measure-try : TryAt K m table gates given records part [] pl ws cs w

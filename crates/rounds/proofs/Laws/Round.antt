@@ -25,7 +25,7 @@ use Rattle.slots.proofs.Laws.Rounds.{Bars, bars-more, bars-same, goes, round-no
 use Rattle.layout.specs.Layout.{owned}
 use Rattle.trials.specs.Ranks.{Stands}
 use Rattle.trials.specs.Trials.{TryAt, Tried}
-use Rattle.trials.proofs.Laws.Owned.{lent, own-length}
+use Rattle.layout.proofs.Laws.Owned.{lent, own-length}
 use Rattle.trials.proofs.Laws.Keys.{held-same}
 use Rattle.rounds.specs.Rounds.{partsIn, opensIn, Tries, Keeps, RoundAt, Rounded}
 

@@ -13,7 +13,7 @@ use Rattle.slots.specs.Moves.{Opened}
 use Rattle.slots.proofs.Laws.Rounds.{Merging, merging-none, merging-empty, merging-full, merging-done}
 use Rattle.layout.specs.Layout.{owned}
 use Rattle.trials.specs.Ranks.{Stays}
-use Rattle.trials.proofs.Laws.Owned.{lent, back-owned}
+use Rattle.layout.proofs.Laws.Owned.{lent, back-owned}
 use Rattle.trials.proofs.Laws.Standing.{stands-stays, part-stays}
 use Rattle.trials.proofs.Laws.Keys.{held-same}
 use Rattle.rounds.specs.declared.Course.{Course}

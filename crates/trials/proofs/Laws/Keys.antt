@@ -16,7 +16,7 @@ use Rattle.slots.proofs.Laws.Accepts.{Ready}
 use Rattle.slots.proofs.Laws.Bars.{same-or}
 use Rattle.layout.specs.Layout.{owned}
 use Rattle.trials.specs.Ranks.{groupsAt, Stands, Stays, RankAt, SlotRanked, AllAt, AllRanked}
-use Rattle.trials.proofs.Laws.Owned.{lent, own-length, own-at, back-owned}
+use Rattle.layout.proofs.Laws.Owned.{lent, own-length, own-at, back-owned}
 use Rattle.trials.proofs.Laws.Standing.{stands-stays, stays-leaves, leaves-owned, part-stays, stays-more}
 
 -- ---- one slot

@@ -21,7 +21,7 @@ use Rattle.slots.specs.Moves.{StartAt}
 use Rattle.slots.proofs.Laws.Sums.{sum-part}
 use Rattle.layout.specs.Layout.{owned}
 use Rattle.trials.specs.Ranks.{groupsAt, Stands, Stays}
-use Rattle.trials.proofs.Laws.Owned.{part-length, part-below, part-above, owned-same}
+use Rattle.layout.proofs.Laws.Owned.{part-length, part-below, part-above, owned-same}
 
 -- ---- a slot's groups
 

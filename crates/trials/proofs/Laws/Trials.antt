@@ -26,7 +26,7 @@ use Rattle.slots.specs.Stores.{UnionAt, Joined}
 use Rattle.layout.specs.Layout.{owned}
 use Rattle.trials.specs.Ranks.{groupsAt, Stands, Stays}
 use Rattle.trials.specs.Trials.{BuildAt, JoinAt, Joins, TryAt, Tried}
-use Rattle.trials.proofs.Laws.Owned.{lent, own-length, back-owned, set-owned, owned-same, part-above}
+use Rattle.layout.proofs.Laws.Owned.{lent, own-length, back-owned, set-owned, owned-same, part-above}
 use Rattle.trials.proofs.Laws.Standing.{stands-stays, stays-leaves, leaves-owned, part-stays, stays-more}
 use Rattle.trials.proofs.Laws.Answers.{accepts-is, words-few}
 
