@@ -19,6 +19,13 @@ pub fn set(xs: &mut [u32], i: usize, x: u32) {
     }
 }
 
+// Number i of a tally becomes more.
+pub fn add(tally: &mut [usize], i: usize, by: usize) {
+    if i < tally.len() {
+        tally[i] = more(tally[i], by);
+    }
+}
+
 // n numbers from an index on; none where there are fewer.
 pub fn part(xs: &[u32], from: usize, n: usize) -> &[u32] {
     if from > xs.len() {

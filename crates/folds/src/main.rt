@@ -4,6 +4,7 @@ mod bits;
 mod values;
 
 use bits::set_bits;
+use cases::add;
 use cases::front;
 use cases::item;
 use cases::more;
@@ -119,12 +120,6 @@ fn put_cells(cells: &[u8], plan: &mut [u32]) {
         set(plan, number(cells, at), narrow(cells, more(at, 1)));
         at = more(at, 2);
         i += 1;
-    }
-}
-
-fn add(tally: &mut [usize; 8], i: usize, by: usize) {
-    if i < 8 {
-        tally[i] = more(tally[i], by);
     }
 }
 

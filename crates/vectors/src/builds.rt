@@ -101,10 +101,10 @@ pub fn agrees(head: &[u8], body: &[u8]) -> bool {
 }
 
 fn built(head: &[u8], own: &[u8], rest: &[u8], input: &[u32]) -> bool {
-    let mut plan = [OLD; 32768];
+    let mut plan = [OLD; 23568];
     let mut words = [OLD; 32];
     let mut counts = [OLD; 40];
-    let mut work = [OLD; 25600];
+    let mut work = [OLD; 16032];
     let a = recorded_build(
         head,
         input,

@@ -167,10 +167,10 @@ fn lent(
     lengths: &mut [u32],
     stages: &mut [u32],
 ) -> bool {
-    let mut plan = [OLD; 32768];
+    let mut plan = [OLD; 16400];
     let mut words = [OLD; 32];
     let mut counts = [OLD; 40];
-    let mut work = [OLD; 25600];
+    let mut work = [OLD; 11000];
     let a = recorded_merge(
         head,
         input,

@@ -3,6 +3,7 @@
 use crate::areas::HEIGHT;
 use crate::areas::NUMBER;
 use crate::areas::behind;
+use cases::add;
 use cases::more;
 use cases::number;
 use cases::tell;
@@ -17,12 +18,6 @@ const DIFFER: usize = 23;
 
 pub fn either(merging: bool, of_merge: usize, of_build: usize) -> usize {
     if merging { of_merge } else { of_build }
-}
-
-fn add(tally: &mut [usize], i: usize, by: usize) {
-    if i < tally.len() {
-        tally[i] = more(tally[i], by);
-    }
 }
 
 fn add_marks(tally: &mut [usize], marks: usize) {
