@@ -1,15 +1,11 @@
 // The graph's own values, pin by pin, for comparison.
+use cases::item;
 use graph::Literal;
 use graph::Node;
 use graph::Pin;
 use graph::inversion_of;
 use graph::node_at;
 use graph::pin_of;
-
-// The number at an index; 0 outside.
-pub fn item(xs: &[u32], i: usize) -> u32 {
-    if i < xs.len() { xs[i] } else { 0 }
-}
 
 fn has(xs: &[u32], n: u32) -> bool {
     let mut i = 0;

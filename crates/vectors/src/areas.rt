@@ -1,12 +1,12 @@
 // What is handed over and lent in a build and a merge alike.
-use crate::numbers::item;
-use crate::numbers::mark_leaves;
-use crate::numbers::more;
-use crate::numbers::narrow;
-use crate::numbers::number;
-use crate::numbers::put;
-use crate::numbers::set;
-use crate::tally::line;
+use cases::front;
+use cases::item;
+use cases::more;
+use cases::narrow;
+use cases::number;
+use cases::part;
+use cases::set;
+use cases::tell;
 
 pub const EMPTY: u32 = 4294967295;
 
@@ -18,56 +18,101 @@ pub const BODY: usize = 0;
 
 pub const HEIGHT: usize = 1;
 
-pub const GATES: usize = 2;
+const GATES: usize = 2;
 
-pub const GIVEN: usize = 3;
+const GIVEN: usize = 3;
 
-pub const RECORDS: usize = 4;
+const RECORDS: usize = 4;
+
+// How their own parts begin: what is lent and counted, what the Rust answers.
+pub const PLAN: usize = 0;
+
+pub const LIMIT: usize = 1;
+
+pub const ROOMS: usize = 2;
+
+pub const WORK: usize = 3;
+
+pub const NUMBER: usize = 4;
+
+pub const STAGES: usize = 5;
+
+pub const WORDS: usize = 6;
+
+pub const STAGE: usize = 7;
+
+// What stands behind the first n numbers.
+pub fn behind(bytes: &[u8], n: usize) -> &[u8] {
+    if n > bytes.len() / 2 {
+        return &bytes[0..0];
+    }
+    let from = 2 * n;
+    &bytes[from..]
+}
+
+// The body's numbers, as many as there is room for.
+pub fn put(body: &[u8], xs: &mut [u32]) {
+    let mut i = 0;
+    while i < xs.len() {
+        xs[i] = narrow(body, i);
+        i += 1;
+    }
+}
+
+// A leaf's two literals are recorded as 0.
+fn marked(x: u32) -> u32 {
+    if x == 0 { EMPTY } else { x }
+}
+
+fn mark_leaves(xs: &mut [u32]) {
+    let mut i = 0;
+    while i < xs.len() {
+        xs[i] = marked(xs[i]);
+        i += 1;
+    }
+}
+
+// Gates, given pins and records, one behind the other.
+pub fn put_input(head: &[u8], body: &[u8], input: &mut [u32]) {
+    put(body, input);
+    mark_leaves(front(input, number(head, GATES)));
+}
+
+pub fn gates<'a>(head: &[u8], input: &'a [u32]) -> &'a [u32] {
+    part(input, 0, number(head, GATES))
+}
+
+pub fn given<'a>(head: &[u8], input: &'a [u32]) -> &'a [u32] {
+    part(input, number(head, GATES), number(head, GIVEN))
+}
 
 fn records_at(head: &[u8]) -> usize {
     more(number(head, GATES), number(head, GIVEN))
 }
 
-// Where the body goes on behind the input.
-pub fn rest_at(head: &[u8]) -> usize {
-    more(records_at(head), number(head, RECORDS))
+pub fn records<'a>(head: &[u8], input: &'a [u32]) -> &'a [u32] {
+    part(input, records_at(head), number(head, RECORDS))
 }
 
-pub fn put_input(
-    head: &[u8],
-    body: &[u8],
-    gates: &mut [u32],
-    given: &mut [u32],
-    records: &mut [u32],
-) {
-    put(body, 0, gates);
-    mark_leaves(gates, EMPTY);
-    put(body, number(head, GATES), given);
-    put(body, records_at(head), records);
+// The body behind the input.
+pub fn rest<'a>(head: &[u8], body: &'a [u8]) -> &'a [u8] {
+    behind(body, more(records_at(head), number(head, RECORDS)))
 }
 
-// Number i of an area that holds n numbers of the body, then x up to the size that it is counted at, then what it held before.
-fn right(body: &[u8], from: usize, n: usize, x: u32, size: usize, i: usize) -> u32 {
+// Number i of an area that holds n numbers of `bytes`, then x up to the size that it is counted at, then what it held before.
+fn right(bytes: &[u8], n: usize, x: u32, size: usize, i: usize) -> u32 {
     if i < n {
-        return narrow(body, more(from, i));
+        return narrow(bytes, i);
     }
     if i < size { x } else { OLD }
 }
 
-// Whether an area holds just that; if not, `word` is printed.
-pub fn holds(
-    xs: &[u32],
-    body: &[u8],
-    from: usize,
-    n: usize,
-    x: u32,
-    size: usize,
-    word: &[u8],
-) -> bool {
+// Whether an area holds just that; if not, its name is printed.
+pub fn holds(xs: &[u32], bytes: &[u8], n: usize, x: u32, size: usize, name: usize) -> bool {
     let mut i = 0;
     while i < xs.len() {
-        if xs[i] != right(body, from, n, x, size, i) {
-            line(word);
+        if xs[i] != right(bytes, n, x, size, i) {
+            tell(b"area A differs\n", &[name]);
             return false;
         }
         i += 1;
@@ -75,13 +120,13 @@ pub fn holds(
     true
 }
 
-// Whether the plan has n cells of the body, each a position and a pin. Those are emptied.
-pub fn take_cells(body: &[u8], from: usize, n: usize, plan: &mut [u32]) -> bool {
-    let mut at = from;
+// Whether the plan has n cells, each a position and a pin. Those are emptied.
+pub fn take_cells(cells: &[u8], n: usize, plan: &mut [u32]) -> bool {
+    let mut at = 0;
     let mut i = 0;
     while i < n {
-        let position = number(body, at);
-        if item(plan, position) != narrow(body, more(at, 1)) {
+        let position = number(cells, at);
+        if item(plan, position) != narrow(cells, more(at, 1)) {
             return false;
         }
         set(plan, position, EMPTY);
@@ -89,4 +134,17 @@ pub fn take_cells(body: &[u8], from: usize, n: usize, plan: &mut [u32]) -> bool 
         i += 1;
     }
     true
+}
+
+// Whether an area holds x up to the size that it is counted at.
+pub fn cleared(xs: &[u32], own: &[u8], counted: usize, x: u32) -> bool {
+    holds(xs, own, 0, x, number(own, counted), counted)
+}
+
+// Whether the answer's first numbers are those recorded.
+pub fn answered(own: &[u8], refusal: u32, stages: usize, words: usize, stage: usize) -> bool {
+    if refusal != narrow(own, NUMBER) {
+        return false;
+    }
+    stages == number(own, STAGES) && words == number(own, WORDS) && stage == number(own, STAGE)
 }

@@ -1,201 +1,125 @@
 // A recorded build.
 use crate::areas::EMPTY;
-use crate::areas::GATES;
-use crate::areas::GIVEN;
 use crate::areas::HEIGHT;
+use crate::areas::LIMIT;
 use crate::areas::OLD;
-use crate::areas::RECORDS;
+use crate::areas::PLAN;
+use crate::areas::ROOMS;
+use crate::areas::STAGES;
+use crate::areas::WORDS;
+use crate::areas::WORK;
+use crate::areas::answered;
+use crate::areas::behind;
+use crate::areas::cleared;
+use crate::areas::gates;
+use crate::areas::given;
 use crate::areas::holds;
 use crate::areas::put_input;
-use crate::areas::rest_at;
+use crate::areas::records;
+use crate::areas::rest;
 use crate::areas::take_cells;
-use crate::numbers::more;
-use crate::numbers::narrow;
-use crate::numbers::number;
-use crate::numbers::part;
-use crate::tally::agreed;
-use crate::tally::differed;
-use crate::tally::line;
-use crate::tally::say;
-use crate::tally::tell_refused;
-use crate::tally::tell_sums;
+use cases::front;
+use cases::narrow;
+use cases::number;
+use cases::tell;
 use placer::Answer;
 use placer::build;
 
-// The head's bytes.
-pub const HEAD: usize = 30;
-
-// How the head goes on: what is lent and counted, what the Rust answers.
-const PLAN: usize = 5;
-
-const LIMIT: usize = 6;
-
-const ROOMS: usize = 7;
-
-const WORK: usize = 8;
-
-const NUMBER: usize = 9;
-
-const STAGES: usize = 10;
-
-const WORDS: usize = 11;
-
-const STAGE: usize = 12;
-
-const CELLS: usize = 13;
-
-const MARKS: usize = 14;
-
-fn counts_at(head: &[u8]) -> usize {
-    more(rest_at(head), number(head, WORDS))
-}
-
-fn cells_at(head: &[u8]) -> usize {
-    more(counts_at(head), number(head, STAGES))
-}
-
-// What no build answers.
-fn no_answer() -> Answer {
-    Answer {
-        number: EMPTY,
-        stages: 0,
-        words: 0,
-        stage: 0,
-    }
-}
+// How the head's own part goes on.
+const CELLS: usize = 8;
 
 fn recorded_build(
     head: &[u8],
-    body: &[u8],
+    input: &[u32],
     plan: &mut [u32],
     words: &mut [u32],
     counts: &mut [u32],
     work: &mut [u32],
 ) -> Answer {
-    let mut gates = [0u32; 2048];
-    let mut given = [0u32; 256];
-    let mut records = [0u32; 1024];
-    put_input(head, body, &mut gates, &mut given, &mut records);
-    let size = number(head, PLAN);
-    if size > plan.len() {
-        return no_answer();
-    }
     build(
         narrow(head, HEIGHT),
-        part(&gates, number(head, GATES)),
-        part(&given, number(head, GIVEN)),
-        part(&records, number(head, RECORDS)),
-        &mut plan[0..size],
-        words,
-        counts,
-        work,
-    )
-}
-
-fn answer_agrees(head: &[u8], a: Answer) -> bool {
-    a.number == narrow(head, NUMBER)
-        && a.stages == number(head, STAGES)
-        && a.words == number(head, WORDS)
-        && a.stage == number(head, STAGE)
-}
-
-fn plan_agrees(head: &[u8], body: &[u8], plan: &mut [u32]) -> bool {
-    if !take_cells(body, cells_at(head), number(head, CELLS), plan) {
-        line(b"a cell differs");
-        return false;
-    }
-    holds(
+        gates(head, input),
+        given(head, input),
+        records(head, input),
         plan,
-        body,
-        0,
-        0,
-        EMPTY,
-        number(head, PLAN),
-        b"the plan differs",
+        words,
+        counts,
+        work,
     )
 }
 
-fn words_agree(head: &[u8], body: &[u8], words: &[u32]) -> bool {
+fn answer_agrees(own: &[u8], a: Answer) -> bool {
+    answered(own, a.number, a.stages, a.words, a.stage)
+}
+
+fn words_agree(own: &[u8], rest: &[u8], words: &[u32]) -> bool {
     holds(
         words,
-        body,
-        rest_at(head),
-        number(head, WORDS),
+        rest,
+        number(own, WORDS),
         EMPTY,
-        number(head, LIMIT),
-        b"the words differ",
+        number(own, LIMIT),
+        LIMIT,
     )
 }
 
-fn counts_agree(head: &[u8], body: &[u8], counts: &[u32]) -> bool {
+fn counts_agree(own: &[u8], counted: &[u8], counts: &[u32]) -> bool {
     holds(
         counts,
-        body,
-        counts_at(head),
-        number(head, STAGES),
+        counted,
+        number(own, STAGES),
         0,
-        number(head, ROOMS),
-        b"the counts differ",
+        number(own, ROOMS),
+        ROOMS,
     )
 }
 
-fn work_agrees(head: &[u8], body: &[u8], work: &[u32]) -> bool {
-    holds(
-        work,
-        body,
-        0,
-        0,
-        0,
-        number(head, WORK),
-        b"the work area differs",
-    )
+fn plan_agrees(own: &[u8], cells: &[u8], plan: &mut [u32]) -> bool {
+    take_cells(cells, number(own, CELLS), plan) && cleared(plan, own, PLAN, EMPTY)
 }
 
-// Whether the library leaves what the Rust answers; if not, what differs is printed.
-fn agrees(head: &[u8], body: &[u8]) -> bool {
-    let mut plan = [OLD; 32768];
+fn areas_agree(
+    own: &[u8],
+    rest: &[u8],
+    plan: &mut [u32],
+    words: &[u32],
+    counts: &[u32],
+    work: &[u32],
+) -> bool {
+    let counted = behind(rest, number(own, WORDS));
+    plan_agrees(own, behind(counted, number(own, STAGES)), plan)
+        && words_agree(own, rest, words)
+        && counts_agree(own, counted, counts)
+        && cleared(work, own, WORK, 0)
+}
+
+// Whether the library leaves what the Rust answers.
+pub fn agrees(head: &[u8], body: &[u8]) -> bool {
+    let mut input = [0u32; 3072];
+    put_input(head, body, &mut input);
+    built(head, behind(head, 5), rest(head, body), &input)
+}
+
+fn built(head: &[u8], own: &[u8], rest: &[u8], input: &[u32]) -> bool {
+    let mut plan = [OLD; 23568];
     let mut words = [OLD; 32];
     let mut counts = [OLD; 40];
-    let mut work = [OLD; 25600];
-    let a = recorded_build(head, body, &mut plan, &mut words, &mut counts, &mut work);
-    if !answer_agrees(head, a) {
-        line(b"the answer differs");
-        return false;
-    }
-    plan_agrees(head, body, &mut plan)
-        && words_agree(head, body, &words)
-        && counts_agree(head, body, &counts)
-        && work_agrees(head, body, &work)
+    let mut work = [OLD; 16032];
+    let a = recorded_build(
+        head,
+        input,
+        front(&mut plan, number(own, PLAN)),
+        &mut words,
+        &mut counts,
+        &mut work,
+    );
+    answer_agrees(own, a) && areas_agree(own, rest, &mut plan, &words, &counts, &work)
 }
 
-pub fn judge(head: &[u8], body: &[u8], tally: &mut [usize; 32]) {
-    if agrees(head, body) {
-        agreed(
-            tally,
-            number(head, NUMBER),
-            number(head, HEIGHT),
-            number(head, MARKS),
-        );
-    } else {
-        differed(tally, b"in build ");
-    }
-}
-
-pub fn tell(tally: &[usize; 32]) {
-    say(b"recorded builds\nwhole ", tally[0]);
-    tell_refused(tally);
-    say(b"\nrefused with 9: ", tally[9]);
-    tell_marks(tally);
-    tell_sums(tally, b" builds agree, ");
-}
-
-fn tell_marks(tally: &[usize; 32]) {
-    say(b"\npins taken back ", tally[10]);
-    say(b"\na word twice in a stage ", tally[11]);
-    say(b"\nseveral stages ", tally[12]);
-    say(b"\ngiven pins ", tally[13]);
-    say(b"\nwith outputs ", tally[14]);
-    say(b"\nwith flip-flops ", tally[15]);
-    say(b"\nwith memories ", tally[16]);
-    say(b"\nwith staged pins ", tally[17]);
+// A capital stands for a number of the tally.
+pub fn tell_all(tally: &[usize; 24]) {
+    tell(
+        b"recorded builds\nwhole A\nrefused with 6: G\nrefused with 7: H\nrefused with 8: I\nrefused with 9: J\npins taken back K\na word twice in a stage L\nseveral stages M\ngiven pins N\nwith outputs O\nwith flip-flops P\nwith memories Q\nwith staged pins R\nheight 6: S\nheight 7: T\nheight 8: U\nheight 9: V\nW builds agree, X differ\n",
+        tally,
+    );
 }

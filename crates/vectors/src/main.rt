@@ -3,23 +3,32 @@
 mod areas;
 mod builds;
 mod merges;
-mod numbers;
 mod tally;
 
 use areas::BODY;
 use areas::HEIGHT;
+use cases::number;
 use io::read_full;
 use libc::STDIN_FILENO;
-use numbers::number;
-use tally::line;
+use tally::agreed;
+use tally::differed;
+use tally::either;
 
 fn main() {
-    let mut built = [0usize; 32];
+    let mut built = [0usize; 24];
     replay_all(false, &mut built);
-    builds::tell(&built);
-    let mut merged = [0usize; 32];
+    builds::tell_all(&built);
+    let mut merged = [0usize; 24];
     replay_all(true, &mut merged);
-    merges::tell(&merged);
+    merges::tell_all(&merged);
+}
+
+// No file has so many.
+fn replay_all(merging: bool, tally: &mut [usize; 24]) {
+    let mut turns = u64::MAX;
+    while turns > 0 && replay(merging, tally) {
+        turns -= 1;
+    }
 }
 
 // Whether stdin has n more bytes, and the area room for them.
@@ -31,29 +40,31 @@ fn read(area: &mut [u8], n: usize) -> bool {
 }
 
 // The next build or merge of stdin. Whether there was one: a head of zeros has none behind it.
-fn replay(merging: bool, tally: &mut [usize; 32]) -> bool {
+fn replay(merging: bool, tally: &mut [usize; 24]) -> bool {
     let mut head = [0u8; 40];
-    let mut body = [0u8; 12288];
-    let size = if merging { merges::HEAD } else { builds::HEAD };
-    if !read(&mut head, size) || number(&head, HEIGHT) == 0 {
+    if !read(&mut head, either(merging, 40, 30)) {
         return false;
     }
-    if !read(&mut body, 2 * number(&head, BODY)) {
-        line(b"a body is cut or too long");
+    if number(&head, HEIGHT) == 0 {
         return false;
     }
-    if merging {
-        merges::judge(&head, &body, tally);
+    if agrees(merging, &head) {
+        agreed(merging, &head, tally);
     } else {
-        builds::judge(&head, &body, tally);
+        differed(tally);
     }
     true
 }
 
-// No file has so many.
-fn replay_all(merging: bool, tally: &mut [usize; 32]) {
-    let mut turns = u64::MAX;
-    while turns > 0 && replay(merging, tally) {
-        turns -= 1;
+// Whether the library leaves what the Rust answers.
+fn agrees(merging: bool, head: &[u8]) -> bool {
+    let mut body = [0u8; 12288];
+    if !read(&mut body, 2 * number(head, BODY)) {
+        return false;
+    }
+    if merging {
+        merges::agrees(head, &body)
+    } else {
+        builds::agrees(head, &body)
     }
 }

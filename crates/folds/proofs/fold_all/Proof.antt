@@ -5,19 +5,22 @@ use Rattle.folds.proofs.fold_all.Statement.{statement}
 use Rattle.folds.proofs.fold_all.Tie as tie
 
 abbrev Inv-loop : tie.InvT-loop
-Inv-loop plan gates given folds alone at seen₀ pattern₀ seen pattern = Unit {0}
+Inv-loop numbers graph plan tally₀ last pattern₀ tally pattern = Unit {0}
 
 abbrev μ-loop : tie.MeasureT-loop
-μ-loop plan gates given folds alone at seen₀ pattern₀ seen pattern = folds - pattern
+μ-loop numbers graph plan tally₀ last pattern₀ tally pattern = last - pattern
+
+number-requires : tie.Need-number-requires Inv-loop μ-loop
+number-requires c κs = search needs
+
+number-requires-2 : tie.Need-number-requires-2 Inv-loop μ-loop
+number-requires-2 c κs = search needs
 
 loop-holds : tie.Need-loop-holds Inv-loop μ-loop
 loop-holds c = search needs
 
 fold-one-requires : tie.Need-fold-one-requires Inv-loop μ-loop
 fold-one-requires c κs = search needs
-
-both-requires : tie.Need-both-requires Inv-loop μ-loop
-both-requires c κs = search needs
 
 add-pattern : tie.Need-add-pattern Inv-loop μ-loop
 add-pattern c = search needs
@@ -37,9 +40,10 @@ fold-all-spec =
     (tie.spec
     Inv-loop
     μ-loop
+    number-requires
+    number-requires-2
     loop-holds
     fold-one-requires
-    both-requires
     add-pattern
     loop-less
     loop-again

@@ -1,5 +1,5 @@
 -- `folds::put_cells` is safe. Assumes nothing.
-use Prim.Native.Nat.{_-_, _/_}
+use Prim.Native.Nat.{_-_}
 use lib.ListN.{length}
 use mathlib.Core.Path.{_≡_}
 use borrow.Author.Needs.{needs}
@@ -7,34 +7,31 @@ use Rattle.folds.proofs.put_cells.Statement.{statement}
 use Rattle.folds.proofs.put_cells.Tie as tie
 
 abbrev Inv-loop : tie.InvT-loop
-Inv-loop plan₀ filled i₀ plan i = length plan ≡ length plan₀
+Inv-loop cells plan₀ n at₀ i₀ plan at i = length plan ≡ length plan₀
 
 abbrev μ-loop : tie.MeasureT-loop
-μ-loop plan₀ filled i₀ plan i = length filled / 2 - i
+μ-loop cells plan₀ n at₀ i₀ plan at i = n - i
 
-fill-part-requires : tie.Need-fill-part-requires Inv-loop μ-loop
-fill-part-requires c κs = search needs
+number-requires : tie.Need-number-requires Inv-loop μ-loop
+number-requires c κs = search needs
 
 loop-holds : tie.Need-loop-holds Inv-loop μ-loop
 loop-holds c = search needs
 
-mul-item : tie.Need-mul-item Inv-loop μ-loop
-mul-item c = search needs
+number-requires-2 : tie.Need-number-requires-2 Inv-loop μ-loop
+number-requires-2 c κs = search needs
 
-item-requires : tie.Need-item-requires Inv-loop μ-loop
-item-requires c κs = search needs
+more-requires : tie.Need-more-requires Inv-loop μ-loop
+more-requires c κs = search needs
 
-mul-item-2 : tie.Need-mul-item-2 Inv-loop μ-loop
-mul-item-2 c = search needs
+narrow-requires : tie.Need-narrow-requires Inv-loop μ-loop
+narrow-requires c κs = search needs
 
-add-item : tie.Need-add-item Inv-loop μ-loop
-add-item c = search needs
+set-requires : tie.Need-set-requires Inv-loop μ-loop
+set-requires c κs = search needs
 
-item-requires-2 : tie.Need-item-requires-2 Inv-loop μ-loop
-item-requires-2 c κs = search needs
-
-put-cell-requires : tie.Need-put-cell-requires Inv-loop μ-loop
-put-cell-requires c κs = search needs
+more-requires-2 : tie.Need-more-requires-2 Inv-loop μ-loop
+more-requires-2 c κs = search needs
 
 add-i : tie.Need-add-i Inv-loop μ-loop
 add-i c = search needs
@@ -57,14 +54,13 @@ put-cells-spec =
     (tie.spec
     Inv-loop
     μ-loop
-    fill-part-requires
+    number-requires
     loop-holds
-    mul-item
-    item-requires
-    mul-item-2
-    add-item
-    item-requires-2
-    put-cell-requires
+    number-requires-2
+    more-requires
+    narrow-requires
+    set-requires
+    more-requires-2
     add-i
     loop-less
     loop-again

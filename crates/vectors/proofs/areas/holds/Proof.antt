@@ -6,10 +6,10 @@ use Rattle.vectors.proofs.areas.holds.Statement.{statement}
 use Rattle.vectors.proofs.areas.holds.Tie as tie
 
 abbrev Inv-loop : tie.InvT-loop
-Inv-loop xs body from n x size word i₀ i = Unit {0}
+Inv-loop xs bytes n x size name i₀ t8 i = Unit {0}
 
 abbrev μ-loop : tie.MeasureT-loop
-μ-loop xs body from n x size word i₀ i = length xs - i
+μ-loop xs bytes n x size name i₀ t8 i = length xs - i
 
 loop-holds : tie.Need-loop-holds Inv-loop μ-loop
 loop-holds c = search needs
@@ -23,8 +23,14 @@ shared-slice-read-if1 c = search needs
 right-requires : tie.Need-right-requires Inv-loop μ-loop
 right-requires c κs = search needs
 
-line-requires : tie.Need-line-requires Inv-loop μ-loop
-line-requires c κs = search needs
+slice-aggregate-tell : tie.Need-slice-aggregate-tell Inv-loop μ-loop
+slice-aggregate-tell c = search needs
+
+slice-aggregate-tell-2 : tie.Need-slice-aggregate-tell-2 Inv-loop μ-loop
+slice-aggregate-tell-2 c = search needs
+
+tell-requires : tie.Need-tell-requires Inv-loop μ-loop
+tell-requires c κs = search needs
 
 returns : tie.Need-returns Inv-loop μ-loop
 returns c = search needs
@@ -51,7 +57,9 @@ holds-spec =
     mul-if1
     shared-slice-read-if1
     right-requires
-    line-requires
+    slice-aggregate-tell
+    slice-aggregate-tell-2
+    tell-requires
     returns
     add-i
     loop-less

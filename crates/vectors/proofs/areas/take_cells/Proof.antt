@@ -7,10 +7,10 @@ use Rattle.vectors.proofs.areas.take_cells.Statement.{statement}
 use Rattle.vectors.proofs.areas.take_cells.Tie as tie
 
 abbrev Inv-loop : tie.InvT-loop
-Inv-loop body from n plan₀ at₀ i₀ plan at i = length plan ≡ length plan₀
+Inv-loop cells n plan₀ at₀ i₀ plan at i = length plan ≡ length plan₀
 
 abbrev μ-loop : tie.MeasureT-loop
-μ-loop body from n plan₀ at₀ i₀ plan at i = n - i
+μ-loop cells n plan₀ at₀ i₀ plan at i = n - i
 
 loop-holds : tie.Need-loop-holds Inv-loop μ-loop
 loop-holds c = search needs

@@ -15,11 +15,11 @@ abbrev μ-loop : tie.MeasureT-loop
 loop-holds : tie.Need-loop-holds Inv-loop μ-loop
 loop-holds c = search needs
 
-add-add-if : tie.Need-add-add-if Inv-loop μ-loop
-add-add-if c = search needs
+add-add : tie.Need-add-add Inv-loop μ-loop
+add-add c = search needs
 
-add-if-requires : tie.Need-add-if-requires Inv-loop μ-loop
-add-if-requires c κs = search needs
+add-requires : tie.Need-add-requires Inv-loop μ-loop
+add-requires c κs = search needs
 
 add-i : tie.Need-add-i Inv-loop μ-loop
 add-i c = search needs
@@ -43,8 +43,8 @@ add-marks-spec =
     Inv-loop
     μ-loop
     loop-holds
-    add-add-if
-    add-if-requires
+    add-add
+    add-requires
     add-i
     loop-less
     loop-again

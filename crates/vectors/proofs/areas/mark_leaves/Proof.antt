@@ -1,16 +1,16 @@
--- `vectors::numbers::mark_leaves` is safe. Assumes nothing.
+-- `vectors::areas::mark_leaves` is safe. Assumes nothing.
 use Prim.Native.Nat.{_-_}
 use lib.ListN.{length}
 use mathlib.Core.Path.{_≡_}
 use borrow.Author.Needs.{needs}
-use Rattle.vectors.proofs.numbers.mark_leaves.Statement.{statement}
-use Rattle.vectors.proofs.numbers.mark_leaves.Tie as tie
+use Rattle.vectors.proofs.areas.mark_leaves.Statement.{statement}
+use Rattle.vectors.proofs.areas.mark_leaves.Tie as tie
 
 abbrev Inv-loop : tie.InvT-loop
-Inv-loop xs₀ empty i₀ xs i = length xs ≡ length xs₀
+Inv-loop xs₀ i₀ xs i = length xs ≡ length xs₀
 
 abbrev μ-loop : tie.MeasureT-loop
-μ-loop xs₀ empty i₀ xs i = length xs₀ - i
+μ-loop xs₀ i₀ xs i = length xs₀ - i
 
 loop-holds : tie.Need-loop-holds Inv-loop μ-loop
 loop-holds c = search needs

@@ -1,28 +1,28 @@
--- `folds::put_leaves` is safe. Assumes nothing.
+-- `cases::text::put` is safe. Assumes nothing.
 use Prim.Native.Nat.{_-_}
 use lib.ListN.{length}
 use mathlib.Core.Path.{_≡_}
 use borrow.Author.Needs.{needs}
-use Rattle.folds.proofs.put_leaves.Statement.{statement}
-use Rattle.folds.proofs.put_leaves.Tie as tie
+use Rattle.cases.proofs.text.put.Statement.{statement}
+use Rattle.cases.proofs.text.put.Tie as tie
 
 abbrev Inv-loop : tie.InvT-loop
-Inv-loop filled₀ i₀ filled i = length filled ≡ length filled₀
+Inv-loop line xs₀ i₀ xs i = length xs ≡ length xs₀
 
 abbrev μ-loop : tie.MeasureT-loop
-μ-loop filled₀ i₀ filled i = length filled₀ - i
+μ-loop line xs₀ i₀ xs i = length xs₀ - i
 
 loop-holds : tie.Need-loop-holds Inv-loop μ-loop
 loop-holds c = search needs
 
-leaf-cell-requires : tie.Need-leaf-cell-requires Inv-loop μ-loop
-leaf-cell-requires c κs = search needs
+narrow-requires : tie.Need-narrow-requires Inv-loop μ-loop
+narrow-requires c κs = search needs
 
-mul-filled : tie.Need-mul-filled Inv-loop μ-loop
-mul-filled c = search needs
+mul-xs : tie.Need-mul-xs Inv-loop μ-loop
+mul-xs c = search needs
 
-slice-write-filled : tie.Need-slice-write-filled Inv-loop μ-loop
-slice-write-filled c = search needs
+slice-write-xs : tie.Need-slice-write-xs Inv-loop μ-loop
+slice-write-xs c = search needs
 
 add-i : tie.Need-add-i Inv-loop μ-loop
 add-i c = search needs
@@ -39,16 +39,16 @@ same-length c = search needs
 returns : tie.Need-returns Inv-loop μ-loop
 returns c = search needs
 
-pub put-leaves-spec : {M : Type 1} → statement M
-put-leaves-spec =
+pub put-spec : {M : Type 1} → statement M
+put-spec =
     tie.close
     (tie.spec
     Inv-loop
     μ-loop
     loop-holds
-    leaf-cell-requires
-    mul-filled
-    slice-write-filled
+    narrow-requires
+    mul-xs
+    slice-write-xs
     add-i
     loop-less
     loop-again

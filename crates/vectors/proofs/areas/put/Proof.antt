@@ -1,22 +1,19 @@
--- `vectors::numbers::put` is safe. Assumes nothing.
+-- `vectors::areas::put` is safe. Assumes nothing.
 use Prim.Native.Nat.{_-_}
 use lib.ListN.{length}
 use mathlib.Core.Path.{_≡_}
 use borrow.Author.Needs.{needs}
-use Rattle.vectors.proofs.numbers.put.Statement.{statement}
-use Rattle.vectors.proofs.numbers.put.Tie as tie
+use Rattle.vectors.proofs.areas.put.Statement.{statement}
+use Rattle.vectors.proofs.areas.put.Tie as tie
 
 abbrev Inv-loop : tie.InvT-loop
-Inv-loop bytes from xs₀ i₀ xs i = length xs ≡ length xs₀
+Inv-loop body xs₀ i₀ xs i = length xs ≡ length xs₀
 
 abbrev μ-loop : tie.MeasureT-loop
-μ-loop bytes from xs₀ i₀ xs i = length xs₀ - i
+μ-loop body xs₀ i₀ xs i = length xs₀ - i
 
 loop-holds : tie.Need-loop-holds Inv-loop μ-loop
 loop-holds c = search needs
-
-more-requires : tie.Need-more-requires Inv-loop μ-loop
-more-requires c κs = search needs
 
 narrow-requires : tie.Need-narrow-requires Inv-loop μ-loop
 narrow-requires c κs = search needs
@@ -49,7 +46,6 @@ put-spec =
     Inv-loop
     μ-loop
     loop-holds
-    more-requires
     narrow-requires
     mul-xs
     slice-write-xs
