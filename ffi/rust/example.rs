@@ -1,16 +1,16 @@
-//! Two of the scope document's bench examples at height 6. A build: pins 1 to 4 are leaves, 5 = (2, 4), 6 = (6, 9), 7 = (10, 12), output 14.
-//! A merge: the leaf outputs 2 and 4, a partition each, no extra stages.
+//! Two of the scope document's bench examples at height 6. A build: pins 1 to 4 are leaves, 5 = (2, 4), 6 = (6, 9), 7 = (10, 12), output 14,
+//! under each word rule. A merge: the leaf outputs 2 and 4, a partition each, no extra stages.
 #[path = "placer.rs"]
 mod placer;
 
-use placer::{build, merge, Areas, Groups, EMPTY as E};
+use placer::{build_by, merge, Areas, Groups, WordRule, EMPTY as E};
 
-fn first() {
+fn first(rule: WordRule) {
     let gates = [E, E, E, E, E, E, E, E, E, E, 2, 4, 6, 9, 10, 12];
     let (mut plan, mut words, mut counts, mut work) = ([0; 128], [0; 2], [0; 1], [0; 16 * 8 + 8 * 2 + 512]);
     let areas = Areas { plan: &mut plan, words: &mut words, counts: &mut counts, work: &mut work };
-    let answer = build(6, &gates, &[], &[1, 14], areas);
-    println!("number {} stages {} words {}", answer.number, answer.stages, answer.words);
+    let answer = build_by(rule, 6, &gates, &[], &[1, 14], areas);
+    println!("rule {}: stages {} words {}", rule as u32, answer.stages, answer.words);
     for (p, pin) in plan.iter().enumerate().filter(|(_, pin)| **pin != E) {
         println!("{p} {pin}");
     }
@@ -27,6 +27,7 @@ fn merging() {
 }
 
 fn main() {
-    first();
+    first(WordRule::NeededRuns);
+    first(WordRule::EveryRun);
     merging();
 }

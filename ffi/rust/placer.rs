@@ -1,16 +1,27 @@
 //! The placer, for Rust. Link `libplacer.a` to build and `libmerge.a` to merge, which `rt staticlib placer` and `rt staticlib merge` write.
-//! No crate beyond `core` is needed.
+//! No crate beyond `core` is needed. Where the gates are not in order a call takes up to 1 MiB of its thread's stack, else a few kilobytes.
 
 /// An empty cell of a plan, an unused word, and each literal of a leaf.
 pub const EMPTY: u32 = u32::MAX;
 
-/// The numbers that a build answers: 0 and the plan's stages and words, or what refuses it and where.
+/// Which sparse runs rule 8 writes once nothing is untouched, by the numbers that the entries know them by.
+#[derive(Clone, Copy, Debug, PartialEq, Eq)]
+#[repr(u32)]
+pub enum WordRule {
+    /// None after the last needed waiting pin: the rule of `build` and `merge`.
+    NeededRuns = 0,
+    /// Every one, idle runs too, as the published Rust does.
+    EveryRun = 1,
+}
+
+/// The numbers that a build answers: 0 and the plan's stages and words, or what refuses it and where; with 23 the smallest pin on any loop.
 #[derive(Clone, Copy, Debug, PartialEq, Eq)]
 pub struct Answer {
     pub number: u32,
     pub stages: usize,
     pub words: usize,
     pub stage: usize,
+    pub pin: usize,
 }
 
 /// The areas that a build or a merge writes. Each counts at its own size; numbers past it are never changed.
@@ -22,7 +33,7 @@ pub struct Areas<'a> {
 }
 
 /// The numbers that a merge answers: 0, the sums of the stages and words, the partitions left and the unions examined; or what refuses it,
-/// in which stage, and which partition from 1.
+/// in which stage, and which partition from 1; with 23 the smallest pin on any loop.
 #[derive(Clone, Copy, Debug, PartialEq, Eq)]
 pub struct Merged {
     pub number: u32,
@@ -32,6 +43,7 @@ pub struct Merged {
     pub partitions: usize,
     pub trials: usize,
     pub refused: usize,
+    pub pin: usize,
 }
 
 /// The partitions that a merge is handed and leaves: the indices of their records from 0, partition after partition; a length and a
@@ -44,7 +56,8 @@ pub struct Groups<'a> {
 
 #[rustfmt::skip]
 extern "C" {
-    fn placer_build(
+    fn placer_build_by(
+        rule: u32,
         height: u32,
         gates: *const u32, gates_len: usize,
         given: *const u32, given_len: usize,
@@ -56,7 +69,8 @@ extern "C" {
         answer: *mut usize, answer_len: usize,
     ) -> u32;
 
-    fn merge_partitions(
+    fn merge_partitions_by(
+        rule: u32,
         height: u32,
         gates: *const u32, gates_len: usize,
         given: *const u32, given_len: usize,
@@ -75,11 +89,17 @@ extern "C" {
 
 /// Lays the gates under the records' endpoints into stages of a tree of this height. It takes any numbers and slices.
 pub fn build(height: u32, gates: &[u32], given: &[u32], records: &[u32], areas: Areas<'_>) -> Answer {
-    let mut answer = [0usize; 4];
+    build_by(WordRule::NeededRuns, height, gates, given, records, areas)
+}
+
+/// As `build`, by the word rule that is asked for.
+pub fn build_by(rule: WordRule, height: u32, gates: &[u32], given: &[u32], records: &[u32], areas: Areas<'_>) -> Answer {
+    let mut answer = [0usize; 5];
     let Areas { plan, words, counts, work } = areas;
     // SAFETY: each pointer and length is a slice's, and no two that are written overlap, since each is borrowed mutably.
     let number = unsafe {
-        placer_build(
+        placer_build_by(
+            rule as u32,
             height,
             gates.as_ptr(), gates.len(),
             given.as_ptr(), given.len(),
@@ -91,17 +111,24 @@ pub fn build(height: u32, gates: &[u32], given: &[u32], records: &[u32], areas: 
             answer.as_mut_ptr(), answer.len(),
         )
     };
-    Answer { number, stages: answer[1], words: answer[2], stage: answer[3] }
+    Answer { number, stages: answer[1], words: answer[2], stage: answer[3], pin: answer[4] }
 }
 
 /// Merges partitions while no union takes more stages than the greatest of them and `extra` more. It takes any numbers and slices.
 pub fn merge(height: u32, gates: &[u32], given: &[u32], records: &[u32], groups: Groups<'_>, extra: usize, areas: Areas<'_>) -> Merged {
-    let mut answer = [0usize; 7];
+    merge_by(WordRule::NeededRuns, height, gates, given, records, groups, extra, areas)
+}
+
+/// As `merge`, by the word rule that is asked for.
+#[allow(clippy::too_many_arguments)]
+pub fn merge_by(rule: WordRule, height: u32, gates: &[u32], given: &[u32], records: &[u32], groups: Groups<'_>, extra: usize, areas: Areas<'_>) -> Merged {
+    let mut answer = [0usize; 8];
     let Groups { indices, lengths, stages } = groups;
     let Areas { plan, words, counts, work } = areas;
-    // SAFETY: as for `build`.
+    // SAFETY: as for `build_by`.
     let number = unsafe {
-        merge_partitions(
+        merge_partitions_by(
+            rule as u32,
             height,
             gates.as_ptr(), gates.len(),
             given.as_ptr(), given.len(),
@@ -117,6 +144,6 @@ pub fn merge(height: u32, gates: &[u32], given: &[u32], records: &[u32], groups:
             answer.as_mut_ptr(), answer.len(),
         )
     };
-    let [_, stages, words, stage, partitions, trials, refused] = answer;
-    Merged { number, stages, words, stage, partitions, trials, refused }
+    let [_, stages, words, stage, partitions, trials, refused, pin] = answer;
+    Merged { number, stages, words, stage, partitions, trials, refused, pin }
 }

@@ -3,7 +3,7 @@ use crate::case::Case;
 use crate::check;
 use crate::compare::compare;
 use crate::merge;
-use crate::placer::{self, Areas};
+use crate::placer::{self, Areas, WordRule};
 use crate::published;
 use crate::random::{self, Random};
 use std::time::Instant;
@@ -11,7 +11,7 @@ use std::time::Instant;
 const HEIGHT: u32 = 13;
 
 /// The last `count` of the pins up to `last` that no gate uses are outputs. The Rust's time grows with the square of what they reach.
-fn outputs(gates: Vec<u32>, last: usize, count: usize) -> Case {
+pub fn outputs(gates: Vec<u32>, last: usize, count: usize) -> Case {
     let pins: Vec<usize> = random::tops(&gates).into_iter().filter(|&pin| pin <= last).collect();
     let records = pins[pins.len().saturating_sub(count)..].iter().flat_map(|&pin| [1, 2 * pin as u32]).collect();
     Case { height: HEIGHT, gates, given: Vec::new(), records, rooms: 0, beyond: [0; 4], old: 1 }
@@ -29,13 +29,13 @@ fn inputs() -> Vec<(&'static str, Case)> {
     ]
 }
 
-fn median(mut seconds: Vec<f64>) -> f64 {
+pub fn median(mut seconds: Vec<f64>) -> f64 {
     seconds.sort_by(|a, b| a.partial_cmp(b).unwrap());
     seconds[seconds.len() / 2]
 }
 
 fn measure(case: &Case, stages: usize, turns: usize) -> (f64, f64) {
-    let graph = published::graph(case);
+    let graph = published::graph(WordRule::EveryRun, case);
     let mut areas = case.sizes(stages).map(|size| vec![1u32; size]);
     let (mut theirs, mut ours) = (Vec::new(), Vec::new());
     for _ in 0..turns {
@@ -43,7 +43,7 @@ fn measure(case: &Case, stages: usize, turns: usize) -> (f64, f64) {
         let [plan, words, counts, work] = &mut areas;
         let lent = Areas { plan, words, counts, work };
         let start = Instant::now();
-        placer::build(case.height, &case.gates, &case.given, &case.records, lent);
+        placer::build_by(WordRule::EveryRun, case.height, &case.gates, &case.given, &case.records, lent);
         ours.push(start.elapsed().as_secs_f64());
     }
     (median(theirs), median(ours))
@@ -60,7 +60,7 @@ pub fn bench(turns: usize) -> bool {
     println!("cleared first: no area is cleared for the library, which clears what it is lent within its time; the Rust takes new memory within its own");
     for (name, case) in inputs() {
         assert_eq!(check::input(&case), 0);
-        match compare(&case) {
+        match compare(WordRule::EveryRun, &case) {
             Err((what, _)) => {
                 println!("{name}: a difference: {what}");
                 return false;

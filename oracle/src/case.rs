@@ -53,6 +53,25 @@ impl Case {
         out
     }
 
+    /// Whether the operands of every gate are below it.
+    pub fn in_order(&self) -> bool {
+        self.gates.chunks(2).enumerate().all(|(pin, gate)| gate.iter().all(|&literal| literal == EMPTY || (literal as usize / 2) < pin))
+    }
+
+    /// The pins of literals, of records and of the given list by these numbers; each gate stays where it is.
+    pub fn renamed(&self, pin: &dyn Fn(u32) -> u32) -> Case {
+        let literal = |literal: u32| if literal == EMPTY { EMPTY } else { 2 * pin(literal / 2) + literal % 2 };
+        let mut out = self.clone();
+        out.gates = self.gates.iter().map(|&l| literal(l)).collect();
+        out.given = self.given.iter().map(|&p| pin(p)).collect();
+        out.records = Vec::new();
+        for record in self.split() {
+            out.records.push(record[0]);
+            out.records.extend(record[1..].iter().map(|&n| if record[0] == 4 { pin(n) } else { literal(n) }));
+        }
+        out
+    }
+
     fn tree(&self) -> u32 {
         if (LEAST..=GREATEST).contains(&self.height) { self.height } else { LEAST }
     }

@@ -1,7 +1,7 @@
 //! One case to both sides, and what must be the same.
 use crate::case::{Case, Sizes, EMPTY};
 use crate::check;
-use crate::placer::{self, Answer, Areas};
+use crate::placer::{self, Answer, Areas, WordRule};
 use crate::published::{self, Outcome};
 use crate::random::Random;
 
@@ -22,7 +22,7 @@ pub struct Agreed {
 /// The areas as the library must leave them, out of what they held.
 fn left(case: &Case, number: u32, outcome: Option<&Outcome>, lent: Sizes, before: &[Vec<u32>; 4]) -> [Vec<u32>; 4] {
     let mut after = before.clone();
-    if (1..=5).contains(&number) {
+    if (1..=5).contains(&number) || number == 23 {
         return after;
     }
     let counted = [lent[0], case.word_limit(), lent[0] / case.stage_size(), case.work_size()];
@@ -49,22 +49,22 @@ fn left(case: &Case, number: u32, outcome: Option<&Outcome>, lent: Sizes, before
 }
 
 /// The answer to expect: the checks, then the Rust's, with the rooms that it doesn't have.
-fn expected(checked: u32, outcome: Option<&Outcome>, rooms: usize) -> Answer {
-    let refused = |number, stage| Answer { number, stages: 0, words: 0, stage };
+fn expected(checked: u32, pin: usize, outcome: Option<&Outcome>, rooms: usize) -> Answer {
+    let refused = |number, stage| Answer { number, stages: 0, words: 0, stage, pin };
     match outcome {
         _ if checked != 0 => refused(checked, 0),
         Some(Outcome::Whole(stages)) if stages.len() > rooms => refused(9, rooms + 1),
         Some(Outcome::Refused { stage, .. }) if *stage > rooms => refused(9, rooms + 1),
         Some(Outcome::Refused { number, stage }) => refused(*number, *stage),
         Some(Outcome::Whole(stages)) => {
-            Answer { number: 0, stages: stages.len(), words: stages.iter().map(|s| s.words.len()).sum(), stage: 0 }
+            Answer { number: 0, stages: stages.len(), words: stages.iter().map(|s| s.words.len()).sum(), stage: 0, pin }
         }
         _ => unreachable!(),
     }
 }
 
 /// What the library made of a case: its answer, and the areas with the numbers around them.
-fn library(case: &Case, lent: Sizes, before: &[Vec<u32>; 4]) -> (Answer, [Vec<u32>; 4]) {
+fn library(rule: WordRule, case: &Case, lent: Sizes, before: &[Vec<u32>; 4]) -> (Answer, [Vec<u32>; 4]) {
     let mut after = before.clone();
     let [plan, words, counts, work] = &mut after;
     let areas = Areas {
@@ -73,7 +73,7 @@ fn library(case: &Case, lent: Sizes, before: &[Vec<u32>; 4]) -> (Answer, [Vec<u3
         counts: &mut counts[AROUND..AROUND + lent[2]],
         work: &mut work[AROUND..AROUND + lent[3]],
     };
-    let answer = placer::build(case.height, &case.gates, &case.given, &case.records, areas);
+    let answer = placer::build_by(rule, case.height, &case.gates, &case.given, &case.records, areas);
     (answer, after)
 }
 
@@ -91,10 +91,10 @@ fn twice(words: &[usize]) -> bool {
 }
 
 /// Err says what differs, and the stages that the case's sizes are counted from.
-pub fn compare(case: &Case) -> Result<Agreed, (String, usize)> {
+pub fn compare(rule: WordRule, case: &Case) -> Result<Agreed, (String, usize)> {
     let valid = check::input(case) == 0;
     let (outcome, seen) = if valid {
-        let (outcome, seen) = published::build(case.height, &published::graph(case));
+        let (outcome, seen) = published::build(case.height, &published::graph(rule, case));
         (Some(outcome), seen)
     } else {
         (None, clilog::Seen::default())
@@ -108,9 +108,9 @@ pub fn compare(case: &Case) -> Result<Agreed, (String, usize)> {
     let mut r = Random::new(case.old);
     let before = lent.map(|size| (0..size + 2 * AROUND).map(|_| r.next() as u32).collect::<Vec<_>>());
     let checked = check::number(case, lent);
-    let wanted = expected(checked, outcome.as_ref(), lent[0] / case.stage_size());
+    let wanted = expected(checked, check::pin_shown(checked, &case.gates), outcome.as_ref(), lent[0] / case.stage_size());
     let copy = case.clone();
-    let (answer, after) = library(case, lent, &before);
+    let (answer, after) = library(rule, case, lent, &before);
     if answer != wanted {
         return fail(format!("the answer is {answer:?}, not {wanted:?}"));
     }

@@ -3,7 +3,7 @@ use crate::case::{Sizes, EMPTY};
 use crate::check;
 use crate::compare::AROUND;
 use crate::merge::{self, Answer, Merge};
-use crate::placer::{self, Areas, Groups, Merged};
+use crate::placer::{self, Areas, Groups, Merged, WordRule};
 use crate::published;
 use crate::random::Random;
 use std::panic::{catch_unwind, AssertUnwindSafe};
@@ -26,7 +26,7 @@ pub struct Agreed {
 }
 
 fn refused(number: u32, stage: usize, refused: usize) -> Merged {
-    Merged { number, stages: 0, words: 0, stage, partitions: 0, trials: 0, refused }
+    Merged { number, stages: 0, words: 0, stage, partitions: 0, trials: 0, refused, pin: 0 }
 }
 
 fn expected(answer: &Answer) -> Merged {
@@ -40,6 +40,7 @@ fn expected(answer: &Answer) -> Merged {
             partitions: parts.len(),
             trials: *trials,
             refused: 0,
+            pin: 0,
         },
     }
 }
@@ -47,7 +48,7 @@ fn expected(answer: &Answer) -> Merged {
 /// What is lent as the library must leave it, out of what it held.
 fn left(merge: &Merge, number: u32, answer: Option<&Answer>, lent: Sizes, before: &Lent) -> Lent {
     let mut after = before.clone();
-    if (1..=5).contains(&number) || number == 10 {
+    if (1..=5).contains(&number) || number == 23 || number == 10 {
         return after;
     }
     let mut put = |area: usize, numbers: Vec<u32>| after[area][AROUND..AROUND + numbers.len()].copy_from_slice(&numbers);
@@ -74,13 +75,13 @@ fn inner(numbers: &mut [u32]) -> &mut [u32] {
 }
 
 /// What the library made of a merge: its answer, and all that is lent.
-fn library(merge: &Merge, before: &Lent) -> (Merged, Lent) {
+fn library(rule: WordRule, merge: &Merge, before: &Lent) -> (Merged, Lent) {
     let mut after = before.clone();
     let [indices, lengths, stages, plan, words, counts, work] = &mut after;
     let groups = Groups { indices: inner(indices), lengths: inner(lengths), stages: inner(stages) };
     let areas = Areas { plan: inner(plan), words: inner(words), counts: inner(counts), work: inner(work) };
     let case = &merge.case;
-    let answer = placer::merge(case.height, &case.gates, &case.given, &case.records, groups, merge.extra, areas);
+    let answer = placer::merge_by(rule, case.height, &case.gates, &case.given, &case.records, groups, merge.extra, areas);
     (answer, after)
 }
 
@@ -96,10 +97,10 @@ fn filled(merge: &Merge, lent: Sizes) -> Lent {
 }
 
 /// Err says what differs, and what the areas' sizes are.
-pub fn compare(merge: &Merge) -> Result<Agreed, (String, Sizes)> {
+pub fn compare(rule: WordRule, merge: &Merge) -> Result<Agreed, (String, Sizes)> {
     let (mut stages, mut not_begun, mut answer) = (1, false, None);
     if check::merge_input(merge) {
-        let graph = published::graph(&merge.case);
+        let graph = published::graph(rule, &merge.case);
         let ruled = catch_unwind(AssertUnwindSafe(|| merge::answer(merge, &graph)))
             .unwrap_or_else(|_| Err("the Rust panics on a partition or a union".into()))
             .map_err(|what| (what, merge.sizes(stages)))?;
@@ -114,11 +115,11 @@ pub fn compare(merge: &Merge) -> Result<Agreed, (String, Sizes)> {
     let wanted = match (check::merge_number(merge, lent), &answer) {
         (0, Some(answer)) => expected(answer),
         (0, None) => unreachable!(),
-        (number, _) => refused(number, 0, 0),
+        (number, _) => Merged { pin: check::pin_shown(number, &merge.case.gates), ..refused(number, 0, 0) },
     };
     let before = filled(merge, lent);
     let copy = merge.clone();
-    let (given, after) = library(merge, &before);
+    let (given, after) = library(rule, merge, &before);
     if given != wanted {
         return fail(format!("the answer is {given:?}, not {wanted:?}"));
     }

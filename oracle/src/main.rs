@@ -1,21 +1,26 @@
 //! The published Rust and the proved library in one program, on the same inputs. See README.md.
 mod bench;
+mod bench_checks;
 mod case;
 mod check;
 mod compare;
 mod compare_merge;
+mod loops;
 mod merge;
+mod order;
 #[path = "../../ffi/rust/placer.rs"]
 mod placer;
 mod published;
 mod random;
 mod record;
+mod rules;
 mod run;
 mod shrink;
 
-include!(concat!(env!("OUT_DIR"), "/published.rs"));
+use placer::WordRule;
 
-const USAGE: &str = "usage: oracle run SECONDS BUILDS MERGES SEED LOW HIGH | oracle bench TURNS | oracle record VECTORS RECORDED";
+const USAGE: &str = "usage: oracle run SECONDS BUILDS MERGES SEED LOW HIGH RULE | oracle loops COUNT SEED |
+       oracle rules COUNT SEED LOW HIGH | oracle bench TURNS [checks] | oracle record VECTORS RECORDED";
 
 /// The published traversal calls itself as deep as the graph is.
 const STACK: usize = 512 << 20;
@@ -27,14 +32,34 @@ fn number(word: &str) -> u64 {
     })
 }
 
+fn height(word: &str) -> u32 {
+    number(word).clamp(6, 13) as u32
+}
+
+fn rule(word: &str) -> WordRule {
+    match word {
+        "every" => WordRule::EveryRun,
+        "needed" => WordRule::NeededRuns,
+        _ => {
+            eprintln!("oracle: '{word}' is no word rule: every or needed");
+            std::process::exit(2)
+        }
+    }
+}
+
 fn work(words: &[String]) -> bool {
     let words: Vec<&str> = words.iter().map(String::as_str).collect();
     match words[..] {
-        ["run", seconds, builds, merges, seed, low, high] => {
-            let height = |word| number(word).clamp(6, 13) as u32;
-            run::run(number(seconds), [number(builds), number(merges)], number(seed), height(low), height(high))
+        ["run", seconds, builds, merges, seed, low, high, by] => {
+            run::run(rule(by), number(seconds), [number(builds), number(merges)], number(seed), height(low), height(high))
         }
-        ["bench", turns] => bench::bench(number(turns).max(1) as usize),
+        ["loops", count, seed] => loops::loops(number(count), number(seed)),
+        ["rules", count, seed, low, high] => rules::rules(number(count), number(seed), height(low), height(high)),
+        ["bench", turns] => {
+            let turns = number(turns).max(1) as usize;
+            bench::bench(turns) && bench_checks::bench(turns)
+        }
+        ["bench", turns, "checks"] => bench_checks::bench(number(turns).max(1) as usize),
         ["record", vectors, recorded] => record::record(vectors, recorded),
         _ => {
             eprintln!("{USAGE}");

@@ -1,8 +1,10 @@
-//! The published Rust, on a case that passes the checks.
-use crate::aig::{DriverType, RAMBlock, AIG, DFF};
+//! The published Rust, on a case that passes the checks; and the same with rule 8's loop ended where no needed waiting pin is left, which
+//! is the rule of the needed runs.
 use crate::case::{Case, EMPTY};
-use crate::staging::StagedAIG;
+use crate::placer::WordRule;
 use clilog::Seen;
+use gem::aig::{DriverType, RAMBlock, AIG, DFF};
+use gem::staging::StagedAIG;
 use std::panic::{catch_unwind, AssertUnwindSafe};
 
 pub struct Stage {
@@ -30,8 +32,9 @@ pub enum Merged {
     Panicked,
 }
 
-/// The graph in the published form. Each record has a staged endpoint of its own.
+/// The graph in the published form, with the word rule to build it by. Each record has a staged endpoint of its own.
 pub struct Graph {
+    rule: WordRule,
     aig: AIG,
     staged: StagedAIG,
     /// From a record's index to its endpoint's, and back.
@@ -41,9 +44,11 @@ pub struct Graph {
 
 macro_rules! heights {
     ($($k:literal $module:ident),*) => {
-        fn build_one(height: u32, graph: &Graph, endpoints: &Vec<usize>) -> Option<Vec<Stage>> {
+        use super::{Graph, Stage};
+
+        pub fn build_one(height: u32, graph: &Graph, endpoints: &Vec<usize>) -> Option<Vec<Stage>> {
             match height {
-                $($k => crate::$module::Partition::build_one(&graph.aig, &graph.staged, endpoints)
+                $($k => gem::$module::Partition::build_one(&graph.aig, &graph.staged, endpoints)
                     .map(|p| p.stages.into_iter().map(|s| Stage { rows: s.hier, words: s.write_outs }).collect()),)*
                 _ => unreachable!()
             }
@@ -54,7 +59,7 @@ macro_rules! heights {
             match height {
                 $($k => {
                     let start = std::time::Instant::now();
-                    let part = crate::$module::Partition::build_one(&graph.aig, &graph.staged, &graph.endpoint);
+                    let part = gem::$module::Partition::build_one(&graph.aig, &graph.staged, &graph.endpoint);
                     let seconds = start.elapsed().as_secs_f64();
                     drop(part);
                     seconds
@@ -63,9 +68,9 @@ macro_rules! heights {
             }
         }
 
-        fn process(height: u32, graph: &Graph, parts: Vec<Vec<usize>>, extra: usize) -> Option<Vec<(Vec<usize>, usize, usize)>> {
+        pub fn process(height: u32, graph: &Graph, parts: Vec<Vec<usize>>, extra: usize) -> Option<Vec<(Vec<usize>, usize, usize)>> {
             match height {
-                $($k => crate::$module::process_partitions(&graph.aig, &graph.staged, parts, extra).map(|parts| {
+                $($k => gem::$module::process_partitions(&graph.aig, &graph.staged, parts, extra).map(|parts| {
                     parts.into_iter()
                         .map(|p| (p.endpoints, p.stages.len(), p.stages.iter().map(|s| s.write_outs.len()).sum()))
                         .collect()
@@ -75,7 +80,35 @@ macro_rules! heights {
         }
     };
 }
-heights!(6 height_6, 7 height_7, 8 height_8, 9 height_9, 10 height_10, 11 height_11, 12 height_12, 13 height_13);
+
+mod every {
+    heights!(6 height_6, 7 height_7, 8 height_8, 9 height_9, 10 height_10, 11 height_11, 12 height_12, 13 height_13);
+}
+
+mod needed {
+    heights!(6 needed_6, 7 needed_7, 8 needed_8, 9 needed_9, 10 needed_10, 11 needed_11, 12 needed_12, 13 needed_13);
+}
+
+fn build_one(height: u32, graph: &Graph, endpoints: &Vec<usize>) -> Option<Vec<Stage>> {
+    match graph.rule {
+        WordRule::EveryRun => every::build_one(height, graph, endpoints),
+        WordRule::NeededRuns => needed::build_one(height, graph, endpoints),
+    }
+}
+
+pub fn timed(height: u32, graph: &Graph) -> f64 {
+    match graph.rule {
+        WordRule::EveryRun => every::timed(height, graph),
+        WordRule::NeededRuns => needed::timed(height, graph),
+    }
+}
+
+fn process(height: u32, graph: &Graph, parts: Vec<Vec<usize>>, extra: usize) -> Option<Vec<(Vec<usize>, usize, usize)>> {
+    match graph.rule {
+        WordRule::EveryRun => every::process(height, graph, parts, extra),
+        WordRule::NeededRuns => needed::process(height, graph, parts, extra),
+    }
+}
 
 fn memory(literals: &[u32]) -> RAMBlock {
     let literal = |i: usize| literals[i] as usize;
@@ -91,7 +124,7 @@ fn memory(literals: &[u32]) -> RAMBlock {
     ram
 }
 
-pub fn graph(case: &Case) -> Graph {
+pub fn graph(rule: WordRule, case: &Case) -> Graph {
     let mut aig = AIG { num_aigpins: case.pins(), ..Default::default() };
     for (pin, gate) in case.gates.chunks(2).enumerate() {
         aig.drivers.push(match (pin, gate[0]) {
@@ -136,7 +169,7 @@ pub fn graph(case: &Case) -> Graph {
     for (e, &r) in record.iter().enumerate() {
         endpoint[r] = e;
     }
-    Graph { aig, staged, endpoint, record }
+    Graph { rule, aig, staged, endpoint, record }
 }
 
 /// The published `None` says nothing; its trace messages tell the scope document's number and stage.

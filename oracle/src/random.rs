@@ -296,7 +296,7 @@ fn ordinary(r: &mut Random, height: u32, most: usize) -> Case {
 }
 
 /// Jobs near a limit: leaf outputs to level 1's end, duplicates and memories at the reservation's, deep outputs at the words'.
-fn limit(r: &mut Random, height: u32) -> Case {
+pub fn limit(r: &mut Random, height: u32) -> Case {
     let (half, words) = (1usize << (height - 1), 1usize << (height - 5));
     let mut list = Vec::new();
     let gates = match r.between(0, 3) {
@@ -349,6 +349,44 @@ fn limit(r: &mut Random, height: u32) -> Case {
     };
     let given = if r.chance(20) { given(r, gates.len() / 2 - 1) } else { Vec::new() };
     with(r, height, gates, given, list)
+}
+
+/// Jobs that run short of words: memories, flip-flops at one pin and outputs with both inversions reserve some, and outputs on every level of the
+/// tree take many. Now and then a room is missing.
+pub fn tight(r: &mut Random, height: u32) -> Case {
+    let (half, words) = (1usize << (height - 1), 1usize << (height - 5));
+    let width = r.between(2, (half / 2).min(300));
+    let depth = r.between(1, 2 * height as usize);
+    let gates = layers(r, width, (depth * width).min(3 * half.min(1000)));
+    let pins = gates.len() / 2 - 1;
+    let (memories, mut list) = (r.between(0, words / 4), Vec::new());
+    for _ in 0..memories {
+        let some = [r.between(1, pins), r.between(1, pins)];
+        list.push(3);
+        list.extend((0..91).map(|_| 2 * r.pick(&some) as u32));
+    }
+    let copies = if r.chance(50) { 0 } else { r.between(0, words - 4 * memories).min(width) };
+    let data = r.between(1, pins);
+    for copy in 0..copies {
+        list.extend([2, 2 * (copy as u32 + 1), 2 * data as u32]);
+    }
+    let mut named: Vec<usize> = (if r.chance(70) { width + 1 } else { 1 }..=pins).collect();
+    r.shuffle(&mut named);
+    let most = half / r.pick(&[1, 2, 4, 8]);
+    named.truncate(r.between(1, most));
+    let doubled = r.between(0, words - 4 * memories - copies.saturating_sub(1));
+    for (i, pin) in named.into_iter().enumerate() {
+        let literal = r.literal(pin);
+        list.extend([1, literal]);
+        if i < doubled {
+            list.extend([1, literal ^ 1]);
+        }
+    }
+    let mut case = with(r, height, gates, Vec::new(), list);
+    if r.chance(20) {
+        case.rooms = -1;
+    }
+    case
 }
 
 /// The greatest numbers of pins and record numbers, and one beyond.

@@ -2,6 +2,7 @@
 use crate::case::{Case, EMPTY};
 use crate::check;
 use crate::merge::{self, Answer, Merge, Ruled};
+use crate::placer::WordRule;
 use crate::published::{self, Outcome, Part, Stage};
 use crate::random::{self, Random};
 use std::collections::HashMap;
@@ -62,13 +63,14 @@ fn cells(case: &Case, stages: &[Stage]) -> Vec<u16> {
     out
 }
 
-/// A build in that form; None if it is damaged or too large.
+/// A build in that form; None if it is damaged, too large or not in order.
 fn build(case: &Case) -> Option<Recorded> {
     let fits = case.pins() <= MOST_PINS && case.records.len() <= MOST_RECORDS && case.given.len() <= MOST_GIVEN;
-    if !fits || check::input(case) != 0 {
+    // Those recorded have gates in order, as when all others were refused: the same builds must give the same plans.
+    if !fits || !case.in_order() || check::input(case) != 0 {
         return None;
     }
-    let (outcome, seen) = published::build(case.height, &published::graph(case));
+    let (outcome, seen) = published::build(case.height, &published::graph(WordRule::EveryRun, case));
     let (number, stage, stages) = match outcome {
         Outcome::Panicked => panic!("the Rust panics"),
         Outcome::Refused { number, stage } => (number, stage, Vec::new()),
@@ -163,7 +165,7 @@ fn merge_marks(merge: &Merge, ruled: &Ruled) -> u16 {
     let parts = merge.split();
     let (full, seen) = (parts.iter().filter(|part| !part.is_empty()).count(), parts.concat());
     let twice = (1..seen.len()).any(|i| seen[..i].contains(&seen[i]));
-    let graph = published::graph(&merge.case);
+    let graph = published::graph(WordRule::EveryRun, &merge.case);
     let stages = |part: &Vec<usize>| match published::build_records(merge.case.height, &graph, part).0 {
         Outcome::Whole(stages) => stages.len(),
         _ => usize::MAX,
@@ -206,7 +208,7 @@ fn recorded(merge: &Merge, ruled: &Ruled) -> Recorded {
 }
 
 fn answered(merge: &Merge) -> Ruled {
-    merge::answer(merge, &published::graph(&merge.case)).unwrap_or_else(|what| panic!("{what}"))
+    merge::answer(merge, &published::graph(WordRule::EveryRun, &merge.case)).unwrap_or_else(|what| panic!("{what}"))
 }
 
 /// Merges of random cases, few of them dull, then crowded ones, then those with a partition that level 1 is too small for.

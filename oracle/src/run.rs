@@ -1,8 +1,11 @@
 //! Random builds and merges until the time or the counts are used up, with a tally of what agreed.
 use crate::case::Case;
+use crate::check;
 use crate::compare::{compare, Agreed};
 use crate::compare_merge;
 use crate::merge::{self, Merge};
+use crate::order;
+use crate::placer::WordRule;
 use crate::random::{self, Random};
 use crate::shrink::shrink;
 use std::collections::BTreeMap;
@@ -42,9 +45,36 @@ impl Outcomes {
     }
 }
 
+/// Cases whose gates are not in order, and those refused for a loop.
+#[derive(Default)]
+struct Orders {
+    shuffled: usize,
+    whole: usize,
+    looped: usize,
+    given: usize,
+}
+
+impl Orders {
+    fn add(&mut self, case: &Case, number: u32) {
+        if number == 23 {
+            self.looped += 1;
+            self.given += !check::loop_without_given(case) as usize;
+        } else if !(1..=5).contains(&number) && number != 10 && !case.in_order() {
+            self.shuffled += 1;
+            self.whole += (number == 0) as usize;
+        }
+    }
+
+    fn print(&self, whole: &str) {
+        println!("gates in another order {}, of these {} {whole}; refused with 23 {}, of these {} with given pins on every loop",
+                 self.shuffled, self.whole, self.looped, self.given);
+    }
+}
+
 #[derive(Default)]
 struct Tally {
     outcomes: Outcomes,
+    orders: Orders,
     taken_back: usize,
     twice: usize,
     several: usize,
@@ -58,7 +88,8 @@ struct Tally {
 impl Tally {
     fn add(&mut self, case: &Case, agreed: &Agreed) {
         self.outcomes.add(case.height, agreed.number);
-        if (1..=5).contains(&agreed.number) {
+        self.orders.add(case, agreed.number);
+        if (1..=5).contains(&agreed.number) || agreed.number == 23 {
             return;
         }
         self.taken_back += agreed.taken_back as usize;
@@ -79,6 +110,7 @@ impl Tally {
                  self.several, self.most_stages, self.taken_back, self.twice, self.given);
         println!("with outputs {}, flip-flops {}, memories {}, staged pins {}; height 13 with over 10,000 gates {}",
                  self.kinds[1], self.kinds[2], self.kinds[3], self.kinds[4], self.large);
+        self.orders.print("whole");
         self.outcomes.sum("builds");
     }
 }
@@ -86,6 +118,7 @@ impl Tally {
 #[derive(Default)]
 struct MergeTally {
     outcomes: Outcomes,
+    orders: Orders,
     partitions: usize,
     most: usize,
     left: usize,
@@ -97,6 +130,7 @@ struct MergeTally {
 impl MergeTally {
     fn add(&mut self, merge: &Merge, agreed: &compare_merge::Agreed) {
         self.outcomes.add(merge.case.height, agreed.number);
+        self.orders.add(&merge.case, agreed.number);
         if agreed.number != 0 {
             return;
         }
@@ -112,6 +146,7 @@ impl MergeTally {
         self.outcomes.print("merged");
         println!("{} partitions (at most {} in a merge) became {}; {} unions examined; {} merges with unions that fail, {} with a block not begun",
                  self.partitions, self.most, self.left, self.trials, self.failed, self.not_begun);
+        self.orders.print("merged");
         self.outcomes.sum("merges");
     }
 }
@@ -123,24 +158,24 @@ fn height(seed: u64, index: u64, low: u32, high: u32) -> u32 {
     r.pick(&often.into_iter().filter(|k| (low..=high).contains(k)).collect::<Vec<_>>())
 }
 
-fn differs(seed: u64, index: u64, case: &Case, what: &str) {
+fn differs(rule: WordRule, seed: u64, index: u64, case: &Case, what: &str) {
     println!("difference at case {index} of seed {seed}: {what}");
-    let least = shrink(case, &|c| compare(c).is_err(), SHRINKING);
-    let (what, stages) = compare(&least).err().expect("the shrunk case differs");
+    let least = shrink(case, &|c| compare(rule, c).is_err(), SHRINKING);
+    let (what, stages) = compare(rule, &least).err().expect("the shrunk case differs");
     println!("the smallest case found: {what}");
     print!("{}", least.text("shrunk", stages));
 }
 
-fn merge_differs(seed: u64, index: u64, merge: &Merge, what: &str) {
+fn merge_differs(rule: WordRule, seed: u64, index: u64, merge: &Merge, what: &str) {
     println!("difference at merge {index} of seed {seed}: {what}");
-    let least = shrink(merge, &|m| compare_merge::compare(m).is_err(), SHRINKING);
-    let (what, lent) = compare_merge::compare(&least).err().expect("the shrunk merge differs");
+    let least = shrink(merge, &|m| compare_merge::compare(rule, m).is_err(), SHRINKING);
+    let (what, lent) = compare_merge::compare(rule, &least).err().expect("the shrunk merge differs");
     println!("the smallest merge found: {what}");
     print!("{}", least.text("shrunk", Some(lent)));
 }
 
 /// Builds and merges in turns that take as long, until `seconds` or the `counts` of both are used up. Whether all agreed.
-pub fn run(seconds: u64, counts: [u64; 2], seed: u64, low: u32, high: u32) -> bool {
+pub fn run(rule: WordRule, seconds: u64, counts: [u64; 2], seed: u64, low: u32, high: u32) -> bool {
     let start = Instant::now();
     let (mut tally, mut merges) = (Tally::default(), MergeTally::default());
     let (mut done, mut taken) = ([0; 2], [Duration::ZERO; 2]);
@@ -149,16 +184,17 @@ pub fn run(seconds: u64, counts: [u64; 2], seed: u64, low: u32, high: u32) -> bo
         let kind = if done[0] == counts[0] { 1 } else if done[1] == counts[1] { 0 } else { (taken[1] < taken[0]) as usize };
         let (index, from) = (done[kind], Instant::now());
         if kind == 0 {
-            let case = random::case(seed, index, height(seed, index, low, high));
-            match compare(&case) {
+            let case = order::any(seed, index, random::case(seed, index, height(seed, index, low, high)));
+            match compare(rule, &case) {
                 Ok(agreed) => tally.add(&case, &agreed),
-                Err((what, _)) => difference = Some(Box::new(move || differs(seed, index, &case, &what))),
+                Err((what, _)) => difference = Some(Box::new(move || differs(rule, seed, index, &case, &what))),
             }
         } else {
-            let merge = merge::drawn(seed, index, height(seed, !index, low, high));
-            match compare_merge::compare(&merge) {
+            let mut merge = merge::drawn(seed, index, height(seed, !index, low, high));
+            merge.case = order::any(seed, !index, merge.case);
+            match compare_merge::compare(rule, &merge) {
                 Ok(agreed) => merges.add(&merge, &agreed),
-                Err((what, _)) => difference = Some(Box::new(move || merge_differs(seed, index, &merge, &what))),
+                Err((what, _)) => difference = Some(Box::new(move || merge_differs(rule, seed, index, &merge, &what))),
             }
         }
         taken[kind] += from.elapsed();

@@ -1,6 +1,7 @@
 //! Makes a case, or a merge, smaller as long as it still fails.
 use crate::case::{Case, EMPTY, LEAST};
 use crate::merge::Merge;
+use crate::order;
 use std::time::{Duration, Instant};
 
 /// Spans of a list to leave out: halves first, then ever smaller ones.
@@ -35,21 +36,9 @@ fn renumbered(case: &Case) -> Case {
     let mut kept = 0;
     let number: Vec<u32> = used.iter().map(|&u| { kept += u as u32; kept.wrapping_sub(1) }).collect();
     // A pin past the last stays as far past it.
-    let pin = |pin: u32| number.get(pin as usize).copied().unwrap_or_else(|| pin - (pins as u32 - kept));
-    let literal = |literal: u32| if literal == EMPTY { EMPTY } else { 2 * pin(literal / 2) + literal % 2 };
-    let mut out = case.clone();
-    out.gates = Vec::new();
-    for (p, gate) in case.gates.chunks(2).enumerate() {
-        if p >= pins || used[p] {
-            out.gates.extend(gate.iter().map(|&l| literal(l)));
-        }
-    }
-    out.given = case.given.iter().map(|&p| pin(p)).collect();
-    out.records = Vec::new();
-    for record in case.split() {
-        out.records.push(record[0]);
-        out.records.extend(record[1..].iter().map(|&n| if record[0] == 4 { pin(n) } else { literal(n) }));
-    }
+    let mut out = case.renamed(&|pin| number.get(pin as usize).copied().unwrap_or_else(|| pin - (pins as u32 - kept)));
+    let kept = |p: usize| p >= pins || used[p];
+    out.gates = out.gates.chunks(2).enumerate().filter(|(p, _)| kept(*p)).flat_map(|(_, gate)| gate.to_vec()).collect();
     out
 }
 
@@ -91,6 +80,7 @@ fn case_steps(case: &Case) -> Vec<Case> {
     }
     step(&|c| c.gates.truncate(c.gates.len() / 2 * 2));
     step(&|c| *c = renumbered(c));
+    step(&|c| *c = order::ordered(c));
     for (from, to) in spans(case.gates.len() / 2) {
         step(&|c| c.gates[2 * from..2 * to].fill(EMPTY));
     }
@@ -157,6 +147,7 @@ pub fn shrink<T: Shrinks>(case: &T, fails: &dyn Fn(&T) -> bool, most: Duration) 
 #[cfg(test)]
 mod tests {
     use super::*;
+    use crate::check;
     use crate::random;
 
     #[test]
@@ -167,10 +158,50 @@ mod tests {
         };
         let mut shrunk = 0;
         for index in 0..300 {
-            let case = random::case(1, index, 7);
+            let case = order::any(1, index, random::case(1, index, 7));
             if fails(&case) {
                 let least = shrink(&case, &fails, Duration::from_secs(60));
                 assert_eq!((least.split().len(), least.gate_count(), least.height, least.given.len()), (1, 1, 6, 0), "case {index}");
+                shrunk += 1;
+            }
+        }
+        assert!(shrunk > 20);
+    }
+
+    #[test]
+    fn keeps_only_the_loop() {
+        // Fails with a loop: one gate on itself is enough, nothing else is needed.
+        let fails = |c: &Case| check::input(c) == 23;
+        let mut shrunk = 0;
+        for index in 0..600 {
+            let case = order::any(1, index, random::case(1, index, 6));
+            if fails(&case) {
+                let least = shrink(&case, &fails, Duration::from_secs(60));
+                // Every gate that is left is on the one loop.
+                let opened = |pin: usize| {
+                    let mut gates = least.gates.clone();
+                    gates[2 * pin..2 * pin + 2].fill(EMPTY);
+                    check::loop_pin(&gates) == 0
+                };
+                let gates: Vec<usize> = (1..=least.pins()).filter(|&pin| least.gates[2 * pin] != EMPTY).collect();
+                assert!(gates.into_iter().all(opened), "case {index}");
+                assert_eq!((least.records.len(), least.given.len()), (0, 0), "case {index}");
+                shrunk += 1;
+            }
+        }
+        assert!(shrunk > 20);
+    }
+
+    #[test]
+    fn puts_gates_in_order_again() {
+        // Fails with two gates, one on the other: shuffled or not, it comes out in order.
+        let fails = |c: &Case| check::input(c) == 0 && c.gates.chunks(2).any(|gate| gate.iter().any(|&l| l != EMPTY && c.gates[l as usize & !1] != EMPTY));
+        let mut shrunk = 0;
+        for index in 0..100 {
+            let case = order::any(1, index, random::case(1, index, 6));
+            if fails(&case) && !case.in_order() {
+                let least = shrink(&case, &fails, Duration::from_secs(60));
+                assert_eq!((least.in_order(), least.gate_count()), (true, 2), "case {index}");
                 shrunk += 1;
             }
         }
@@ -187,7 +218,8 @@ mod tests {
         };
         let mut shrunk = 0;
         for index in 0..60 {
-            let merge = crate::merge::drawn(1, index, 6);
+            let mut merge = crate::merge::drawn(1, index, 6);
+            merge.case = order::any(1, index, merge.case);
             if fails(&merge) {
                 let least = shrink(&merge, &fails, Duration::from_secs(60));
                 let kept = (least.parts.len(), least.list().0.len(), least.case.split().len() <= 2, least.case.gate_count(), least.extra);
