@@ -1,13 +1,16 @@
 // The scope document's bench examples marked "run only", and the first one: the builds' answers and what stands in their areas.
 use libc::STDOUT_FILENO;
 use placer::Answer;
-use placer::build;
+use placer::build_by;
+use runs::WordRule;
 
 const EMPTY: u32 = 4294967295;
 
 fn main() {
-    first();
-    one_leaf();
+    first(WordRule::EveryRun);
+    first(WordRule::NeededRuns);
+    one_leaf(WordRule::EveryRun);
+    one_leaf(WordRule::NeededRuns);
     memories_64();
     memories_65();
 }
@@ -52,7 +55,7 @@ fn all(words: &[u32]) {
 }
 
 // Height 6: pins 1 to 4 are leaves, 5 = (2, 4), 6 = (6, 9), 7 = (10, 12), output 14.
-fn first() {
+fn first(rule: WordRule) {
     io::write_all(STDOUT_FILENO, b"height 6, output 14:");
     let gates: [u32; 16] = [
         EMPTY,
@@ -78,7 +81,8 @@ fn first() {
     let mut words: [u32; 2] = [0; 2];
     let mut counts: [u32; 1] = [0; 1];
     let mut work: [u32; 656] = [0; 656];
-    tell(build(
+    tell(build_by(
+        rule,
         6,
         &gates,
         &given,
@@ -93,7 +97,7 @@ fn first() {
 }
 
 // Height 13: pin 1 is a leaf, output 2.
-fn one_leaf() {
+fn one_leaf(rule: WordRule) {
     io::write_all(STDOUT_FILENO, b"height 13, one leaf:");
     let gates: [u32; 4] = [EMPTY; 4];
     let given: [u32; 0] = [];
@@ -102,7 +106,8 @@ fn one_leaf() {
     let mut words: [u32; 256] = [0; 256];
     let mut counts: [u32; 1] = [0; 1];
     let mut work: [u32; 560] = [0; 560];
-    tell(build(
+    tell(build_by(
+        rule,
         13,
         &gates,
         &given,
@@ -136,7 +141,8 @@ fn memories(records: &mut [u32]) {
     let mut words: [u32; 256] = [0; 256];
     let mut counts: [u32; 1] = [0; 1];
     let mut work: [u32; 48368] = [0; 48368];
-    tell(build(
+    tell(build_by(
+        WordRule::NeededRuns,
         13,
         &gates,
         &given,

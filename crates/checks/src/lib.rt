@@ -1,4 +1,4 @@
-// The checks 1 to 5, in their order. Each reads its input once.
+// The checks 1, 2, 3, 23, 4, 5, in their order. Each reads its input once, but for the search for a loop, which graphs in order don't need.
 use cells::is_height;
 use graph::Literal;
 use graph::Node;
@@ -6,6 +6,7 @@ use graph::node_of;
 use graph::pin_count;
 use graph::pin_of;
 use graph::wide;
+use loops::loop_pin;
 use records::endpoint;
 use records::size_at;
 use sizes::areas_sized;
@@ -13,32 +14,35 @@ ghost use mathlib.Core.Path.{_≡_};
 ghost use mathlib.Core.Bool.{true};
 ghost use mathlib.Core.List.{[], _∷_};
 ghost use lib.ListN.{drop};
-ghost use Rattle.rules.specs.Graph.{graphOf};
+ghost use Rattle.rules.specs.Graph.{graphOf, pinCount};
 ghost use Rattle.rules.specs.Records.{wholeAt};
-ghost use Rattle.rules.specs.Checks.{workSize, areasSized, nodesRight, graphRight, recordsRight, givenRight, refusalOf};
+ghost use Rattle.rules.specs.Checks.{workSize, areasSized, nodesRight, recordsRight, givenRight, refusalOf};
 ghost use Rattle.graph.specs.Values.{nodeFor};
-ghost use Rattle.checks.specs.Values.{operandRight};
+ghost use Rattle.checks.specs.Values.{operandRight, graphSized, graphRefusal, Rising, Says};
 ghost use Rattle.records.specs.Values.{recordRight};
 
-// May a literal be an operand of pin p?
-fn operand_right(p: usize, l: Literal) -> bool
-    ensures { λ r. ⌜ r ≡ operandRight p (l .0) ⌝ }
+// May a literal be an operand among so many pins?
+fn operand_right(pins: usize, l: Literal) -> bool
+    ensures { λ r. ⌜ r ≡ operandRight pins (l .0) ⌝ }
 {
     let q = wide(pin_of(l).0);
     if q == 0 {
         return false;
     }
-    q < p
+    q < pins
 }
 
-fn node_right(p: usize, node: Node) -> bool
-    ensures { λ r. ⌜ r ≡ nodesRight p (nodeFor node ∷ []) ⌝ }
+fn node_right(pins: usize, p: usize, node: Node) -> bool
+    ensures { λ r. ⌜ r ≡ nodesRight pins p (nodeFor node ∷ []) ⌝ }
 {
     match node {
         Node::Leaf => true,
         Node::Gate(a, b) => {
-            if operand_right(p, a) {
-                operand_right(p, b)
+            if p == 0 {
+                return false;
+            }
+            if operand_right(pins, a) {
+                operand_right(pins, b)
             } else {
                 false
             }
@@ -46,13 +50,30 @@ fn node_right(p: usize, node: Node) -> bool
     }
 }
 
-fn nodes_right(gates: &[u32]) -> bool
-    ensures { λ r. ⌜ r ≡ nodesRight 0 (graphOf (now (gates .entry))) ⌝ }
+// The first pin that has an operand which isn't above 0 and below it, or N + 1.
+fn first_forward(gates: &[u32]) -> usize
+    ensures { λ r. ⌜ Rising (now (gates .entry)) r ⌝ }
 {
     let pins = pin_count(gates);
     let mut p = 0;
     while p < pins {
-        if !node_right(p, node_of(gates[2 * p], gates[2 * p + 1])) {
+        if !node_right(p, p, node_of(gates[2 * p], gates[2 * p + 1])) {
+            return p;
+        }
+        p += 1;
+    }
+    pins
+}
+
+// Are the nodes right, those before pin `from` being so?
+fn nodes_right(gates: &[u32], from: usize) -> bool
+    requires { ⌜ Rising (now gates) from ⌝ }
+    ensures { λ r. ⌜ r ≡ nodesRight (pinCount (now (gates .entry))) 0 (graphOf (now (gates .entry))) ⌝ }
+{
+    let pins = pin_count(gates);
+    let mut p = from;
+    while p < pins {
+        if !node_right(pins, p, node_of(gates[2 * p], gates[2 * p + 1])) {
             return false;
         }
         p += 1;
@@ -60,8 +81,9 @@ fn nodes_right(gates: &[u32]) -> bool
     true
 }
 
-fn graph_right(gates: &[u32]) -> bool
-    ensures { λ r. ⌜ r ≡ graphRight (now (gates .entry)) ⌝ }
+// Is the graph's size right?
+fn graph_sized(gates: &[u32]) -> bool
+    ensures { λ r. ⌜ r ≡ graphSized (now (gates .entry)) ⌝ }
 {
     if gates.len() % 2 != 0 {
         return false;
@@ -70,10 +92,47 @@ fn graph_right(gates: &[u32]) -> bool
     if pins == 0 {
         return false;
     }
-    if 65536 < pins {
-        return false;
+    pins <= 65536
+}
+
+// What the checks say: the scope document's number, 0 where none applies, and with 23 the smallest pin on any loop.
+pub struct Verdict {
+    pub number: u32,
+    pub pin: usize,
+}
+
+fn refused(number: u32) -> Verdict
+    ensures number { λ r. ⌜ r .number ≡ number ⌝ }
+    ensures pin { λ r. ⌜ r .pin ≡ 0 ⌝ }
+{
+    Verdict {
+        number: number,
+        pin: 0,
     }
-    nodes_right(gates)
+}
+
+// The first of 3 and 23 that applies. Where every operand is below its gate, which is looked at first, there is no loop to be searched for.
+fn graph_refusal(gates: &[u32]) -> Verdict
+    ensures { λ r. ⌜ Says (graphRefusal (now (gates .entry))) (now (gates .entry)) r ⌝ }
+{
+    if !graph_sized(gates) {
+        return refused(3);
+    }
+    let from = first_forward(gates);
+    if from == pin_count(gates) {
+        return refused(0);
+    }
+    if !nodes_right(gates, from) {
+        return refused(3);
+    }
+    let pin = wide(loop_pin(gates));
+    if pin == 0 {
+        return refused(0);
+    }
+    Verdict {
+        number: 23,
+        pin: pin,
+    }
 }
 
 // Does the whole record at an index name pins below `pins` only?
@@ -125,27 +184,28 @@ pub fn given_right(pins: usize, given: &[u32]) -> bool
     true
 }
 
-// The first of 1 to 5 that applies, or 0; `sized` says whether every lent area has a right size.
-pub fn refusal(height: u32, sized: bool, gates: &[u32], given: &[u32], records: &[u32]) -> u32
-    ensures { λ r. ⌜ r ≡ refusalOf height sized (now (gates .entry)) (now (given .entry)) (now (records .entry)) ⌝ }
+// The first of 1, 2, 3, 23, 4, 5 that applies, or 0; `sized` says whether every lent area has a right size.
+pub fn refusal(height: u32, sized: bool, gates: &[u32], given: &[u32], records: &[u32]) -> Verdict
+    ensures { λ r. ⌜ Says (refusalOf height sized (now (gates .entry)) (now (given .entry)) (now (records .entry))) (now (gates .entry)) r ⌝ }
 {
     if !is_height(height) {
-        return 1;
+        return refused(1);
     }
     if !sized {
-        return 2;
+        return refused(2);
     }
-    if !graph_right(gates) {
-        return 3;
+    let graph = graph_refusal(gates);
+    if graph.number != 0 {
+        return graph;
     }
     let pins = pin_count(gates);
     if !records_right(pins, records) {
-        return 4;
+        return refused(4);
     }
     if !given_right(pins, given) {
-        return 5;
+        return refused(5);
     }
-    0
+    refused(0)
 }
 
 // The checks of a build, whose areas have these lengths.
@@ -158,8 +218,8 @@ pub fn check(
     words: usize,
     counts: usize,
     work: usize,
-) -> u32
-    ensures { λ r. ⌜ r ≡ refusalOf height (areasSized height (workSize (now (gates .entry)) (now (records .entry))) plan words counts work) (now (gates .entry)) (now (given .entry)) (now (records .entry)) ⌝ }
+) -> Verdict
+    ensures { λ r. ⌜ Says (refusalOf height (areasSized height (workSize (now (gates .entry)) (now (records .entry))) plan words counts work) (now (gates .entry)) (now (given .entry)) (now (records .entry))) (now (gates .entry)) r ⌝ }
 {
     let sized = areas_sized(
         height,

@@ -10,6 +10,7 @@ use Rattle.rules.specs.Lists.{padded, laidOver}
 use Rattle.rules.specs.Cells.{empty, wordLimit, stageSize, rooms}
 use Rattle.rules.specs.Graph.{graphOf, pinCount, value}
 use Rattle.rules.specs.Records.{groupsOf}
+use Rattle.rules.specs.Traversal.{WordRule}
 use Rattle.rules.specs.Checks.{refusalOf}
 use Rattle.rules.specs.Build as rules
 use Rattle.rules.specs.Fold.{asNumber, foldBits, foldRefusal, foldResult}
@@ -26,6 +27,7 @@ use Rattle.demand.proofs.Reading.{endpoints-read}
 
 -- a call of `build`, by its contract
 pub record Call : Type 0 where
+  pub rule : WordRule
   pub height : ℕ
   pub gates : List ℕ
   pub given : List ℕ
@@ -33,14 +35,14 @@ pub record Call : Type 0 where
   pub entry : rules.Areas
   pub answer : Answer
   pub exit : rules.Areas
-  pub ensures : outcome answer (exit .plan) (exit .words) (exit .counts) (exit .work) ≡ rules.placer height gates given records entry
+  pub ensures : outcome answer (exit .plan) (exit .words) (exit .counts) (exit .work) ≡ rules.placer rule height gates given records entry
 
 abbrev checked : Call → ℕ
 checked C = refusalOf (C .height) (rules.sizesRight (C .height) (C .gates) (C .records) (C .entry)) (C .gates) (C .given) (C .records)
 
 -- a call that the checks let pass
 abbrev pub input : (C : Call) → checked C ≡ 0 → Input
-input C e = record { K = C .height; sized = rules.sizesRight (C .height) (C .gates) (C .records) (C .entry); gates = C .gates; given = C .given; records = C .records; passes = e }
+input C e = record { rule = C .rule; K = C .height; sized = rules.sizesRight (C .height) (C .gates) (C .records) (C .entry); gates = C .gates; given = C .given; records = C .records; passes = e }
 
 abbrev pub roomsOf : Call → ℕ
 roomsOf C = rooms (C .height) (length (C .entry .plan))
@@ -65,7 +67,7 @@ answered C e =
 
 -- an answer of 0 passed the checks
 pub passed-checks : (C : Call) → C .answer .number ≡ 0 → checked C ≡ 0
-unfolding outcome told rules.placer rules.refuse
+unfolding outcome told rules.placer rules.refuse rules.refuseChecked
 passed-checks C z = number (checked C) refl
   where
     number : (n : ℕ) → checked C ≡ n → n ≡ 0
@@ -87,7 +89,7 @@ pub record Whole (C : Call) : Type 0 where
 
 whole-told : (C : Call) (e : checked C ≡ 0) (b : rules.Answer) → built (input C e) (roomsOf C) ≡ b → C .answer .number ≡ 0 → Told C b → Whole C
 unfolding told rules.reply rules.refuse rules.stagesOf padded laidOver
-whole-told C e (rules.refusal n k) d z t = absurd (refused-some (C .height) (graphOf (C .gates)) (C .given) (groupsOf (C .records)) (roomsOf C) n k d (ap (λ (r : rules.Reply). r .number) (sym (t .reply)) ∙ z))
+whole-told C e (rules.refusal n k) d z t = absurd (refused-some (C .rule) (C .height) (graphOf (C .gates)) (C .given) (groupsOf (C .records)) (roomsOf C) n k d (ap (λ (r : rules.Reply). r .number) (sym (t .reply)) ∙ z))
 whole-told C e (rules.whole ss) d z t = record {
   passes = e;
   ss = ss;

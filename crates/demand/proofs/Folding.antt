@@ -25,17 +25,17 @@ abbrev pub Loaded : Input → ℕ → Type 0
 Loaded I n = In n (I .given) ⊎ (getD (graph I) n leaf ≡ leaf)
 
 pub right : (I : Input) (rooms : ℕ) (ss : List Stage) → built I rooms ≡ whole ss → (bits : List ℕ) → Right (I .K) (graph I) (I .given) bits (firstLoad (graph I) (I .given) bits) (Loaded I) ss
-right I rooms ss e bits = whole-right (I .K) (graph I) (valid I) (tall I) (small I) (I .given) bits (groups I) (named I) rooms ss e
+right I rooms ss e bits = whole-right (I .rule) (I .K) (graph I) (valid I) (tall I) (small I) (I .given) bits (groups I) (named I) rooms ss e
 
 module _ (I : Input) (L : ℕ) (ss : List Stage) (e : built I (rooms (I .K) L) ≡ whole ss) where
   -- a plan area of L numbers has room for the stages
   pub few : length ss ≤ rooms (I .K) L
-  few = whole-sizes (I .K) (graph I) (valid I) (tall I) (small I) (I .given) [] (groups I) (named I) (rooms (I .K) L) ss e .few
+  few = whole-sizes (I .rule) (I .K) (graph I) (valid I) (tall I) (small I) (I .given) [] (groups I) (named I) (rooms (I .K) L) ss e .few
 
   pub cells-fit : length (cellsOf ss) ≤ L
   unfolding rooms
   cells-fit =
-      let c : length (cellsOf ss) ≡ length ss * 2 ^ (I .K + 1) = whole-sizes (I .K) (graph I) (valid I) (tall I) (small I) (I .given) [] (groups I) (named I) (rooms (I .K) L) ss e .cells in
+      let c : length (cellsOf ss) ≡ length ss * 2 ^ (I .K + 1) = whole-sizes (I .rule) (I .K) (graph I) (valid I) (tall I) (small I) (I .given) [] (groups I) (named I) (rooms (I .K) L) ss e .cells in
       omega (arith, le-div-iff-mul-le (pow-pos (I .K + 1)) .0 few)
 
   -- In a whole plan, for any leaf and given bits, every filled cell of every stage folds to its pin's graph value: bit p of stage i, of the plan
@@ -49,4 +49,4 @@ module _ (I : Input) (L : ℕ) (ss : List Stage) (e : built I (rooms (I .K) L) �
       let n : getD (stageOf ss i .plan) p empty < m = omega (arith, named-at (I .K) (graph I) (I .given) (take m bits) (firstLoad (graph I) (I .given) (take m bits)) (Loaded I) ss R i b p f, counted I) in
       rw (length-padded L empty (cellsOf ss) cells-fit)
       (folded-bit (I .K) (graph I) (I .given) (take m bits) (firstLoad (graph I) (I .given) (take m bits)) (Loaded I) ss R (rooms (I .K) L) few _ i p b low high f
-      ∙ ap asNumber (value-take (graph I) (valid I) (I .given) bits m (length (graph I)) (getD (stageOf ss i .plan) p empty) n))
+      ∙ ap asNumber (value-take (graph I) (valid I) (I .given) bits m (omega (arith, counted I)) (length (graph I)) (getD (stageOf ss i .plan) p empty) n))

@@ -6,3 +6,4 @@ pub mod Loading
 pub mod Writing
 pub mod Reading
 pub mod Calls
+pub mod Rules

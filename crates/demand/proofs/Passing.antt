@@ -1,4 +1,4 @@
--- What the theorems need of an input: all of it follows from passing the checks 1 to 5. Assumes nothing.
+-- What the theorems need of an input: all of it follows from passing the checks 1 to 5 and 23. Assumes nothing.
 use Prim.Native.Nat.{ℕ, _≤_, _<_}
 use mathlib.Core.Path.{_≡_}
 use native.Mathlib.Omega.{arith}

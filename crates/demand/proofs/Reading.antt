@@ -78,7 +78,7 @@ endpoints-read I L ss e bits more more′ q b i =
     let h : c .position < stageSize (I .K) = omega (arith, c .high, two-step (I .K)) in
     let w = word-at ss more (c .position / 32) (t .stage) (t .built) (t .written) in
     let f : filled (getD (stageOf ss (t .stage) .plan) (c .position) empty) ≡ true = rw (c .holds) (filled-pin q (omega (arith, named I q i, small I))) in
-    let z = whole-sized (I .K) (graph I) (valid I) (tall I) (small I) (I .given) [] (groups I) (named I) (rooms (I .K) L) ss e in
+    let z = whole-sized (I .rule) (I .K) (graph I) (valid I) (tall I) (small I) (I .given) [] (groups I) (named I) (rooms (I .K) L) ss e in
     record {
       stage = t .stage;
       at = w .at;

@@ -27,4 +27,4 @@ shown K g given bits load held q R (there {s = s} w) = later-shown (shown K g gi
 -- Every endpoint pin but the constant stands in a written word: there is a stage, a word in its list and a cell of that word that holds the pin.
 pub endpoints-written : (I : Input) (rooms : ℕ) (ss : List Stage) → built I rooms ≡ whole ss → (q : ℕ) → 0 < q → Ends q (groups I) → Shown (I .K) ss q
 endpoints-written I rooms ss e q b i =
-    shown (I .K) (graph I) (I .given) [] (firstLoad (graph I) (I .given) []) (Loaded I) q (right I rooms ss e []) (whole-written (I .K) (graph I) (valid I) (tall I) (small I) (I .given) [] (groups I) (named I) rooms ss e q b i)
+    shown (I .K) (graph I) (I .given) [] (firstLoad (graph I) (I .given) []) (Loaded I) q (right I rooms ss e []) (whole-written (I .rule) (I .K) (graph I) (valid I) (tall I) (small I) (I .given) [] (groups I) (named I) rooms ss e q b i)

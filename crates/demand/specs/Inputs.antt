@@ -1,4 +1,4 @@
--- What the theorems of demand 3 are about: an input that passes the checks 1 to 5, and what the rules make of it. Assumes nothing.
+-- What the theorems of demand 3 are about: an input that passes the checks 1 to 5 and 23, and what the rules make of it. Assumes nothing.
 use Prim.Native.Nat.{ℕ}
 use mathlib.Core.Path.{_≡_}
 use mathlib.Core.Bool.{Bool}
@@ -6,19 +6,25 @@ use mathlib.Core.List.{List}
 use lib.ListN.{length}
 use Rattle.rules.specs.Graph.{Node, graphOf, value}
 use Rattle.rules.specs.Records.{Group, groupsOf}
+use Rattle.rules.specs.Traversal.{WordRule}
 use Rattle.rules.specs.Checks.{refusalOf}
 use Rattle.rules.specs.Build as build
 use Rattle.rules.specs.States as states
 use Rattle.rules.specs.Depth as depth
 
--- `sized` says whether every lent area has a right size
+-- under either word rule; `sized` says whether every lent area has a right size
 pub record Input : Type 0 where
+  pub rule : WordRule
   pub K : ℕ
   pub sized : Bool
   pub gates : List ℕ
   pub given : List ℕ
   pub records : List ℕ
   pub passes : refusalOf K sized gates given records ≡ 0
+
+-- the same input under a word rule
+abbrev pub under : WordRule → Input → Input
+under rule I = record { rule = rule; K = I .K; sized = I .sized; gates = I .gates; given = I .given; records = I .records; passes = I .passes }
 
 abbrev pub graph : Input → List Node
 graph I = graphOf (I .gates)
@@ -36,11 +42,11 @@ remaining I done waiting = depth.remaining (length (graph I)) (graph I) done wai
 
 -- the build with so many rooms
 abbrev pub built : Input → ℕ → build.Answer
-built I rooms = build.build (I .K) (graph I) (I .given) (groups I) rooms
+built I rooms = build.build (I .rule) (I .K) (graph I) (I .given) (groups I) rooms
 
 -- where it stands after s completed stages
 abbrev pub after : Input → ℕ → states.State
-after I s = states.after (I .K) (graph I) (I .given) (groups I) s
+after I s = states.after (I .rule) (I .K) (graph I) (I .given) (groups I) s
 
 -- the graph value of a pin, for any leaf and given bits
 abbrev pub graphValue : Input → List ℕ → ℕ → Bool

@@ -111,7 +111,7 @@ fn with_records(numbers: &[u8], line: &[u8], gates: &[u32]) {
 }
 
 fn check(numbers: &[u8], gates: &[u32], given: &[u32], records: &[u32]) {
-    say_u32(checks::check(
+    let verdict = checks::check(
         narrow(numbers, 1),
         gates,
         given,
@@ -120,5 +120,6 @@ fn check(numbers: &[u8], gates: &[u32], given: &[u32], records: &[u32]) {
         number(numbers, 3),
         number(numbers, 4),
         number(numbers, 5),
-    ));
+    );
+    say_u32(verdict.number);
 }

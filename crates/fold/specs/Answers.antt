@@ -1,11 +1,28 @@
 -- The numbers of the answers. Assumes nothing.
 use Prim.Native.Nat.{ℕ}
+use mathlib.Core.List.{List}
+use mathlib.Core.Path.{_≡_}
+use Rattle.rules.specs.Checks.{pinShown}
 use Rattle.fold.specs.declared.Answer.{Answer}
-use Rattle.fold.specs.declared.Answer.the-variants.{Folded, NoHeight, WrongSize, WrongGraph, WrongGiven}
+use Rattle.fold.specs.declared.Answer.the-variants.{Folded, NoHeight, WrongSize, WrongGraph, Looped, WrongGiven}
 
 unfoldable pub numberFor : Answer → ℕ
 numberFor Folded = 0
 numberFor NoHeight = 1
 numberFor WrongSize = 2
 numberFor WrongGraph = 3
+numberFor (Looped p) = 23
 numberFor WrongGiven = 5
+
+unfoldable pub pinFor : Answer → ℕ
+pinFor Folded = 0
+pinFor NoHeight = 0
+pinFor WrongSize = 0
+pinFor WrongGraph = 0
+pinFor (Looped p) = p
+pinFor WrongGiven = 0
+
+-- an answer tells the number n, and the pin shown with it
+pub record Told (n : ℕ) (gates : List ℕ) (a : Answer) : Type 0 where
+  pub number : numberFor a ≡ n
+  pub pin : pinFor a ≡ pinShown n gates

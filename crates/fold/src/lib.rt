@@ -9,13 +9,15 @@ ghost use mathlib.Core.Path.{_≡_};
 ghost use mathlib.Core.Bool.{_&&_};
 ghost use Rattle.rules.specs.Cells.{isHeight};
 ghost use Rattle.rules.specs.Fold.{foldSized, foldRefusal, foldResult};
-ghost use Rattle.fold.specs.Answers.{numberFor};
+ghost use Rattle.fold.specs.Answers.{numberFor, Told};
 
+// With `Looped` the smallest pin on any loop.
 pub enum Answer {
     Folded,
     NoHeight,
     WrongSize,
     WrongGraph,
+    Looped(usize),
     WrongGiven,
 }
 
@@ -28,6 +30,7 @@ impl Answer {
             Answer::NoHeight => 1,
             Answer::WrongSize => 2,
             Answer::WrongGraph => 3,
+            Answer::Looped(_) => 23,
             Answer::WrongGiven => 5,
         }
     }
@@ -50,7 +53,7 @@ fn areas_sized(height: u32, plan: &[u32], gates: &[u32], bits: usize, result: us
     pins <= result - plan.len()
 }
 
-// The first of 1, 2, 3 and 5 that applies, else 0. There are no records.
+// The first of 1, 2, 3, 23 and 5 that applies, else 0. There are no records.
 fn check(
     height: u32,
     plan: &[u32],
@@ -59,15 +62,17 @@ fn check(
     bits: &[u32],
     result: &[u32],
 ) -> Answer
-    ensures { λ r. ⌜ numberFor r ≡ foldRefusal height (now (plan .entry)) (now (gates .entry)) (now (given .entry)) (now (bits .entry)) (now (result .entry)) ⌝ }
+    ensures { λ r. ⌜ Told (foldRefusal height (now (plan .entry)) (now (gates .entry)) (now (given .entry)) (now (bits .entry)) (now (result .entry))) (now (gates .entry)) r ⌝ }
 {
     let sized = areas_sized(height, plan, gates, bits.len(), result.len());
-    let number = refusal(height, sized, gates, given, &given[0..0]);
+    let verdict = refusal(height, sized, gates, given, &given[0..0]);
+    let number = verdict.number;
     match number {
         0 => Answer::Folded,
         1 => Answer::NoHeight,
         2 => Answer::WrongSize,
         3 => Answer::WrongGraph,
+        23 => Answer::Looped(verdict.pin),
         _ => Answer::WrongGiven,
     }
 }
@@ -81,7 +86,7 @@ pub fn fold(
     bits: &[u32],
     result: &mut [u32],
 ) -> Answer
-    ensures answer { λ r. ⌜ numberFor r ≡ foldRefusal height (now (plan .entry)) (now (gates .entry)) (now (given .entry)) (now (bits .entry)) (now (result .entry)) ⌝ }
+    ensures answer { λ r. ⌜ Told (foldRefusal height (now (plan .entry)) (now (gates .entry)) (now (given .entry)) (now (bits .entry)) (now (result .entry))) (now (gates .entry)) r ⌝ }
     ensures areas { λ _. ⌜ now (result .exit) ≡ foldResult height (now (plan .entry)) (now (gates .entry)) (now (given .entry)) (now (bits .entry)) (now (result .entry)) ⌝ }
 {
     let answer = check(height, plan, gates, given, bits, result);

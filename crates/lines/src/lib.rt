@@ -7,7 +7,7 @@ ghost use Prim.Native.Nat.{_+_, _*_};
 ghost use lib.ListN.{take, drop};
 ghost use Rattle.rules.specs.Lists.{count};
 ghost use Rattle.rules.specs.Cells.{filled};
-ghost use Rattle.rules.specs.Listing.{text, decimal, spaced, wordsText, cellLines, stageLines, stagesLines, listing, refusedLine};
+ghost use Rattle.rules.specs.Listing.{text, decimal, spaced, wordsText, cellLines, stageLines, stagesLines, listing, pinText, refusedLine};
 ghost use Rattle.lines.specs.Laid.{Laid};
 ghost use Rattle.lines.specs.Stages.{stagesIn, Holds, HoldsOne};
 
@@ -191,12 +191,24 @@ pub fn whole(
     put_text(out, limit, b, b"end\n")
 }
 
-pub fn refused_line(out: &mut [u8], limit: usize, number: u32, stage: usize) -> usize
-    ensures { λ r. ⌜ Laid limit 0 (refusedLine number stage) (now (out .entry)) r (now (out .exit)) ⌝ }
+fn pin_text(out: &mut [u8], limit: usize, at: usize, pin: usize) -> usize
+    ensures { λ r. ⌜ Laid limit at (pinText pin) (now (out .entry)) r (now (out .exit)) ⌝ }
+{
+    if pin == 0 {
+        return put_text(out, limit, at, b"");
+    }
+    let a = put_text(out, limit, at, b" pin ");
+    put_decimal(out, limit, a, pin)
+}
+
+// The pin is shown where it is not 0.
+pub fn refused_line(out: &mut [u8], limit: usize, number: u32, stage: usize, pin: usize) -> usize
+    ensures { λ r. ⌜ Laid limit 0 (refusedLine number stage pin) (now (out .entry)) r (now (out .exit)) ⌝ }
 {
     let a = put_text(out, limit, 0, b"refused ");
     let b = put_decimal(out, limit, a, wide(number));
     let d = put_text(out, limit, b, b" stage ");
     let e = put_decimal(out, limit, d, stage);
-    put_text(out, limit, e, b"\n")
+    let f = pin_text(out, limit, e, pin);
+    put_text(out, limit, f, b"\n")
 }

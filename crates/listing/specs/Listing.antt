@@ -35,6 +35,6 @@ listed K n plan words counts out =
     ]
 
 -- a refusal's line, or the listing
-unfoldable pub answered : (K number stages stage : ℕ) → (plan words counts out : List ℕ) → Outcome
-answered K number stages stage plan words counts out =
-    elim (eqb number 0) [ false ↦ written (refusedLine number stage) out | true ↦ listed K stages plan words counts out ]
+unfoldable pub answered : (K number stages stage pin : ℕ) → (plan words counts out : List ℕ) → Outcome
+answered K number stages stage pin plan words counts out =
+    elim (eqb number 0) [ false ↦ written (refusedLine number stage pin) out | true ↦ listed K stages plan words counts out ]

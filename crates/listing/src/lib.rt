@@ -110,20 +110,20 @@ pub fn listing(
     lay(height, size, n, plan, words, counts, out)
 }
 
-// A refusal's line.
-pub fn refused(number: u32, stage: usize, out: &mut [u8]) -> Written
-    ensures { λ r. ⌜ outcome (r .number) (r .length) (now (out .exit)) ≡ written (refusedLine number stage) (now (out .entry)) ⌝ }
+// A refusal's line; the pin is shown where it is not 0.
+pub fn refused(number: u32, stage: usize, pin: usize, out: &mut [u8]) -> Written
+    ensures { λ r. ⌜ outcome (r .number) (r .length) (now (out .exit)) ≡ written (refusedLine number stage pin) (now (out .entry)) ⌝ }
 {
     let mut nowhere: [u8; 1] = [0; 1];
     let limit = out.len() + 1;
-    let length = refused_line(&mut nowhere, limit, number, stage);
+    let length = refused_line(&mut nowhere, limit, number, stage, pin);
     if length > out.len() {
         return Written {
             number: 2,
             length: 0,
         };
     }
-    refused_line(out, limit, number, stage);
+    refused_line(out, limit, number, stage, pin);
     Written {
         number: 0,
         length: length,
@@ -136,15 +136,16 @@ pub fn answer_text(
     number: u32,
     stages: usize,
     stage: usize,
+    pin: usize,
     plan: &[u32],
     words: &[u32],
     counts: &[u32],
     out: &mut [u8],
 ) -> Written
-    ensures { λ r. ⌜ outcome (r .number) (r .length) (now (out .exit)) ≡ answered height number stages stage (now (plan .entry)) (now (words .entry)) (now (counts .entry)) (now (out .entry)) ⌝ }
+    ensures { λ r. ⌜ outcome (r .number) (r .length) (now (out .exit)) ≡ answered height number stages stage pin (now (plan .entry)) (now (words .entry)) (now (counts .entry)) (now (out .entry)) ⌝ }
 {
     if number != 0 {
-        return refused(number, stage, out);
+        return refused(number, stage, pin, out);
     }
     listing(height, stages, plan, words, counts, out)
 }

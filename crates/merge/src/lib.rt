@@ -7,17 +7,20 @@ use originals::Originals;
 use originals::build_originals;
 use placer::areas::empty_all;
 use rounds::merge_slots;
+use runs::WordRule;
 use slots::begun;
 use unions::table::locate;
 ghost use mathlib.Core.Path.{_≡_};
+ghost use Rattle.rules.specs.Traversal.{neededRuns};
 ghost use Rattle.rules.specs.Merge.{merger};
+ghost use Rattle.runs.specs.Rule.{ruleOf};
 ghost use Rattle.mergechecks.specs.Values.{groupList, areas};
 ghost use Rattle.merge.specs.Merge.{JoinAt, Joined, PlaceAt, Placed, refusedFor, outcome};
 
 mod entry;
 
 // The scope document's number, the sums of stages and words, the refused stage, the partitions left, the unions examined, the refused
-// partition from 1.
+// partition from 1, and with 23 the smallest pin on any loop.
 pub struct Answer {
     pub number: u32,
     pub stages: usize,
@@ -26,6 +29,7 @@ pub struct Answer {
     pub partitions: usize,
     pub trials: usize,
     pub refused: usize,
+    pub pin: usize,
 }
 
 fn refuse(number: u32, stage: usize, refused: usize) -> Answer
@@ -39,12 +43,14 @@ fn refuse(number: u32, stage: usize, refused: usize) -> Answer
         partitions: 0,
         trials: 0,
         refused: refused,
+        pin: 0,
     }
 }
 
 // The partitions built, merged and laid out. The table of record starts stands from `table` on, the slots' own numbers from `base` on.
 fn join(
     height: u32,
+    rule: WordRule,
     gates: &[u32],
     given: &[u32],
     records: &[u32],
@@ -61,10 +67,11 @@ fn join(
     base: usize,
 ) -> Answer
     requires { ⌜ JoinAt height m table base extra (now gates) (now given) (now records) (now indices) (now lengths) (now stages) (now plan) (now words) (now counts) (now work) ⌝ }
-    ensures { λ r. ⌜ Joined height extra (now (gates .entry)) (now (given .entry)) (now (records .entry)) (now (indices .entry)) (now (lengths .entry)) (now (stages .entry)) (now (plan .entry)) r (now (indices .exit)) (now (lengths .exit)) (now (stages .exit)) ⌝ }
+    ensures { λ r. ⌜ Joined (ruleOf rule) height extra (now (gates .entry)) (now (given .entry)) (now (records .entry)) (now (indices .entry)) (now (lengths .entry)) (now (stages .entry)) (now (plan .entry)) r (now (indices .exit)) (now (lengths .exit)) (now (stages .exit)) ⌝ }
 {
     let built = build_originals(
         height,
+        rule,
         gates,
         given,
         records,
@@ -84,6 +91,7 @@ fn join(
             let ranks = begun(lengths.len());
             let trials = merge_slots(
                 height,
+                rule,
                 gates,
                 given,
                 records,
@@ -108,6 +116,7 @@ fn join(
                 partitions: left.partitions,
                 trials: trials,
                 refused: 0,
+                pin: 0,
             }
         }
     }
@@ -116,6 +125,7 @@ fn join(
 // The merge of partitions that passed the checks, in areas of exactly their counted sizes.
 fn place(
     height: u32,
+    rule: WordRule,
     gates: &[u32],
     given: &[u32],
     records: &[u32],
@@ -129,7 +139,7 @@ fn place(
     work: &mut [u32],
 ) -> Answer
     requires { ⌜ PlaceAt height extra (now gates) (now given) (now records) (now indices) (now lengths) (now stages) (now plan) (now words) (now counts) (now work) ⌝ }
-    ensures { λ r. ⌜ Placed height extra (now (gates .entry)) (now (given .entry)) (now (records .entry)) (now (indices .entry)) (now (lengths .entry)) (now (stages .entry)) (now (plan .entry)) (now (words .entry)) (now (counts .entry)) (now (work .entry)) r (now (indices .exit)) (now (lengths .exit)) (now (stages .exit)) (now (plan .exit)) (now (words .exit)) (now (counts .exit)) (now (work .exit)) ⌝ }
+    ensures { λ r. ⌜ Placed (ruleOf rule) height extra (now (gates .entry)) (now (given .entry)) (now (records .entry)) (now (indices .entry)) (now (lengths .entry)) (now (stages .entry)) (now (plan .entry)) (now (words .entry)) (now (counts .entry)) (now (work .entry)) r (now (indices .exit)) (now (lengths .exit)) (now (stages .exit)) (now (plan .exit)) (now (words .exit)) (now (counts .exit)) (now (work .exit)) ⌝ }
 {
     empty_all(plan, words, counts, work);
     let m = pin_count(gates);
@@ -138,6 +148,7 @@ fn place(
     locate(records, work, table);
     let a = join(
         height,
+        rule,
         gates,
         given,
         records,
@@ -157,8 +168,73 @@ fn place(
     a
 }
 
-// Merges partitions of the records' groups while no union has more stages than the greatest of them and `extra` more. The group list
-// holds the merged partitions in their final order; plan, words, counts and work are scratch.
+// Merges partitions of the records' groups while no union has more stages than the greatest of them and `extra` more, building under a
+// word rule. The group list holds the merged partitions in their final order; plan, words, counts and work are scratch.
+pub fn merge_by(
+    rule: WordRule,
+    height: u32,
+    gates: &[u32],
+    given: &[u32],
+    records: &[u32],
+    indices: &mut [u32],
+    lengths: &mut [u32],
+    stages: &mut [u32],
+    extra: usize,
+    plan: &mut [u32],
+    words: &mut [u32],
+    counts: &mut [u32],
+    work: &mut [u32],
+) -> Answer
+    ensures { λ r. ⌜ outcome r (now (indices .exit)) (now (lengths .exit)) (now (stages .exit)) (now (plan .exit)) (now (words .exit)) (now (counts .exit)) (now (work .exit)) ≡ merger (ruleOf rule) height (now (gates .entry)) (now (given .entry)) (now (records .entry)) (groupList (now (indices .entry)) (now (lengths .entry)) (now (stages .entry))) extra (areas (now (plan .entry)) (now (words .entry)) (now (counts .entry)) (now (work .entry))) ⌝ }
+{
+    let verdict = merge_refusal(
+        height,
+        gates,
+        given,
+        records,
+        indices,
+        lengths,
+        stages,
+        extra,
+        plan,
+        words,
+        counts,
+        work,
+    );
+    if verdict.number != 0 {
+        return Answer {
+            number: verdict.number,
+            stages: 0,
+            words: 0,
+            stage: 0,
+            partitions: 0,
+            trials: 0,
+            refused: 0,
+            pin: verdict.pin,
+        };
+    }
+    let limit = Height(height).word_limit();
+    let rooms = Height(height).rooms(plan.len());
+    let own = 8 * lengths.len() + 8 * indices.len();
+    let need = 16 * pin_count(gates) + 8 * records.len() + 512 + own;
+    place(
+        height,
+        rule,
+        gates,
+        given,
+        records,
+        indices,
+        lengths,
+        stages,
+        extra,
+        plan,
+        &mut words[0..limit],
+        &mut counts[0..rooms],
+        &mut work[0..need],
+    )
+}
+
+// The same under the rule that writes no idle run.
 pub fn merge(
     height: u32,
     gates: &[u32],
@@ -173,9 +249,10 @@ pub fn merge(
     counts: &mut [u32],
     work: &mut [u32],
 ) -> Answer
-    ensures { λ r. ⌜ outcome r (now (indices .exit)) (now (lengths .exit)) (now (stages .exit)) (now (plan .exit)) (now (words .exit)) (now (counts .exit)) (now (work .exit)) ≡ merger height (now (gates .entry)) (now (given .entry)) (now (records .entry)) (groupList (now (indices .entry)) (now (lengths .entry)) (now (stages .entry))) extra (areas (now (plan .entry)) (now (words .entry)) (now (counts .entry)) (now (work .entry))) ⌝ }
+    ensures { λ r. ⌜ outcome r (now (indices .exit)) (now (lengths .exit)) (now (stages .exit)) (now (plan .exit)) (now (words .exit)) (now (counts .exit)) (now (work .exit)) ≡ merger neededRuns height (now (gates .entry)) (now (given .entry)) (now (records .entry)) (groupList (now (indices .entry)) (now (lengths .entry)) (now (stages .entry))) extra (areas (now (plan .entry)) (now (words .entry)) (now (counts .entry)) (now (work .entry))) ⌝ }
 {
-    let number = merge_refusal(
+    merge_by(
+        WordRule::NeededRuns,
         height,
         gates,
         given,
@@ -188,26 +265,5 @@ pub fn merge(
         words,
         counts,
         work,
-    );
-    if number != 0 {
-        return refuse(number, 0, 0);
-    }
-    let limit = Height(height).word_limit();
-    let rooms = Height(height).rooms(plan.len());
-    let own = 8 * lengths.len() + 8 * indices.len();
-    let need = 16 * pin_count(gates) + 8 * records.len() + 512 + own;
-    place(
-        height,
-        gates,
-        given,
-        records,
-        indices,
-        lengths,
-        stages,
-        extra,
-        plan,
-        &mut words[0..limit],
-        &mut counts[0..rooms],
-        &mut work[0..need],
     )
 }

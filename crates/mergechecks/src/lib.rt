@@ -1,4 +1,5 @@
-// The checks of a merge: 1 to 5, then 10. Nothing is changed.
+// The checks of a merge: 1 to 5 and 23, then 10. Nothing is changed.
+use checks::Verdict;
 use checks::given_right;
 use checks::refusal;
 use columns::wide;
@@ -15,6 +16,7 @@ ghost use Rattle.rules.specs.Lists.{sum};
 ghost use Rattle.rules.specs.Cells.{isHeight};
 ghost use Rattle.rules.specs.Records.{groupsOf};
 ghost use Rattle.rules.specs.Merge.{mergeable, mergeRefusal};
+ghost use Rattle.checks.specs.Values.{Says};
 ghost use Rattle.mergechecks.specs.Values.{Readable, groupList, areas, mergeAreas};
 
 // Do the lengths sum to `total`? They are taken off it one by one, so that nothing wraps.
@@ -98,7 +100,7 @@ fn may_merge(records: &[u32], indices: &[u32], lengths: &[u32], extra: usize) ->
     given_right(groups_in(records), indices)
 }
 
-// The first of 1 to 5 and 10 that applies, or 0.
+// The first of 1, 2, 3, 23, 4, 5 and 10 that applies, or 0.
 pub fn merge_refusal(
     height: u32,
     gates: &[u32],
@@ -112,8 +114,8 @@ pub fn merge_refusal(
     words: &[u32],
     counts: &[u32],
     work: &[u32],
-) -> u32
-    ensures { λ r. ⌜ r ≡ mergeRefusal height (now (gates .entry)) (now (given .entry)) (now (records .entry)) (groupList (now (indices .entry)) (now (lengths .entry)) (now (stages .entry))) extra (areas (now (plan .entry)) (now (words .entry)) (now (counts .entry)) (now (work .entry))) ⌝ }
+) -> Verdict
+    ensures { λ r. ⌜ Says (mergeRefusal height (now (gates .entry)) (now (given .entry)) (now (records .entry)) (groupList (now (indices .entry)) (now (lengths .entry)) (now (stages .entry))) extra (areas (now (plan .entry)) (now (words .entry)) (now (counts .entry)) (now (work .entry)))) (now (gates .entry)) r ⌝ }
 {
     let sized = merge_sized(
         height,
@@ -127,12 +129,12 @@ pub fn merge_refusal(
         counts.len(),
         work.len(),
     );
-    let number = refusal(height, sized, gates, given, records);
-    if number != 0 {
-        return number;
+    let verdict = refusal(height, sized, gates, given, records);
+    if verdict.number != 0 {
+        return verdict;
     }
     if may_merge(records, indices, lengths, extra) {
-        return 0;
+        return verdict;
     }
-    10
+    Verdict { number: 10, pin: 0 }
 }

@@ -7,6 +7,7 @@ use lib.ListN.{length, getD}
 use Rattle.rules.specs.Lists.{sum}
 use Rattle.rules.specs.Graph.{pinCount}
 use Rattle.rules.specs.Records.{groupsOf}
+use Rattle.rules.specs.Traversal.{WordRule}
 use Rattle.rules.specs.Build as rules
 use Rattle.rules.specs.Merge.{Common, Part, Parts, bad, good, builtOf, sizeFor, original, mostStages, splitBy}
 use Rattle.rules.proofs.Lists.Members.{In}
@@ -72,13 +73,13 @@ pub record MeasureAt (K m table base n s : ℕ) (gates given records part pl ws 
   pub groups : Grouped m table records part
   pub inside : s < n
 
-pub record Measures (K m table base n s : ℕ) (gates given records part pl ws cs w : List ℕ) (a : Answer) (pl′ ws′ cs′ w′ : List ℕ) : Type 0 where
+pub record Measures (rule : WordRule) (K m table base n s : ℕ) (gates given records part pl ws cs w : List ℕ) (a : Answer) (pl′ ws′ cs′ w′ : List ℕ) : Type 0 where
   pub plan : pl′ ≡ pl
   pub words : ws′ ≡ ws
   pub counts : cs′ ≡ cs
   pub changes : Changes m table base n w w′
   pub few : a .stages ≤ m
-  pub reply : (J : Common) → Places K (length pl) gates given records J → told a ≡ rules.reply (builtOf J part)
+  pub reply : (J : Common) → Places rule K (length pl) gates given records J → told a ≡ rules.reply (builtOf J part)
   pub noted : a .number ≡ 0 → Noted m table base n s (a .stages) (a .words) gates given records part w w′
 
 -- ---- every slot
@@ -98,12 +99,12 @@ unfoldable pub partsFor : Originals → List Part → Parts
 partsFor (Refused i n k) ps = bad i n k
 partsFor (Built most) ps = good ps
 
-pub record Given (K m table base : ℕ) (gates given records xs ls pl ws cs w : List ℕ) (r : Originals) (pl′ ws′ cs′ w′ : List ℕ) : Type 0 where
+pub record Given (rule : WordRule) (K m table base : ℕ) (gates given records xs ls pl ws cs w : List ℕ) (r : Originals) (pl′ ws′ cs′ w′ : List ℕ) : Type 0 where
   pub plan : pl′ ≡ pl
   pub words : ws′ ≡ ws
   pub counts : cs′ ≡ cs
   pub changes : Changes m table base (length ls) w w′
-  pub answer : (J : Common) → Places K (length pl) gates given records J
+  pub answer : (J : Common) → Places rule K (length pl) gates given records J
       → original J 0 (splitBy ls xs) ≡ partsFor r (allHeld (length ls) ls xs (owned base (length ls) w′))
   pub most : (k : ℕ) → r ≡ Built k → mostStages (allHeld (length ls) ls xs (owned base (length ls) w′)) 0 ≡ k
   pub few : (k : ℕ) → r ≡ Built k → k ≤ m

@@ -1,11 +1,13 @@
 // The partitions as they are given. Each stands in a slot: it is built and measured before the first union is tried.
 use columns::wide;
 use placer::Answer;
+use runs::WordRule;
 use slots::store_built;
 use unions::build_union;
 use unions::sizing::size_union;
 ghost use mathlib.Core.Path.{_≡_};
 ghost use Prim.Native.Nat.{max};
+ghost use Rattle.runs.specs.Rule.{ruleOf};
 ghost use Rattle.originals.specs.Originals.{NoteAt, Noted, MeasureAt, Measures, OriginalsAt, Given};
 
 pub enum Originals {
@@ -41,6 +43,7 @@ fn note(
 // Slot s built and measured, or its refusal.
 pub fn measure(
     height: u32,
+    rule: WordRule,
     gates: &[u32],
     given: &[u32],
     records: &[u32],
@@ -56,10 +59,11 @@ pub fn measure(
     s: usize,
 ) -> Answer
     requires { ⌜ MeasureAt height m table base n s (now gates) (now given) (now records) (now part) (now plan) (now words) (now counts) (now work) ⌝ }
-    ensures { λ r. ⌜ Measures height m table base n s (now (gates .entry)) (now (given .entry)) (now (records .entry)) (now (part .entry)) (now (plan .entry)) (now (words .entry)) (now (counts .entry)) (now (work .entry)) r (now (plan .exit)) (now (words .exit)) (now (counts .exit)) (now (work .exit)) ⌝ }
+    ensures { λ r. ⌜ Measures (ruleOf rule) height m table base n s (now (gates .entry)) (now (given .entry)) (now (records .entry)) (now (part .entry)) (now (plan .entry)) (now (words .entry)) (now (counts .entry)) (now (work .entry)) r (now (plan .exit)) (now (words .exit)) (now (counts .exit)) (now (work .exit)) ⌝ }
 {
     let a = build_union(
         height,
+        rule,
         gates,
         given,
         records,
@@ -104,6 +108,7 @@ fn greater(a: usize, b: usize) -> usize
 // Each slot in turn, up to the first that is refused.
 pub fn build_originals(
     height: u32,
+    rule: WordRule,
     gates: &[u32],
     given: &[u32],
     records: &[u32],
@@ -118,7 +123,7 @@ pub fn build_originals(
     base: usize,
 ) -> Originals
     requires { ⌜ OriginalsAt height m table base (now gates) (now given) (now records) (now indices) (now lengths) (now plan) (now words) (now counts) (now work) ⌝ }
-    ensures { λ r. ⌜ Given height m table base (now (gates .entry)) (now (given .entry)) (now (records .entry)) (now (indices .entry)) (now (lengths .entry)) (now (plan .entry)) (now (words .entry)) (now (counts .entry)) (now (work .entry)) r (now (plan .exit)) (now (words .exit)) (now (counts .exit)) (now (work .exit)) ⌝ }
+    ensures { λ r. ⌜ Given (ruleOf rule) height m table base (now (gates .entry)) (now (given .entry)) (now (records .entry)) (now (indices .entry)) (now (lengths .entry)) (now (plan .entry)) (now (words .entry)) (now (counts .entry)) (now (work .entry)) r (now (plan .exit)) (now (words .exit)) (now (counts .exit)) (now (work .exit)) ⌝ }
 {
     let n = lengths.len();
     let mut most = 0;
@@ -128,6 +133,7 @@ pub fn build_originals(
         let next = at + wide(lengths[s]);
         let a = measure(
             height,
+            rule,
             gates,
             given,
             records,

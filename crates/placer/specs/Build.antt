@@ -1,4 +1,4 @@
--- The build of records that passed the checks 1 to 5, in areas of exactly their counted sizes. Assumes nothing.
+-- The build of records that passed the checks 1 to 5 and 23, in areas of exactly their counted sizes. Assumes nothing.
 use mathlib.Core.Path.{_≡_}
 use mathlib.Core.Bool.{Bool}
 use mathlib.Core.Logic.{_≢_}

@@ -6,18 +6,23 @@ use lib.ListN.{length, getD}
 use Rattle.rules.specs.Lists.{padded}
 use Rattle.rules.specs.Cells.{empty, wordLimit, rowAt, stageSize}
 use Rattle.rules.specs.Graph.{Node, graphOf}
+use Rattle.rules.specs.Traversal.{WordRule}
 use Rattle.rules.specs.Build as rules
+use Rattle.rules.proofs.Loops.{rank}
 use Rattle.rules.proofs.Demand.{Valid}
 use Rattle.rules.proofs.Stage.Depth.{Ready}
 use Rattle.columns.specs.Fields.{DONE, WAITING, CELLS, PLACE, MARK}
 use Rattle.columns.specs.Area.{Room}
 use Rattle.columns.specs.Lists.{Marks, Clear, Placed}
+use Rattle.runs.specs.declared.WordRule.{WordRule as Asked}
+use Rattle.runs.specs.Rule.{ruleOf}
 use Rattle.walk.specs.Stands.{Fresh}
 use Rattle.placer.specs.declared.Answer.{Answer}
 use Rattle.placer.specs.Answers.{told}
 
 -- what the stages start from: no value of the program
 pub record Course : Type 0 where
+  pub rule : WordRule
   pub K : ℕ
   pub g : List Node
   pub given : List ℕ
@@ -28,7 +33,7 @@ pub record Course : Type 0 where
   pub high : K ≤ 13
   pub valid : Valid g
   pub small : length g ≤ 65536
-  pub ready : Ready g (λ p. p) waiting
+  pub ready : Ready g (rank g) waiting
   pub limit : room ≤ wordLimit K
 
 pub record Some (P : Course → Type 0) : Type 0 where
@@ -40,7 +45,7 @@ pub record Every (P Q : Course → Type 0) : Type 0 where
 
 -- the answer that the stages give
 unfoldable pub answer : Course → rules.Answer
-answer C = rules.stages (C .K) (C .g) (C .rooms) 1 (C .given) (C .waiting) (C .room)
+answer C = rules.stages (C .rule) (C .K) (C .g) (C .rooms) 1 (C .given) (C .waiting) (C .room)
 
 -- the work area between two stages: the pins done are marked, n pins wait, and what a stage finds empty is empty
 pub record Between (m n : ℕ) (ds ps w : List ℕ) : Type 0 where
@@ -53,7 +58,8 @@ pub record Between (m n : ℕ) (ds ps w : List ℕ) : Type 0 where
   pub tail : (j : ℕ) → j < 258 → getD w (16 * m + j) 0 ≡ 0
 
 -- what the program has of the course
-pub record Known (C : Course) (m K half : ℕ) (gates : List ℕ) : Type 0 where
+pub record Known (C : Course) (m K half : ℕ) (asked : Asked) (gates : List ℕ) : Type 0 where
+  pub ruled : C .rule ≡ ruleOf asked
   pub height : K ≡ C .K
   pub row : half ≡ rowAt K 1
   pub graph : C .g ≡ graphOf gates
@@ -65,8 +71,8 @@ pub record Underway (C : Course) (m k at n : ℕ) (pl ws cs w : List ℕ) : Type
   pub ss : List rules.Stage
   pub done : List ℕ
   pub waiting : List ℕ
-  pub same : answer C ≡ rules.before ss (rules.stages (C .K) (C .g) (C .rooms - k) (suc k) done waiting (C .room - at))
-  pub ready : Ready (C .g) (λ p. p) waiting
+  pub same : answer C ≡ rules.before ss (rules.stages (C .rule) (C .K) (C .g) (C .rooms - k) (suc k) done waiting (C .room - at))
+  pub ready : Ready (C .g) (rank (C .g)) waiting
   pub count : length ss ≡ k
   pub few : k ≤ C .rooms
   pub cells : length (rules.cellsOf ss) ≡ k * stageSize (C .K)
@@ -87,8 +93,8 @@ pub record Kept (pl ws cs w pl′ ws′ cs′ w′ : List ℕ) : Type 0 where
 
 -- ---- one stage: the next one, for which there is room
 
-pub record OneAt (C : Course) (m K half k n at room : ℕ) (gates pl ws cs w : List ℕ) : Type 0 where
-  pub known : Known C m K half gates
+pub record OneAt (C : Course) (m K half : ℕ) (asked : Asked) (k n at room : ℕ) (gates pl ws cs w : List ℕ) : Type 0 where
+  pub known : Known C m K half asked gates
   pub now : Underway C m k at n pl ws cs w
   pub left : room ≡ C .room - at
   pub waits : 0 < n
@@ -101,8 +107,8 @@ pub record One (C : Course) (m k at : ℕ) (pl ws cs w : List ℕ) (number writt
 
 -- ---- from stage k + 1 on
 
-pub record StagesAt (C : Course) (m K half rooms k at n room : ℕ) (gates pl ws cs w : List ℕ) : Type 0 where
-  pub known : Known C m K half gates
+pub record StagesAt (C : Course) (m K half : ℕ) (asked : Asked) (rooms k at n room : ℕ) (gates pl ws cs w : List ℕ) : Type 0 where
+  pub known : Known C m K half asked gates
   pub now : Underway C m k at n pl ws cs w
   pub all : rooms ≡ C .rooms
   pub short : rooms < 2 ^ 63

@@ -1,12 +1,64 @@
-// The entry for other languages: numbers and slices only.
-use crate::build;
+// The entries for other languages: numbers and slices only.
+use crate::Answer;
+use crate::build_by;
 use columns::wide;
+use runs::MaybeRule;
+use runs::WordRule;
+use runs::rule_named;
 ghost use mathlib.Core.Path.{_≡_};
-ghost use Rattle.placer.specs.Answers.{areas};
-ghost use Rattle.placer.specs.Entry.{entry, entered};
+ghost use Prim.Native.Nat.{_≤_};
+ghost use lib.ListN.{length};
+ghost use Rattle.rules.specs.Traversal.{neededRuns};
+ghost use Rattle.runs.specs.Rule.{ruleOf, ruleFor};
+ghost use Rattle.placer.specs.Answers.{told, areas};
+ghost use Rattle.placer.specs.Entry.{entry, written, entered, NoRule, enteredBy};
 
-// As `build`, with number, stages, words and refused stage in the first four numbers of `answer`. Returns the number. Where `answer` is
-// shorter that is 2, and nothing is changed.
+// Number, stages, words, refused stage and shown pin in the first five numbers of `answer`.
+fn write(a: Answer, answer: &mut [usize])
+    requires { ⌜ 5 ≤ length (now answer) ⌝ }
+    ensures { λ _. ⌜ now (answer .exit) ≡ written (told a) (now (answer .entry)) ⌝ }
+{
+    answer[0] = wide(a.number);
+    answer[1] = a.stages;
+    answer[2] = a.words;
+    answer[3] = a.stage;
+    answer[4] = a.pin;
+}
+
+fn enter(
+    rule: WordRule,
+    height: u32,
+    gates: &[u32],
+    given: &[u32],
+    records: &[u32],
+    plan: &mut [u32],
+    words: &mut [u32],
+    counts: &mut [u32],
+    work: &mut [u32],
+    answer: &mut [usize],
+) -> u32
+    ensures { λ r. ⌜ entry r (now (plan .exit)) (now (words .exit)) (now (counts .exit)) (now (work .exit)) (now (answer .exit)) ≡ entered (ruleOf rule) height (now (gates .entry)) (now (given .entry)) (now (records .entry)) (areas (now (plan .entry)) (now (words .entry)) (now (counts .entry)) (now (work .entry))) (now (answer .entry)) ⌝ }
+{
+    if answer.len() < 5 {
+        return 2;
+    }
+    let a = build_by(
+        rule,
+        height,
+        gates,
+        given,
+        records,
+        plan,
+        words,
+        counts,
+        work,
+    );
+    write(a, answer);
+    a.number
+}
+
+// As `build`, with the answer in the first five numbers of `answer`. Returns the number. Where `answer` is shorter that is 2, and nothing
+// is changed.
 #[no_mangle]
 pub extern "C" fn placer_build(
     height: u32,
@@ -19,16 +71,71 @@ pub extern "C" fn placer_build(
     work: &mut [u32],
     answer: &mut [usize],
 ) -> u32
-    ensures { λ r. ⌜ entry r (now (plan .exit)) (now (words .exit)) (now (counts .exit)) (now (work .exit)) (now (answer .exit)) ≡ entered height (now (gates .entry)) (now (given .entry)) (now (records .entry)) (areas (now (plan .entry)) (now (words .entry)) (now (counts .entry)) (now (work .entry))) (now (answer .entry)) ⌝ }
+    ensures { λ r. ⌜ entry r (now (plan .exit)) (now (words .exit)) (now (counts .exit)) (now (work .exit)) (now (answer .exit)) ≡ entered neededRuns height (now (gates .entry)) (now (given .entry)) (now (records .entry)) (areas (now (plan .entry)) (now (words .entry)) (now (counts .entry)) (now (work .entry))) (now (answer .entry)) ⌝ }
 {
-    if answer.len() < 4 {
+    enter(
+        WordRule::NeededRuns,
+        height,
+        gates,
+        given,
+        records,
+        plan,
+        words,
+        counts,
+        work,
+        answer,
+    )
+}
+
+// The answer where no rule is named: 2.
+fn no_rule(answer: &mut [usize]) -> u32
+    ensures { λ r. ⌜ NoRule r (now (answer .entry)) (now (answer .exit)) ⌝ }
+{
+    if answer.len() < 5 {
         return 2;
     }
-    let a = build(height, gates, given, records, plan, words, counts, work);
-    let number = a.number;
-    answer[0] = wide(number);
-    answer[1] = a.stages;
-    answer[2] = a.words;
-    answer[3] = a.stage;
-    number
+    write(
+        Answer {
+            number: 2,
+            stages: 0,
+            words: 0,
+            stage: 0,
+            pin: 0,
+        },
+        answer,
+    );
+    2
+}
+
+// The same by the number of a word rule, 0 or 1; another number gives 2 before anything else.
+#[no_mangle]
+pub extern "C" fn placer_build_by(
+    rule: u32,
+    height: u32,
+    gates: &[u32],
+    given: &[u32],
+    records: &[u32],
+    plan: &mut [u32],
+    words: &mut [u32],
+    counts: &mut [u32],
+    work: &mut [u32],
+    answer: &mut [usize],
+) -> u32
+    ensures { λ r. ⌜ entry r (now (plan .exit)) (now (words .exit)) (now (counts .exit)) (now (work .exit)) (now (answer .exit)) ≡ enteredBy (ruleFor rule) height (now (gates .entry)) (now (given .entry)) (now (records .entry)) (areas (now (plan .entry)) (now (words .entry)) (now (counts .entry)) (now (work .entry))) (now (answer .entry)) ⌝ }
+{
+    match rule_named(rule) {
+        MaybeRule::Unknown => no_rule(answer),
+        MaybeRule::Named(asked) => enter(
+            asked,
+            height,
+            gates,
+            given,
+            records,
+            plan,
+            words,
+            counts,
+            work,
+            answer,
+        ),
+    }
 }

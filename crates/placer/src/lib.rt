@@ -1,16 +1,19 @@
-// The placer: the checks 1 to 5, the reservation, then stage after stage until no pin waits.
+// The placer: the checks 1 to 5 and 23, the reservation, then stage after stage until no pin waits.
 use areas::empty_all;
 use areas::tidy;
 use cells::Height;
 use checks::check;
 use columns::wide;
 use graph::pin_count;
+use runs::WordRule;
 use stages::stages;
 use start::Opening;
 use start::begin;
 ghost use mathlib.Core.Path.{_≡_};
 ghost use lib.ListN.{length};
 ghost use Rattle.rules.specs.Build.{placer, answerOf};
+ghost use Rattle.rules.specs.Traversal.{neededRuns};
+ghost use Rattle.runs.specs.Rule.{ruleOf};
 ghost use Rattle.placer.specs.Answers.{areas, outcome};
 ghost use Rattle.placer.specs.Build.{PlaceAt, TryAt, Tried, Placed};
 
@@ -18,17 +21,19 @@ pub mod areas;
 mod entry;
 pub mod stages;
 
-// The scope document's number, the stages and words of a whole plan, the refused stage.
+// The scope document's number, the stages and words of a whole plan, the refused stage, and with 23 the smallest pin on any loop.
 pub struct Answer {
     pub number: u32,
     pub stages: usize,
     pub words: usize,
     pub stage: usize,
+    pub pin: usize,
 }
 
 // The reservation and the stages, in empty areas.
 fn attempt(
     height: u32,
+    rule: WordRule,
     gates: &[u32],
     given: &[u32],
     records: &[u32],
@@ -38,7 +43,7 @@ fn attempt(
     work: &mut [u32],
 ) -> Answer
     requires { ⌜ TryAt height (now gates) (now given) (now records) (now plan) (now words) (now counts) (now work) ⌝ }
-    ensures { λ r. ⌜ Tried (answerOf height (now (gates .entry)) (now (given .entry)) (now (records .entry)) (length (now (plan .entry)))) (now (plan .entry)) (now (words .entry)) (now (counts .entry)) (now (work .entry)) r (now (plan .exit)) (now (words .exit)) (now (counts .exit)) (now (work .exit)) ⌝ }
+    ensures { λ r. ⌜ Tried (answerOf (ruleOf rule) height (now (gates .entry)) (now (given .entry)) (now (records .entry)) (length (now (plan .entry)))) (now (plan .entry)) (now (words .entry)) (now (counts .entry)) (now (work .entry)) r (now (plan .exit)) (now (words .exit)) (now (counts .exit)) (now (work .exit)) ⌝ }
 {
     let m = pin_count(gates);
     let half = Height(height).level_one_size();
@@ -51,6 +56,7 @@ fn attempt(
             stages: 0,
             words: 0,
             stage: 0,
+            pin: 0,
         },
         Opening::Ready(reserved, n) => {
             let room = limit - reserved;
@@ -63,6 +69,7 @@ fn attempt(
                 m,
                 wide(height),
                 half,
+                rule,
                 rooms,
                 n,
                 room,
@@ -74,6 +81,7 @@ fn attempt(
 // The build of records that passed the checks, in areas of exactly their counted sizes.
 fn place(
     height: u32,
+    rule: WordRule,
     gates: &[u32],
     given: &[u32],
     records: &[u32],
@@ -83,16 +91,75 @@ fn place(
     work: &mut [u32],
 ) -> Answer
     requires { ⌜ PlaceAt height (now gates) (now given) (now records) (now plan) (now words) (now counts) (now work) ⌝ }
-    ensures { λ r. ⌜ Placed (answerOf height (now (gates .entry)) (now (given .entry)) (now (records .entry)) (length (now (plan .entry)))) (now (plan .entry)) (now (words .entry)) (now (counts .entry)) (now (work .entry)) r (now (plan .exit)) (now (words .exit)) (now (counts .exit)) (now (work .exit)) ⌝ }
+    ensures { λ r. ⌜ Placed (answerOf (ruleOf rule) height (now (gates .entry)) (now (given .entry)) (now (records .entry)) (length (now (plan .entry)))) (now (plan .entry)) (now (words .entry)) (now (counts .entry)) (now (work .entry)) r (now (plan .exit)) (now (words .exit)) (now (counts .exit)) (now (work .exit)) ⌝ }
 {
     empty_all(plan, words, counts, work);
-    let a = attempt(height, gates, given, records, plan, words, counts, work);
+    let a = attempt(
+        height,
+        rule,
+        gates,
+        given,
+        records,
+        plan,
+        words,
+        counts,
+        work,
+    );
     tidy(a.number, plan, words, counts, work);
     a
 }
 
-// Lays the gates under the records' endpoints into stages of a tree of this height. Plan, words and counts hold what was built, and
-// work is scratch.
+// Lays the gates under the records' endpoints into stages of a tree of this height, under a word rule. Plan, words and counts hold what
+// was built, and work is scratch.
+pub fn build_by(
+    rule: WordRule,
+    height: u32,
+    gates: &[u32],
+    given: &[u32],
+    records: &[u32],
+    plan: &mut [u32],
+    words: &mut [u32],
+    counts: &mut [u32],
+    work: &mut [u32],
+) -> Answer
+    ensures { λ r. ⌜ outcome r (now (plan .exit)) (now (words .exit)) (now (counts .exit)) (now (work .exit)) ≡ placer (ruleOf rule) height (now (gates .entry)) (now (given .entry)) (now (records .entry)) (areas (now (plan .entry)) (now (words .entry)) (now (counts .entry)) (now (work .entry))) ⌝ }
+{
+    let verdict = check(
+        height,
+        gates,
+        given,
+        records,
+        plan.len(),
+        words.len(),
+        counts.len(),
+        work.len(),
+    );
+    if verdict.number != 0 {
+        return Answer {
+            number: verdict.number,
+            stages: 0,
+            words: 0,
+            stage: 0,
+            pin: verdict.pin,
+        };
+    }
+    let limit = Height(height).word_limit();
+    let rooms = Height(height).rooms(plan.len());
+    let need = 16 * pin_count(gates) + 8 * records.len() + 512;
+    place(
+        height,
+        rule,
+        gates,
+        given,
+        records,
+        plan,
+        &mut words[0..limit],
+        &mut counts[0..rooms],
+        &mut work[0..need],
+    )
+}
+
+// The same under the rule that writes no idle run.
 pub fn build(
     height: u32,
     gates: &[u32],
@@ -103,37 +170,17 @@ pub fn build(
     counts: &mut [u32],
     work: &mut [u32],
 ) -> Answer
-    ensures { λ r. ⌜ outcome r (now (plan .exit)) (now (words .exit)) (now (counts .exit)) (now (work .exit)) ≡ placer height (now (gates .entry)) (now (given .entry)) (now (records .entry)) (areas (now (plan .entry)) (now (words .entry)) (now (counts .entry)) (now (work .entry))) ⌝ }
+    ensures { λ r. ⌜ outcome r (now (plan .exit)) (now (words .exit)) (now (counts .exit)) (now (work .exit)) ≡ placer neededRuns height (now (gates .entry)) (now (given .entry)) (now (records .entry)) (areas (now (plan .entry)) (now (words .entry)) (now (counts .entry)) (now (work .entry))) ⌝ }
 {
-    let number = check(
-        height,
-        gates,
-        given,
-        records,
-        plan.len(),
-        words.len(),
-        counts.len(),
-        work.len(),
-    );
-    if number != 0 {
-        return Answer {
-            number: number,
-            stages: 0,
-            words: 0,
-            stage: 0,
-        };
-    }
-    let limit = Height(height).word_limit();
-    let rooms = Height(height).rooms(plan.len());
-    let need = 16 * pin_count(gates) + 8 * records.len() + 512;
-    place(
+    build_by(
+        WordRule::NeededRuns,
         height,
         gates,
         given,
         records,
         plan,
-        &mut words[0..limit],
-        &mut counts[0..rooms],
-        &mut work[0..need],
+        words,
+        counts,
+        work,
     )
 }

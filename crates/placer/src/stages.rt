@@ -1,5 +1,6 @@
 // Stage after stage, until no pin waits or one is refused.
 use crate::Answer;
+use runs::WordRule;
 use stage::Outcome;
 use stage::build_one_stage;
 use tally::Tally;
@@ -17,12 +18,13 @@ fn next_stage(
     m: usize,
     height: usize,
     half: usize,
+    rule: WordRule,
     k: usize,
     n: usize,
     tally: Tally,
 ) -> Outcome
-    requires { ⌜ Counted tally × Some (λ C. OneAt C m height half k n (tally .spent) (room tally) (now gates) (now plan) (now words) (now counts) (now work)) ⌝ }
-    ensures { λ r. ⌜ Every (λ C. OneAt C m height half k n (tally .spent) (room tally) (now (gates .entry)) (now (plan .entry)) (now (words .entry)) (now (counts .entry)) (now (work .entry))) (λ C. One C m k (tally .spent) (now (plan .entry)) (now (words .entry)) (now (counts .entry)) (now (work .entry)) (r .number) (r .words) (r .waiting) (now (plan .exit)) (now (words .exit)) (now (counts .exit)) (now (work .exit))) ⌝ }
+    requires { ⌜ Counted tally × Some (λ C. OneAt C m height half rule k n (tally .spent) (room tally) (now gates) (now plan) (now words) (now counts) (now work)) ⌝ }
+    ensures { λ r. ⌜ Every (λ C. OneAt C m height half rule k n (tally .spent) (room tally) (now (gates .entry)) (now (plan .entry)) (now (words .entry)) (now (counts .entry)) (now (work .entry))) (λ C. One C m k (tally .spent) (now (plan .entry)) (now (words .entry)) (now (counts .entry)) (now (work .entry)) (r .number) (r .words) (r .waiting) (now (plan .exit)) (now (words .exit)) (now (counts .exit)) (now (work .exit))) ⌝ }
 {
     let size = 4 * half;
     let a = k * size;
@@ -36,6 +38,7 @@ fn next_stage(
         height,
         half,
         n,
+        rule,
         tally,
     );
     if s.number != 0 {
@@ -55,12 +58,13 @@ pub fn stages(
     m: usize,
     height: usize,
     half: usize,
+    rule: WordRule,
     rooms: usize,
     n: usize,
     room: usize,
 ) -> Answer
-    requires { ⌜ Some (λ C. StagesAt C m height half rooms 0 0 n room (now gates) (now plan) (now words) (now counts) (now work)) ⌝ }
-    ensures { λ r. ⌜ Every (λ C. StagesAt C m height half rooms 0 0 n room (now (gates .entry)) (now (plan .entry)) (now (words .entry)) (now (counts .entry)) (now (work .entry))) (λ C. Ran C (now (plan .entry)) (now (words .entry)) (now (counts .entry)) (now (work .entry)) r (now (plan .exit)) (now (words .exit)) (now (counts .exit)) (now (work .exit))) ⌝ }
+    requires { ⌜ Some (λ C. StagesAt C m height half rule rooms 0 0 n room (now gates) (now plan) (now words) (now counts) (now work)) ⌝ }
+    ensures { λ r. ⌜ Every (λ C. StagesAt C m height half rule rooms 0 0 n room (now (gates .entry)) (now (plan .entry)) (now (words .entry)) (now (counts .entry)) (now (work .entry))) (λ C. Ran C (now (plan .entry)) (now (words .entry)) (now (counts .entry)) (now (work .entry)) r (now (plan .exit)) (now (words .exit)) (now (counts .exit)) (now (work .exit))) ⌝ }
 {
     let limit = words.len();
     let mut tally = Tally {
@@ -77,6 +81,7 @@ pub fn stages(
                 stages: 0,
                 words: 0,
                 stage: k + 1,
+                pin: 0,
             };
         }
         let s = next_stage(
@@ -88,6 +93,7 @@ pub fn stages(
             m,
             height,
             half,
+            rule,
             k,
             left,
             tally,
@@ -99,6 +105,7 @@ pub fn stages(
                 stages: 0,
                 words: 0,
                 stage: k + 1,
+                pin: 0,
             };
         }
         tally = spend(tally, s.words);
@@ -110,5 +117,6 @@ pub fn stages(
         stages: k,
         words: tally.spent,
         stage: 0,
+        pin: 0,
     }
 }

@@ -7,6 +7,7 @@ use listing::answer_text;
 use listing::refused;
 use placer::build;
 ghost use mathlib.Core.Path.{_≡_};
+ghost use Rattle.rules.specs.Traversal.{neededRuns};
 ghost use Rattle.rules.specs.Listing.{jobText, printed};
 ghost use Rattle.listing.specs.Listing.{outcome, written};
 ghost use Rattle.program.specs.Sizes.{jobOf, Fits, AreasAt, BuildAt, ReadAt};
@@ -24,7 +25,7 @@ fn built_text(
     out: &mut [u8],
 ) -> Written
     requires { ⌜ BuildAt height (now gates) (now records) (now plan) (now words) (now counts) (now work) ⌝ }
-    ensures { λ r. ⌜ outcome (r .number) (r .length) (now (out .exit)) ≡ written (jobText (jobOf height (now (gates .entry)) (now (given .entry)) (now (records .entry)))) (now (out .entry)) ⌝ }
+    ensures { λ r. ⌜ outcome (r .number) (r .length) (now (out .exit)) ≡ written (jobText neededRuns (jobOf height (now (gates .entry)) (now (given .entry)) (now (records .entry)))) (now (out .entry)) ⌝ }
 {
     let a = build(height, gates, given, records, plan, words, counts, work);
     answer_text(
@@ -32,6 +33,7 @@ fn built_text(
         a.number,
         a.stages,
         a.stage,
+        a.pin,
         plan,
         words,
         counts,
@@ -52,7 +54,7 @@ fn text_in(
     out: &mut [u8],
 ) -> Written
     requires { ⌜ AreasAt height (now gates) (now records) (now plan) (now words) (now counts) (now work) ⌝ }
-    ensures { λ r. ⌜ outcome (r .number) (r .length) (now (out .exit)) ≡ written (jobText (jobOf height (now (gates .entry)) (now (given .entry)) (now (records .entry)))) (now (out .entry)) ⌝ }
+    ensures { λ r. ⌜ outcome (r .number) (r .length) (now (out .exit)) ≡ written (jobText neededRuns (jobOf height (now (gates .entry)) (now (given .entry)) (now (records .entry)))) (now (out .entry)) ⌝ }
 {
     let size = 4 * Height(height).stage_size();
     built_text(
@@ -71,7 +73,7 @@ fn text_in(
 // The text of a job of the program's sizes.
 fn text_of(height: u32, gates: &[u32], given: &[u32], records: &[u32], out: &mut [u8]) -> Written
     requires { ⌜ Fits height (now gates) (now records) ⌝ }
-    ensures { λ r. ⌜ outcome (r .number) (r .length) (now (out .exit)) ≡ written (jobText (jobOf height (now (gates .entry)) (now (given .entry)) (now (records .entry)))) (now (out .entry)) ⌝ }
+    ensures { λ r. ⌜ outcome (r .number) (r .length) (now (out .exit)) ≡ written (jobText neededRuns (jobOf height (now (gates .entry)) (now (given .entry)) (now (records .entry)))) (now (out .entry)) ⌝ }
 {
     let mut plan: [u32; 8192] = [0; 8192];
     let mut words: [u32; 32] = [0; 32];
@@ -99,11 +101,11 @@ fn read_text(
     out: &mut [u8],
 ) -> Written
     requires { ⌜ ReadAt (now gates) (now given) (now records) ⌝ }
-    ensures { λ r. ⌜ outcome (r .number) (r .length) (now (out .exit)) ≡ written (printed (now (bytes .entry))) (now (out .entry)) ⌝ }
+    ensures { λ r. ⌜ outcome (r .number) (r .length) (now (out .exit)) ≡ written (printed neededRuns (now (bytes .entry))) (now (out .entry)) ⌝ }
 {
     let a = read(bytes, gates, given, records);
     if a.number != 0 {
-        return refused(11, 0, out);
+        return refused(11, 0, 0, out);
     }
     let g = a.gates;
     let n = a.given;
@@ -113,7 +115,7 @@ fn read_text(
 
 // What the program prints for a file's bytes, over the front of `out`; 2 and nothing changed where that is too short.
 pub fn job_text(bytes: &[u8], out: &mut [u8]) -> Written
-    ensures { λ r. ⌜ outcome (r .number) (r .length) (now (out .exit)) ≡ written (printed (now (bytes .entry))) (now (out .entry)) ⌝ }
+    ensures { λ r. ⌜ outcome (r .number) (r .length) (now (out .exit)) ≡ written (printed neededRuns (now (bytes .entry))) (now (out .entry)) ⌝ }
 {
     let mut gates: [u32; 1002] = [0; 1002];
     let mut given: [u32; 4096] = [0; 4096];

@@ -1,8 +1,10 @@
 // Merging, slot by slot: round after round the later slots are ranked, and the first union that is accepted is taken.
+use runs::WordRule;
 use slots::best;
 use slots::open_all;
 use trials::rank_all;
 use trials::try_union;
+ghost use Rattle.runs.specs.Rule.{ruleOf};
 ghost use Rattle.rounds.specs.Rounds.{RoundAt, Rounded, IntoAt, Into, SlotAt, Stepped, SlotsAt, Slotted};
 
 // What a round comes to: was a union accepted, and the unions examined so far.
@@ -20,6 +22,7 @@ pub struct Course {
 // The ranked slots after slot i, best first, until a union is accepted. Those that fail are barred.
 fn round(
     height: u32,
+    rule: WordRule,
     gates: &[u32],
     given: &[u32],
     records: &[u32],
@@ -38,7 +41,7 @@ fn round(
     trials: usize,
 ) -> Outcome
     requires { ⌜ RoundAt height m table base i cap ranks trials (now gates) (now given) (now records) (now indices) (now lengths) (now plan) (now words) (now counts) (now work) ⌝ }
-    ensures { λ r. ⌜ Rounded height m table base i cap ranks trials (now (gates .entry)) (now (given .entry)) (now (records .entry)) (now (indices .entry)) (now (lengths .entry)) (now (plan .entry)) (now (work .entry)) r (now (indices .exit)) (now (lengths .exit)) (now (plan .exit)) (now (words .exit)) (now (counts .exit)) (now (work .exit)) ⌝ }
+    ensures { λ r. ⌜ Rounded (ruleOf rule) height m table base i cap ranks trials (now (gates .entry)) (now (given .entry)) (now (records .entry)) (now (indices .entry)) (now (lengths .entry)) (now (plan .entry)) (now (work .entry)) r (now (indices .exit)) (now (lengths .exit)) (now (plan .exit)) (now (words .exit)) (now (counts .exit)) (now (work .exit)) ⌝ }
 {
     let n = lengths.len();
     let end = base + 8 * n;
@@ -55,6 +58,7 @@ fn round(
         t += 1;
         if try_union(
             height,
+            rule,
             gates,
             given,
             records,
@@ -87,6 +91,7 @@ fn round(
 // Rounds for slot i until none is accepted, at most `fuel`. Returns the unions examined so far.
 fn merge_into(
     height: u32,
+    rule: WordRule,
     gates: &[u32],
     given: &[u32],
     records: &[u32],
@@ -106,7 +111,7 @@ fn merge_into(
     trials: usize,
 ) -> usize
     requires { ⌜ IntoAt height m table base i cap ranks fuel trials (now gates) (now given) (now records) (now indices) (now lengths) (now plan) (now words) (now counts) (now work) ⌝ }
-    ensures { λ r. ⌜ Into height m table base i cap ranks fuel trials (now (gates .entry)) (now (given .entry)) (now (records .entry)) (now (indices .entry)) (now (lengths .entry)) (now (plan .entry)) (now (work .entry)) r (now (indices .exit)) (now (lengths .exit)) (now (plan .exit)) (now (words .exit)) (now (counts .exit)) (now (work .exit)) ⌝ }
+    ensures { λ r. ⌜ Into (ruleOf rule) height m table base i cap ranks fuel trials (now (gates .entry)) (now (given .entry)) (now (records .entry)) (now (indices .entry)) (now (lengths .entry)) (now (plan .entry)) (now (work .entry)) r (now (indices .exit)) (now (lengths .exit)) (now (plan .exit)) (now (words .exit)) (now (counts .exit)) (now (work .exit)) ⌝ }
 {
     let mut t = trials;
     let mut left = fuel;
@@ -125,6 +130,7 @@ fn merge_into(
         );
         let outcome = round(
             height,
+            rule,
             gates,
             given,
             records,
@@ -154,6 +160,7 @@ fn merge_into(
 // Slot i in its turn: if it is full, the later ones are open again, and its rounds follow.
 fn merge_slot(
     height: u32,
+    rule: WordRule,
     gates: &[u32],
     given: &[u32],
     records: &[u32],
@@ -173,7 +180,7 @@ fn merge_slot(
     trials: usize,
 ) -> Course
     requires { ⌜ SlotAt height m table base i cap ranks fuel trials (now gates) (now given) (now records) (now indices) (now lengths) (now plan) (now words) (now counts) (now work) ⌝ }
-    ensures { λ r. ⌜ Stepped height m table base i cap ranks fuel trials (now (gates .entry)) (now (given .entry)) (now (records .entry)) (now (indices .entry)) (now (lengths .entry)) (now (plan .entry)) (now (work .entry)) r (now (indices .exit)) (now (lengths .exit)) (now (plan .exit)) (now (words .exit)) (now (counts .exit)) (now (work .exit)) ⌝ }
+    ensures { λ r. ⌜ Stepped (ruleOf rule) height m table base i cap ranks fuel trials (now (gates .entry)) (now (given .entry)) (now (records .entry)) (now (indices .entry)) (now (lengths .entry)) (now (plan .entry)) (now (work .entry)) r (now (indices .exit)) (now (lengths .exit)) (now (plan .exit)) (now (words .exit)) (now (counts .exit)) (now (work .exit)) ⌝ }
 {
     if lengths[i] == 0 {
         return Course {
@@ -185,6 +192,7 @@ fn merge_slot(
     open_all(lengths, &mut work[base..end]);
     let t = merge_into(
         height,
+        rule,
         gates,
         given,
         records,
@@ -212,6 +220,7 @@ fn merge_slot(
 // Every slot in turn. Returns the unions examined.
 pub fn merge_slots(
     height: u32,
+    rule: WordRule,
     gates: &[u32],
     given: &[u32],
     records: &[u32],
@@ -228,7 +237,7 @@ pub fn merge_slots(
     ranks: usize,
 ) -> usize
     requires { ⌜ SlotsAt height m table base cap ranks (now gates) (now given) (now records) (now indices) (now lengths) (now plan) (now words) (now counts) (now work) ⌝ }
-    ensures { λ r. ⌜ Slotted height m table base cap ranks (now (gates .entry)) (now (given .entry)) (now (records .entry)) (now (indices .entry)) (now (lengths .entry)) (now (plan .entry)) (now (work .entry)) r (now (indices .exit)) (now (lengths .exit)) (now (plan .exit)) (now (words .exit)) (now (counts .exit)) (now (work .exit)) ⌝ }
+    ensures { λ r. ⌜ Slotted (ruleOf rule) height m table base cap ranks (now (gates .entry)) (now (given .entry)) (now (records .entry)) (now (indices .entry)) (now (lengths .entry)) (now (plan .entry)) (now (work .entry)) r (now (indices .exit)) (now (lengths .exit)) (now (plan .exit)) (now (words .exit)) (now (counts .exit)) (now (work .exit)) ⌝ }
 {
     let n = lengths.len();
     let mut trials = 0;
@@ -237,6 +246,7 @@ pub fn merge_slots(
     while i < n {
         let left = merge_slot(
             height,
+            rule,
             gates,
             given,
             records,

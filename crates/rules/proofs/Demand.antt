@@ -11,18 +11,20 @@ use borrow.Author.Tests.{ltb-true, ltb-false}
 use Rattle.rules.specs.Lists.{mem, keep, insertAll}
 use Rattle.rules.specs.Cells.{filled, empty, wordLimit}
 use Rattle.rules.specs.Graph.{Node, leaf, gate, pinOf, operands, below, ownBit, value}
+use Rattle.rules.specs.Loops.{loopless}
 use Rattle.rules.specs.Records.{Group, endpointsOf, waitingOf}
 use Rattle.rules.specs.Reservation.{reservable, reserved}
-use Rattle.rules.specs.Traversal.{over, Setting, setting, levelAt}
+use Rattle.rules.specs.Traversal.{WordRule, everyRun, neededRuns, over, Setting, setting, levelAt}
 use Rattle.rules.specs.Placing.{filledPlan, tree}
 use Rattle.rules.specs.Ending.{stage, oneStage}
 use Rattle.rules.specs.Build.{Stage, refusal, whole, stages, build}
 use Rattle.rules.specs.States.{state, after}
 use Rattle.rules.specs.Depth.{depth, remaining}
 use Rattle.rules.specs.Fold.{bitAt, isLeaf, firstLoad, loadFrom}
-use Rattle.rules.proofs.Lists.Members.{In, split, T→true, in-cons, in-nil, in-append-right, in-insertAll, in-insertAll-old, insertAll-in, keep-in, in-keep}
+use Rattle.rules.proofs.Lists.Members.{In, split, T→true, in-here, in-there, in-cons, in-nil, in-append-right, in-insertAll, in-insertAll-old, insertAll-in, keep-in, in-keep}
 use Rattle.rules.proofs.Walk.Levels.{over-least, over-above}
 use Rattle.rules.proofs.Walk.Reverse.{Sub, below-in, below-sub}
+use Rattle.rules.proofs.Loops.{rank, rank-falls, rank-few, loopless-no, ranked-loopless}
 use Rattle.rules.proofs.Needed.Needs.{Sound, Graph, setting-sound}
 use Rattle.rules.proofs.Stage.Last.{Once, nobody}
 use Rattle.rules.proofs.Stage.Flat.{blank-replicate}
@@ -37,27 +39,57 @@ use Rattle.rules.proofs.Written.Words.{once-insertAll}
 use Rattle.rules.proofs.Written.Writes.{Written, all-written, more-whole}
 use Rattle.rules.proofs.Build.Bounds as bounds
 use Rattle.rules.proofs.Build.Bounds.{Few}
+use Rattle.rules.proofs.Build.Rules.{build-no-more}
 
--- the document's rule for gates
+-- the rule for gates: operands are pins of the graph, and no pin is on a loop
 pub record Valid (g : List Node) : Type 0 where
-  pub lower : (p a b : ℕ) → getD g p leaf ≡ gate a b → (pinOf a < p) × (pinOf b < p)
+  pub inside : (p a b : ℕ) → getD g p leaf ≡ gate a b → (pinOf a < length g) × (pinOf b < length g)
+  pub free : loopless g ≡ true
 
-operand-of : (g : List Node) → Valid g → (x : Node) (p q : ℕ) → getD g p leaf ≡ x → In q (operands x) → (q < p) × (p < length g)
+operand-in : (g : List Node) → Valid g → (x : Node) (p q : ℕ) → getD g p leaf ≡ x → In q (operands x) → q < length g
 unfolding operands
-operand-of g ok leaf p q e i = in-nil q i
-operand-of g ok (gate a b) p q e i =
-    let h = ok .lower p a b e in
+operand-in g ok leaf p q e i = in-nil q i
+operand-in g ok (gate a b) p q e i =
+    let h = ok .inside p a b e in
+    elim (in-cons q (pinOf a) (pinOf b ∷ []) i) [
+      | inl c ↦ rw c (h .0)
+      | inr c ↦ elim (in-cons q (pinOf b) [] c) [ inl d ↦ rw d (h .1) | inr d ↦ in-nil q d ]
+    ]
+
+followed-in : (g : List Node) → Valid g → (p x : ℕ) → In x (below g [] p) → x < length g
+followed-in g ok p x i = operand-in g ok (getD g p leaf) p x refl (below-in g [] p x i .1)
+
+pub graph : (g : List Node) → Valid g → Graph g (rank g)
+graph g ok = record {
+  falls = rank-falls g (followed-in g ok) (loopless-no g (followed-in g ok) (ok .free));
+  inside = followed-in g ok;
+}
+
+-- every pin has a rank below N + 1
+pub graph-few : (g : List Node) → Valid g → (p : ℕ) → p < length g → rank g p < length g
+graph-few g ok = rank-few g (followed-in g ok) (loopless-no g (followed-in g ok) (ok .free))
+
+-- a graph whose gates have operands below their own pin, as was asked once, has no loop
+lower-operand : (g : List Node) → ((p a b : ℕ) → getD g p leaf ≡ gate a b → (pinOf a < p) × (pinOf b < p)) → (x : Node) (p q : ℕ) → getD g p leaf ≡ x → In q (operands x) → (q < p) × (p < length g)
+unfolding operands
+lower-operand g lower leaf p q e i = in-nil q i
+lower-operand g lower (gate a b) p q e i =
+    let h = lower p a b e in
     let n : p < length g = split (ltb p (length g)) (λ c. ltb-true p (length g) c) (λ c. absurd (let d : leaf ≡ gate a b = sym (List·getD-eq-default g leaf (ltb-false p (length g) c)) ∙ e in let z : _≡_ {A = ℕ} 0 1 = cc in omega arith)) in
     elim (in-cons q (pinOf a) (pinOf b ∷ []) i) [
       | inl c ↦ (rw c (h .0), n)
       | inr c ↦ elim (in-cons q (pinOf b) [] c) [ inl d ↦ (rw d (h .1), n) | inr d ↦ in-nil q d ]
     ]
 
-pub graph : (g : List Node) → Valid g → Graph g (λ p. p)
-graph g ok = record {
-  falls = λ p x i. operand-of g ok (getD g p leaf) p x refl (below-in g [] p x i .1) .0;
-  inside = λ p x i. let h = operand-of g ok (getD g p leaf) p x refl (below-in g [] p x i .1) in omega (arith, h .0, h .1);
-}
+pub lower-valid : (g : List Node) → ((p a b : ℕ) → getD g p leaf ≡ gate a b → (pinOf a < p) × (pinOf b < p)) → Valid g
+unfolding operands
+lower-valid g lower =
+    let under-own : (p x : ℕ) → In x (below g [] p) → (x < p) × (p < length g) = λ p x i. lower-operand g lower (getD g p leaf) p x refl (below-in g [] p x i .1) in
+    let in-graph : (p x : ℕ) → In x (operands (getD g p leaf)) → x < length g = λ p x i. let h = lower-operand g lower (getD g p leaf) p x refl i in omega (arith, h .0, h .1) in
+    record {
+      inside = λ p a b e. (in-graph p (pinOf a) (rw e (in-here (pinOf a) (pinOf b ∷ []))), in-graph p (pinOf b) (rw e (in-there (pinOf b) (pinOf a) (pinOf b ∷ []) (in-here (pinOf b) []))));
+      free = ranked-loopless g (λ p x i. let h = under-own p x i in omega (arith, h .0, h .1)) (λ p. p) (λ p x i. under-own p x i .0);
+    }
 
 -- a pin is no deeper where more pins stop
 depth-sub : (g : List Node) (done stop : List ℕ) → Sub done stop → (f p : ℕ) → depth f g stop p ≤ depth f g done p
@@ -116,9 +148,9 @@ module _ (K : ℕ) (g : List Node) (given bits : List ℕ) where
   Right load held [] = Unit {0}
   Right load held (s ∷ ss) = StageRight load held (s .plan) × Right (loadFrom K g (s .plan) load) (λ n. In n (tree K (s .plan))) ss
 
-module _ (K : ℕ) (g : List Node) (ok : Valid g) (tall : 6 ≤ K) (small : length g ≤ empty) (given bits : List ℕ) where
+module _ (rule : WordRule) (K : ℕ) (g : List Node) (ok : Valid g) (tall : 6 ≤ K) (small : length g ≤ empty) (given bits : List ℕ) where
   abbrev pub r : ℕ → ℕ
-  r p = p
+  r p = rank g p
 
   low : 1 ≤ K
   low = omega arith
@@ -132,19 +164,19 @@ module _ (K : ℕ) (g : List Node) (ok : Valid g) (tall : 6 ≤ K) (small : leng
   first-own n (inr e) = split (mem n given) (λ d. rw d) (λ d. rw (d, e))
 
   one-right : (done waiting : List ℕ) → Ready g r waiting → Sub given done → (load : ℕ → Bool) (held : ℕ → Type 0) →
-      ((n : ℕ) → In n (setting K g done waiting .seen) → levelAt (setting K g done waiting) n ≡ 0 → (load n ≡ value (length g) g given bits n) × held n) →
-      (room : ℕ) (plan2 words realised waiting2 : List ℕ) → oneStage K g done waiting room ≡ stage plan2 words realised waiting2 →
+      ((n : ℕ) → In n (setting rule K g done waiting .seen) → levelAt (setting rule K g done waiting) n ≡ 0 → (load n ≡ value (length g) g given bits n) × held n) →
+      (room : ℕ) (plan2 words realised waiting2 : List ℕ) → oneStage rule K g done waiting room ≡ stage plan2 words realised waiting2 →
       StageRight K g given bits load held plan2 × Ready g r waiting2
-      × ((n : ℕ) → In n (setting K g (realised ++ done) waiting2 .seen) → levelAt (setting K g (realised ++ done) waiting2) n ≡ 0 → (loadFrom K g plan2 load n ≡ value (length g) g given bits n) × In n (tree K plan2))
+      × ((n : ℕ) → In n (setting rule K g (realised ++ done) waiting2 .seen) → levelAt (setting rule K g (realised ++ done) waiting2) n ≡ 0 → (loadFrom K g plan2 load n ≡ value (length g) g given bits n) × In n (tree K plan2))
   unfolding setting
   one-right done waiting R some load held right room plan2 words realised waiting2 d =
-      let X : Setting = setting K g done waiting in
-      let S : Sound X r (length g) = setting-sound K g r G done waiting (R .bounded) in
-      let E : Ended X (filledPlan X) plan2 realised waiting2 = the-end K g r G low small done waiting (R .bounded) room plan2 words realised waiting2 d in
-      let R2 : Ready g r waiting2 = still-ready K g r G tall small done waiting R room plan2 words realised waiting2 d in
-      let S2 : Sound (setting K g (realised ++ done) waiting2) r (length g) = setting-sound K g r G (realised ++ done) waiting2 (R2 .bounded) in
+      let X : Setting = setting rule K g done waiting in
+      let S : Sound X r (length g) = setting-sound rule K g r G done waiting (R .bounded) in
+      let E : Ended X (filledPlan X) plan2 realised waiting2 = the-end rule K g r G low small done waiting (R .bounded) room plan2 words realised waiting2 d in
+      let R2 : Ready g r waiting2 = still-ready rule K g r G tall small done waiting R room plan2 words realised waiting2 d in
+      let S2 : Sound (setting rule K g (realised ++ done) waiting2) r (length g) = setting-sound rule K g r G (realised ++ done) waiting2 (R2 .bounded) in
       let fine = final X r (length g) S low (Fine X r (length g) S) (fine-kept X r (length g) S) (fine-first X r (length g) S (2 ^ (K + 1))) plan2 (E .rested) in
-      let F : Folded K g r G tall small given bits plan2 realised load = folded K g r G tall small given bits done waiting R some room plan2 words realised waiting2 d load (λ n i z. right n i z .0) in (
+      let F : Folded rule K g r G tall small given bits plan2 realised load = folded rule K g r G tall small given bits done waiting R some room plan2 words realised waiting2 d load (λ n i z. right n i z .0) in (
         record {
           size = fine .0;
           zeroth = final X r (length g) S low (λ pl. filled (getD pl 0 empty) ≡ false) (zero-kept X) (blank-replicate (2 ^ (K + 1)) 0) plan2 (E .rested) .1;
@@ -154,21 +186,21 @@ module _ (K : ℕ) (g : List Node) (ok : Valid g) (tall : 6 ≤ K) (small : leng
         },
         R2,
         λ n i z.
-            let h : In n realised = stage-holds K g r G low small done waiting (R .bounded) room plan2 words realised waiting2 d n (elim (S2 .visited .new n i) [ inl a ↦ in-nil n a | inr a ↦ a ]) (sym (S2 .level n i) ∙ z) in
+            let h : In n realised = stage-holds rule K g r G low small done waiting (R .bounded) room plan2 words realised waiting2 d n (elim (S2 .visited .new n i) [ inl a ↦ in-nil n a | inr a ↦ a ]) (sym (S2 .level n i) ∙ z) in
             (F .next n h, rw (E .realises) at h),
       )
 
   rights : (rooms k : ℕ) (done waiting : List ℕ) → Ready g r waiting → Sub given done → (load : ℕ → Bool) (held : ℕ → Type 0) →
-      ((n : ℕ) → In n (setting K g done waiting .seen) → levelAt (setting K g done waiting) n ≡ 0 → (load n ≡ value (length g) g given bits n) × held n) →
-      (room : ℕ) (ss : List Stage) → stages K g rooms k done waiting room ≡ whole ss → Right K g given bits load held ss
+      ((n : ℕ) → In n (setting rule K g done waiting .seen) → levelAt (setting rule K g done waiting) n ≡ 0 → (load n ≡ value (length g) g given bits n) × held n) →
+      (room : ℕ) (ss : List Stage) → stages rule K g rooms k done waiting room ≡ whole ss → Right K g given bits load held ss
   unfolding stages
   rights zero k done [] R some load held right room ss e = let z : ss ≡ [] = cc in rw z tt
   rights zero k done (w ∷ ws) R some load held right room ss e = absurd (let z : _≡_ {A = ℕ} 0 1 = cc in omega arith)
   rights (suc rooms) k done [] R some load held right room ss e = let z : ss ≡ [] = cc in rw z tt
-  rights (suc rooms) k done (w ∷ ws) R some load held right room ss e = stage-cases (oneStage K g done (w ∷ ws) room)
+  rights (suc rooms) k done (w ∷ ws) R some load held right room ss e = stage-cases (oneStage rule K g done (w ∷ ws) room)
       (λ n d. absurd (let c : refusal n k ≡ whole ss = rw (d, stages) at e in let z : _≡_ {A = ℕ} 0 1 = cc in omega arith))
       (λ plan2 words realised waiting2 d.
-      let m = more-whole K g r G tall small (record { plan = plan2; words = words }) (stages K g rooms (suc k) (realised ++ done) waiting2 (room - length words)) ss (rw (d, stages) at e) in
+      let m = more-whole rule K g r G tall small (record { plan = plan2; words = words }) (stages rule K g rooms (suc k) (realised ++ done) waiting2 (room - length words)) ss (rw (d, stages) at e) in
       let t = one-right done (w ∷ ws) R some load held right room plan2 words realised waiting2 d in
       rw (m .2) (t .0, rights rooms (suc k) (realised ++ done) waiting2 (t .1) (λ q i. in-append-right q realised done (some q i)) (loadFrom K g plan2 load) (λ n. In n (tree K plan2)) (t .2) (room - length words) (m .0) (m .1)))
 
@@ -180,7 +212,7 @@ module _ (K : ℕ) (g : List Node) (ok : Valid g) (tall : 6 ≤ K) (small : leng
     ready : Ready g r waiting
     ready = record {
       once = waitingOf-once groups nobody;
-      bounded = λ x i. let h : x < length g = elim (wait-ends x groups [] i) [ inl a ↦ in-nil x a | inr a ↦ named x a ] in (h, h);
+      bounded = λ x i. let h : x < length g = elim (wait-ends x groups [] i) [ inl a ↦ in-nil x a | inr a ↦ named x a ] in (h, graph-few g ok x h);
     }
 
     -- D: the longest chain of gates under any endpoint pin
@@ -191,42 +223,47 @@ module _ (K : ℕ) (g : List Node) (ok : Valid g) (tall : 6 ≤ K) (small : leng
     given-less = remaining-least (length g) g given waiting D (λ x i. omega (arith, depth-sub g [] given (λ q e. in-nil q e) (length g) x, remaining-above (length g) g [] waiting x i))
 
     -- if pins still wait after s stages, s is at most D and what remains is at most D - s deep
-    pub depth-falls : (s : ℕ) (done2 waiting2 : List ℕ) (room2 : ℕ) → after K g given groups s ≡ state done2 waiting2 room2 → waiting2 ≢ [] → (s ≤ D) × (remaining (length g) g done2 waiting2 ≤ D - s)
+    pub depth-falls : (s : ℕ) (done2 waiting2 : List ℕ) (room2 : ℕ) → after rule K g given groups s ≡ state done2 waiting2 room2 → waiting2 ≢ [] → (s ≤ D) × (remaining (length g) g done2 waiting2 ≤ D - s)
     unfolding after
     depth-falls s done2 waiting2 room2 e n = split (reservable K groups)
-        (λ c. let h = shallow K g r G tall small s given waiting ready (wordLimit K - reserved groups) (rw (c, after) at e) in (omega (arith, h .few n, given-less), omega (arith, h .depth, given-less)))
+        (λ c. let h = shallow rule K g r G tall small s given waiting ready (wordLimit K - reserved groups) (rw (c, after) at e) in (omega (arith, h .few n, given-less), omega (arith, h .depth, given-less)))
         (λ c. absurd (let d = rw (c, after) at e in let z : _≡_ {A = ℕ} 0 1 = cc in omega arith))
 
     -- with D + 1 rooms a build ends in a whole plan, or in 6, 7 or 8
-    pub rooms-enough : (rooms n j : ℕ) → D < rooms → build K g given groups rooms ≡ refusal n j → (n ≡ 6) ⊎ ((n ≡ 7) ⊎ (n ≡ 8))
+    pub rooms-enough : (rooms n j : ℕ) → D < rooms → build rule K g given groups rooms ≡ refusal n j → (n ≡ 6) ⊎ ((n ≡ 7) ⊎ (n ≡ 8))
     unfolding build
     rooms-enough rooms n j b e = split (reservable K groups)
-        (λ c. inr (rooms-suffice K g r G tall small rooms 1 given waiting ready (wordLimit K - reserved groups) (inr (omega (arith, given-less))) n j (rw (c, build) at e)))
+        (λ c. inr (rooms-suffice rule K g r G tall small rooms 1 given waiting ready (wordLimit K - reserved groups) (inr (omega (arith, given-less))) n j (rw (c, build) at e)))
         (λ c. let d : refusal 6 0 ≡ refusal n j = rw (c, build) at e in inl (cc))
 
-    whole-stages : (rooms : ℕ) (ss : List Stage) → build K g given groups rooms ≡ whole ss → stages K g rooms 1 given waiting (wordLimit K - reserved groups) ≡ whole ss
+    whole-stages : (rooms : ℕ) (ss : List Stage) → build rule K g given groups rooms ≡ whole ss → stages rule K g rooms 1 given waiting (wordLimit K - reserved groups) ≡ whole ss
     unfolding build
     whole-stages rooms ss e = split (reservable K groups) (λ c. rw (c, build) at e) (λ c. absurd (let d : refusal 6 0 ≡ whole ss = rw (c, build) at e in let z : _≡_ {A = ℕ} 0 1 = cc in omega arith))
 
-    pub whole-sizes : (rooms : ℕ) (ss : List Stage) → build K g given groups rooms ≡ whole ss → Sizes K g r G tall small rooms (wordLimit K - reserved groups) ss
-    whole-sizes rooms ss e = sizes K g r G tall small rooms 1 given waiting ready (wordLimit K - reserved groups) ss (whole-stages rooms ss e)
+    pub whole-sizes : (rooms : ℕ) (ss : List Stage) → build rule K g given groups rooms ≡ whole ss → Sizes rule K g r G tall small rooms (wordLimit K - reserved groups) ss
+    whole-sizes rooms ss e = sizes rule K g r G tall small rooms 1 given waiting ready (wordLimit K - reserved groups) ss (whole-stages rooms ss e)
 
-    pub whole-sized : (rooms : ℕ) (ss : List Stage) → build K g given groups rooms ≡ whole ss → Sized (2 ^ (K + 1)) ss
-    whole-sized rooms ss e = all-sized K g r G tall small rooms 1 given waiting ready (wordLimit K - reserved groups) ss (whole-stages rooms ss e)
+    pub whole-sized : (rooms : ℕ) (ss : List Stage) → build rule K g given groups rooms ≡ whole ss → Sized (2 ^ (K + 1)) ss
+    whole-sized rooms ss e = all-sized rule K g r G tall small rooms 1 given waiting ready (wordLimit K - reserved groups) ss (whole-stages rooms ss e)
 
     -- a whole plan folds right, and loads right: first leaves and given pins, then pins held above level 0 one stage before
-    pub whole-right : (rooms : ℕ) (ss : List Stage) → build K g given groups rooms ≡ whole ss → Right K g given bits (firstLoad g given bits) (λ n. In n given ⊎ (getD g n leaf ≡ leaf)) ss
+    pub whole-right : (rooms : ℕ) (ss : List Stage) → build rule K g given groups rooms ≡ whole ss → Right K g given bits (firstLoad g given bits) (λ n. In n given ⊎ (getD g n leaf ≡ leaf)) ss
     unfolding setting
     whole-right rooms ss e =
-        let S : Sound (setting K g given waiting) r (length g) = setting-sound K g r G given waiting (ready .bounded) in
+        let S : Sound (setting rule K g given waiting) r (length g) = setting-sound rule K g r G given waiting (ready .bounded) in
         rights rooms 1 given waiting ready (λ q i. i) (firstLoad g given bits) (λ n. In n given ⊎ (getD g n leaf ≡ leaf))
-        (λ n i z. let h = level-zero (setting K g given waiting) r (length g) S n i z in (first-own n h ∙ sym (value-own g r G given bits (length g) n (omega (arith, S .fuel n i)) h), h))
+        (λ n i z. let h = level-zero (setting rule K g given waiting) r (length g) S n i z in (first-own n h ∙ sym (value-own g r G given bits (length g) n (omega (arith, S .fuel n i)) h), h))
         (wordLimit K - reserved groups) ss (whole-stages rooms ss e)
 
     -- and every endpoint pin but the constant stands in a written word
-    pub whole-written : (rooms : ℕ) (ss : List Stage) → build K g given groups rooms ≡ whole ss → (q : ℕ) → 0 < q → Ends q groups → Written K q ss
-    whole-written rooms ss e q b i = all-written K g r G tall small rooms 1 given waiting ready (wordLimit K - reserved groups) ss (whole-stages rooms ss e) q (ends-wait q b i [])
+    pub whole-written : (rooms : ℕ) (ss : List Stage) → build rule K g given groups rooms ≡ whole ss → (q : ℕ) → 0 < q → Ends q groups → Written K q ss
+    whole-written rooms ss e q b i = all-written rule K g r G tall small rooms 1 given waiting ready (wordLimit K - reserved groups) ss (whole-stages rooms ss e) q (ends-wait q b i [])
 
     -- a build answers with at most N + 1 stages and W words
-    pub build-few : (rooms : ℕ) → Few K g (build K g given groups rooms)
-    build-few = bounds.build-few K g r G tall small given groups ready
+    pub build-few : (rooms : ℕ) → Few K g (build rule K g given groups rooms)
+    build-few = bounds.build-few rule K g r G tall small given groups ready
+
+-- The new word rule never costs a job: with the same rooms it accepts what the old one accepts, with no more stages.
+pub never-costs : (K : ℕ) (g : List Node) → Valid g → 6 ≤ K → length g ≤ empty → (given : List ℕ) (groups : List Group) → ((q : ℕ) → Ends q groups → q < length g) →
+    (rooms : ℕ) (ss : List Stage) → build everyRun K g given groups rooms ≡ whole ss → (ts : List Stage) × (build neededRuns K g given groups rooms ≡ whole ts) × (length ts ≤ length ss)
+never-costs K g ok tall small given groups named = build-no-more K g (rank g) (graph g ok) tall small given groups (ready everyRun K g ok tall small given [] groups named)

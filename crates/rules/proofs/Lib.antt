@@ -10,6 +10,7 @@ pub mod Stage
 pub mod Fold
 pub mod Written
 pub mod Lean
+pub mod Loops
 pub mod Demand
 pub mod Build
 pub mod Reservation

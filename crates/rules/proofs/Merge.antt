@@ -12,6 +12,7 @@ use Rattle.rules.specs.Lists.{mem, count, sum}
 use Rattle.rules.specs.Cells.{rooms}
 use Rattle.rules.specs.Graph.{Node, graphOf}
 use Rattle.rules.specs.Records.{Group, output, groupsOf}
+use Rattle.rules.specs.Traversal.{WordRule}
 use Rattle.rules.specs.Build.{Stage, Answer, refusal, whole, build, reply, wordsOf}
 use Rattle.rules.specs.Merge.{Common, Part, Rank, Round, none, some, Merged, Result, builtOf, partOf, rankOf, addRank, before, ranking, accepted, attempt, without, rounds, addPart, merging, Parts, bad, good, cons, original, sizeFor, mostStages, occupied, begun, named, MergeAnswer, turned, merged, merge, GroupList, splitBy, joined, indicesOf, groupListAfter, mergeAnswerOf}
 use Rattle.rules.proofs.Lists.Members.{In, split, true-false, eqb-true, eqb-same, in-here, in-there, in-cons, in-nil, count-append}
@@ -329,11 +330,11 @@ parts-cases (good ps) f h = h ps refl
 abbrev pub held : ℕ → ℕ
 held n = begun n (max (n / 8) 20) 0 4
 
-module _ (K : ℕ) (g : List Node) (given : List ℕ) (groups : List Group) (rooms : ℕ) where
+module _ (rule : WordRule) (K : ℕ) (g : List Node) (given : List ℕ) (groups : List Group) (rooms : ℕ) where
   -- a partition's groups build by themselves to the stages and words that are reported for it
   pub record Stands (p : Part) : Type 0 where
     pub ss : List Stage
-    pub built : build K g given (map (λ i. getD groups i (output 0)) (p .has)) rooms ≡ whole ss
+    pub built : build rule K g given (map (λ i. getD groups i (output 0)) (p .has)) rooms ≡ whole ss
     pub stages : p .stages ≡ length ss
     pub words : p .words ≡ length (wordsOf ss)
 
@@ -345,15 +346,15 @@ module _ (K : ℕ) (g : List Node) (given : List ℕ) (groups : List Group) (roo
     pub stands : (q : Part) → Among q (r .parts) → Stands q
     pub trials : r .trials ≤ held (length parts) * (2 * length parts)
 
-  pub merge-keeps : (extra : ℕ) (parts : List (List ℕ)) (r : Result) → merge K g given groups rooms extra parts ≡ merged r → Kept parts r
+  pub merge-keeps : (extra : ℕ) (parts : List (List ℕ)) (r : Result) → merge rule K g given groups rooms extra parts ≡ merged r → Kept parts r
   unfolding merge builtOf named
   merge-keeps extra parts r e =
-      let J : Common = record { K = K; g = g; given = given; groups = groups; rooms = rooms; cap = 0; ranks = 0 } in
+      let J : Common = record { rule = rule; K = K; g = g; given = given; groups = groups; rooms = rooms; cap = 0; ranks = 0 } in
       parts-cases (original J 0 parts)
       (λ i n k d. absurd (let c = rw (d, merge) at e in let z : _≡_ {A = ℕ} 0 1 = cc in omega arith))
       (λ ps d.
       let G = original-given J 0 parts ps d in
-      let I : Common = record { K = K; g = g; given = given; groups = groups; rooms = rooms; cap = mostStages ps 0 + extra; ranks = held (length ps) } in
+      let I : Common = record { rule = rule; K = K; g = g; given = given; groups = groups; rooms = rooms; cap = mostStages ps 0 + extra; ranks = held (length ps) } in
       let B : (q : Part) → Among q (occupied ps) → Builds I q = λ q a. let b = G .builds q (occupied-among ps q a) in record { ss = b .ss; built = b .built; stages = b .stages; words = b .words } in
       let E = merging-ends I (length ps) (occupied ps) 0 (occupied-few ps) B (occupied-once ps (G .once)) in
       let c : merging I (length ps) (occupied ps) 0 ≡ r = let z : merged (merging I (length ps) (occupied ps) 0) ≡ merged r = rw (d, merge) at e in cc in
@@ -372,9 +373,9 @@ joined-split [] (i ∷ is) e = absurd (omega arith)
 joined-split (n ∷ ns) is e = ap (λ (l : List ℕ). take n is ++ l) (joined-split ns (drop n is) (omega (arith, length-drop n is))) ∙ take-append-drop n is
 
 -- Each group occurs in the lent list as often after a merge as before.
-pub groups-kept : (K : ℕ) (gates given records : List ℕ) (l : GroupList) (extra size : ℕ) → sum (l .lengths) ≡ length (l .indices) → (m : MergeAnswer) → mergeAnswerOf K gates given records l extra size ≡ m →
+pub groups-kept : (rule : WordRule) (K : ℕ) (gates given records : List ℕ) (l : GroupList) (extra size : ℕ) → sum (l .lengths) ≡ length (l .indices) → (m : MergeAnswer) → mergeAnswerOf rule K gates given records l extra size ≡ m →
     (f : ℕ → Bool) → count f (groupListAfter m l .indices) ≡ count f (l .indices)
 unfolding mergeAnswerOf groupListAfter
-groups-kept K gates given records l extra size h (turned i n k) e f = refl
-groups-kept K gates given records l extra size h (merged r) e f =
-    merge-keeps K (graphOf gates) given (groupsOf records) (rooms K size) extra (splitBy (l .lengths) (l .indices)) r e .same f ∙ ap (count f) (joined-split (l .lengths) (l .indices) h)
+groups-kept rule K gates given records l extra size h (turned i n k) e f = refl
+groups-kept rule K gates given records l extra size h (merged r) e f =
+    merge-keeps rule K (graphOf gates) given (groupsOf records) (rooms K size) extra (splitBy (l .lengths) (l .indices)) r e .same f ∙ ap (count f) (joined-split (l .lengths) (l .indices) h)

@@ -6,5 +6,6 @@ pub mod Flat
 pub mod Fuel
 pub mod Over
 pub mod Depth
+pub mod Under
 pub mod Branches
 pub mod Refusals

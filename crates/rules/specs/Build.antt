@@ -8,7 +8,8 @@ use Rattle.rules.specs.Cells.{empty, wordLimit, rooms}
 use Rattle.rules.specs.Graph.{Node, graphOf}
 use Rattle.rules.specs.Records.{Group, groupsOf, waitingOf}
 use Rattle.rules.specs.Reservation.{reserved, reservable}
-use Rattle.rules.specs.Checks.{workSize, areasSized, refusalOf}
+use Rattle.rules.specs.Traversal.{WordRule}
+use Rattle.rules.specs.Checks.{workSize, areasSized, pinShown, refusalOf}
 use Rattle.rules.specs.Ending.{refused, stage, oneStage}
 
 -- a stage: its cells and its words
@@ -31,22 +32,22 @@ before [] a = a
 before (s ∷ ss) a = more s (before ss a)
 
 -- stage k and what follows it, with r rooms left and `room` words that may still be written
-unfoldable pub stages : ℕ → List Node → ℕ → ℕ → List ℕ → List ℕ → ℕ → Answer
-stages K g zero k done [] room = whole []
-stages K g zero k done (w ∷ ws) room = refusal 9 k
-stages K g (suc r) k done [] room = whole []
-stages K g (suc r) k done (w ∷ ws) room =
-    elim (oneStage K g done (w ∷ ws) room) [
+unfoldable pub stages : WordRule → ℕ → List Node → ℕ → ℕ → List ℕ → List ℕ → ℕ → Answer
+stages rule K g zero k done [] room = whole []
+stages rule K g zero k done (w ∷ ws) room = refusal 9 k
+stages rule K g (suc r) k done [] room = whole []
+stages rule K g (suc r) k done (w ∷ ws) room =
+    elim (oneStage rule K g done (w ∷ ws) room) [
       | refused n ↦ refusal n k
       | stage plan words realised waiting ↦
-          more (record { plan = plan; words = words }) (stages K g r (suc k) (realised ++ done) waiting (room - length words))
+          more (record { plan = plan; words = words }) (stages rule K g r (suc k) (realised ++ done) waiting (room - length words))
     ]
 
 -- the reservation, then the stages until no pin waits
-unfoldable pub build : ℕ → List Node → List ℕ → List Group → ℕ → Answer
-build K g given groups rooms =
+unfoldable pub build : WordRule → ℕ → List Node → List ℕ → List Group → ℕ → Answer
+build rule K g given groups rooms =
     elim (reservable K groups) [
-      | true ↦ stages K g rooms 1 given (waitingOf groups []) (wordLimit K - reserved groups)
+      | true ↦ stages rule K g rooms 1 given (waitingOf groups []) (wordLimit K - reserved groups)
       | false ↦ refusal 6 0
     ]
 
@@ -67,19 +68,24 @@ unfoldable pub countsOf : List Stage → List ℕ
 countsOf [] = []
 countsOf (s ∷ ss) = length (s .words) ∷ countsOf ss
 
--- the answer: number, stages and words (both 0 on refusal), and the refused stage from 1 (0 unless 7, 8, 9)
+-- the answer: number, stages and words (both 0 on refusal), the refused stage from 1 (0 unless 7, 8, 9), and the pin shown (0 unless 23)
 pub record Reply : Type 0 where
   pub number : ℕ
   pub stages : ℕ
   pub words : ℕ
   pub stage : ℕ
+  pub pin : ℕ
 
 unfoldable pub refuse : ℕ → ℕ → Reply
-refuse n k = record { number = n; stages = 0; words = 0; stage = k }
+refuse n k = record { number = n; stages = 0; words = 0; stage = k; pin = 0 }
+
+-- what the checks refuse
+unfoldable pub refuseChecked : ℕ → List ℕ → Reply
+refuseChecked n gates = record { number = n; stages = 0; words = 0; stage = 0; pin = pinShown n gates }
 
 unfoldable pub reply : Answer → Reply
 reply (refusal n k) = refuse n k
-reply (whole ss) = record { number = 0; stages = length ss; words = length (wordsOf ss); stage = 0 }
+reply (whole ss) = record { number = 0; stages = length ss; words = length (wordsOf ss); stage = 0; pin = 0 }
 
 -- the lent areas
 pub record Areas : Type 0 where
@@ -109,18 +115,18 @@ pub record Outcome : Type 0 where
   pub areas : Areas
 
 -- the build of records that passed the checks
-unfoldable pub answerOf : ℕ → (gates given records : List ℕ) → ℕ → Answer
-answerOf K gates given records size = build K (graphOf gates) given (groupsOf records) (rooms K size)
+unfoldable pub answerOf : WordRule → ℕ → (gates given records : List ℕ) → ℕ → Answer
+answerOf rule K gates given records size = build rule K (graphOf gates) given (groupsOf records) (rooms K size)
 
 unfoldable pub sizesRight : ℕ → (gates records : List ℕ) → Areas → Bool
 sizesRight K gates records a = areasSized K (workSize gates records) (length (a .plan)) (length (a .words)) (length (a .counts)) (length (a .work))
 
--- the whole call: after 1 to 5 nothing is changed
-unfoldable pub placer : ℕ → (gates given records : List ℕ) → Areas → Outcome
-placer K gates given records a =
+-- the whole call: after 1 to 5 and 23 nothing is changed
+unfoldable pub placer : WordRule → ℕ → (gates given records : List ℕ) → Areas → Outcome
+placer rule K gates given records a =
     elim (refusalOf K (sizesRight K gates records a) gates given records) [
       | zero ↦
-          let b = answerOf K gates given records (length (a .plan)) in
+          let b = answerOf rule K gates given records (length (a .plan)) in
           record { reply = reply b; areas = areasAfter K (workSize gates records) (stagesOf b) a }
-      | suc n ↦ record { reply = refuse (suc n) 0; areas = a }
+      | suc n ↦ record { reply = refuseChecked (suc n) gates; areas = a }
     ]

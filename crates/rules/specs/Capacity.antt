@@ -9,7 +9,7 @@ use Rattle.rules.specs.Cells.{wordLimit, row, firstEmpty}
 use Rattle.rules.specs.Graph.{Node}
 use Rattle.rules.specs.Records.{Group}
 use Rattle.rules.specs.Reservation.{memories, duplicates, reserved}
-use Rattle.rules.specs.Traversal.{Setting, setting}
+use Rattle.rules.specs.Traversal.{WordRule, Setting, setting}
 use Rattle.rules.specs.Placing.{filledPlan}
 use Rattle.rules.specs.Ending.{full, plan, written, rest}
 use Rattle.rules.specs.States.{state, after}
@@ -30,17 +30,17 @@ pub data StageOver (X : Setting) (room : ℕ) (pl : List ℕ) : ℕ → Type 0 w
   eight : length (written X pl .words) ≤ room → LevelOneFull X pl → StageOver X room pl 8
 
 -- what stops a build with so many rooms after s completed stages, while pins wait: no room is left, or the next stage is over
-pub data Stops (K : ℕ) (g : List Node) (rooms s : ℕ) (done waiting : List ℕ) (room : ℕ) : ℕ → Type 0 where
-  nine : s ≡ rooms → Stops K g rooms s done waiting room 9
-  over : {n : ℕ} → s < rooms → StageOver (setting K g done waiting) room (filledPlan (setting K g done waiting)) n → Stops K g rooms s done waiting room n
+pub data Stops (rule : WordRule) (K : ℕ) (g : List Node) (rooms s : ℕ) (done waiting : List ℕ) (room : ℕ) : ℕ → Type 0 where
+  nine : s ≡ rooms → Stops rule K g rooms s done waiting room 9
+  over : {n : ℕ} → s < rooms → StageOver (setting rule K g done waiting) room (filledPlan (setting rule K g done waiting)) n → Stops rule K g rooms s done waiting room n
 
 -- a build is refused in stage k with number n
-pub record Refused (K : ℕ) (g : List Node) (given : List ℕ) (groups : List Group) (rooms n k : ℕ) : Type 0 where
+pub record Refused (rule : WordRule) (K : ℕ) (g : List Node) (given : List ℕ) (groups : List Group) (rooms n k : ℕ) : Type 0 where
   pub s : ℕ
   pub done : List ℕ
   pub waiting : List ℕ
   pub room : ℕ
-  pub completed : after K g given groups s ≡ state done waiting room
+  pub completed : after rule K g given groups s ≡ state done waiting room
   pub wait : waiting ≢ []
   pub stage : k ≡ suc s
-  pub stops : Stops K g rooms s done waiting room n
+  pub stops : Stops rule K g rooms s done waiting room n

@@ -1,12 +1,13 @@
--- The checks 1 to 5, in their order. Sizes are compared as true numbers. Assumes nothing.
+-- The checks 1, 2, 3, 23, 4, 5, in their order. Sizes are compared as true numbers. Assumes nothing.
 use Prim.Native.Nat.{ℕ, suc, _+_, _*_, _%_}
 use mathlib.Core.Bool.{Bool, true, false, _&&_}
 use mathlib.Core.List.{List, [], _∷_}
 use lib.Dec.{leb, ltb, eqb}
 use lib.ListN.{length}
-use Rattle.rules.specs.Lists.{every}
+use Rattle.rules.specs.Lists.{every, Found, nothing, found}
 use Rattle.rules.specs.Cells.{isHeight, stageSize, wordLimit, rooms}
 use Rattle.rules.specs.Graph.{Node, leaf, gate, pinOf, graphOf, pinCount}
+use Rattle.rules.specs.Loops.{loopPin, loopless}
 use Rattle.rules.specs.Records.{Groups?, unreadable, groups, read, allNamed}
 
 -- 2. a plan is a whole multiple of a stage, one multiple a room; words: at least W; counts: at least one per room
@@ -21,15 +22,27 @@ workSize gates records = 16 * pinCount gates + 8 * length records + 512
 unfoldable pub areasSized : ℕ → ℕ → (plan words counts work : ℕ) → Bool
 areasSized K need plan words counts work = planSized K plan && leb (wordLimit K) words && leb (rooms K plan) counts && leb need work
 
--- 3. a gate's pins are above 0 and below its own pin p, which is the first of the list
-unfoldable pub nodesRight : ℕ → List Node → Bool
-nodesRight p [] = true
-nodesRight p (leaf ∷ g) = nodesRight (suc p) g
-nodesRight p (gate a b ∷ g) = ltb 0 (pinOf a) && ltb (pinOf a) p && ltb 0 (pinOf b) && ltb (pinOf b) p && nodesRight (suc p) g
+-- 3. a gate's pins are above 0 and below n, which is N + 1, in any order; pin 0, the first of the list where p is 0, is no gate
+unfoldable pub nodesRight : ℕ → ℕ → List Node → Bool
+nodesRight n p [] = true
+nodesRight n p (leaf ∷ g) = nodesRight n (suc p) g
+nodesRight n p (gate a b ∷ g) = ltb 0 p && ltb 0 (pinOf a) && ltb (pinOf a) n && ltb 0 (pinOf b) && ltb (pinOf b) n && nodesRight n (suc p) g
 
--- at most 65,535 pins, two numbers for each and for pin 0, which no gate can drive since no pin is below it
+-- at most 65,535 pins, two numbers for each and for pin 0
 unfoldable pub graphRight : List ℕ → Bool
-graphRight gates = eqb (length gates % 2) 0 && leb 1 (pinCount gates) && leb (pinCount gates) 65536 && nodesRight 0 (graphOf gates)
+graphRight gates = eqb (length gates % 2) 0 && leb 1 (pinCount gates) && leb (pinCount gates) 65536 && nodesRight (pinCount gates) 0 (graphOf gates)
+
+-- 23. no pin is on a loop, gates counted whether given or not; judged of a graph that 3 lets pass
+unfoldable pub loopsRight : List ℕ → Bool
+loopsRight gates = loopless (graphOf gates)
+
+-- the pin shown with a refusal: with 23 the smallest on any loop, else 0
+unfoldable pub pinFound : Found → ℕ
+pinFound nothing = 0
+pinFound (found p) = p
+
+unfoldable pub pinShown : ℕ → List ℕ → ℕ
+pinShown n gates = elim (eqb n 23) [ true ↦ pinFound (loopPin (graphOf gates)) | false ↦ 0 ]
 
 -- 4. no record is unknown or cut, E is at most 65,536, and no pin is above N
 unfoldable pub groupsRight : ℕ → Groups? → Bool
@@ -43,7 +56,7 @@ recordsRight n records = leb (length records) 65536 && groupsRight n (read recor
 unfoldable pub givenRight : ℕ → List ℕ → Bool
 givenRight n given = every (λ p. ltb p n) given
 
--- the first of 1 to 5 that applies, or 0; `sized` says whether every lent area has a right size
+-- the first of 1, 2, 3, 23, 4, 5 that applies, or 0; `sized` says whether every lent area has a right size
 unfoldable pub refusalOf : ℕ → Bool → (gates given records : List ℕ) → ℕ
 refusalOf K sized gates given records =
     elim (isHeight K) [
@@ -52,9 +65,12 @@ refusalOf K sized gates given records =
         | false ↦ 2
         | true ↦ elim (graphRight gates) [
           | false ↦ 3
-          | true ↦ elim (recordsRight (pinCount gates) records) [
-            | false ↦ 4
-            | true ↦ elim (givenRight (pinCount gates) given) [ false ↦ 5 | true ↦ 0 ]
+          | true ↦ elim (loopsRight gates) [
+            | false ↦ 23
+            | true ↦ elim (recordsRight (pinCount gates) records) [
+              | false ↦ 4
+              | true ↦ elim (givenRight (pinCount gates) given) [ false ↦ 5 | true ↦ 0 ]
+            ]
           ]
         ]
       ]

@@ -7,7 +7,7 @@ use lib.ListN.{length, getD, take, drop}
 use Rattle.rules.specs.Lists.{nothing, found, mem, keep, insert, insertAll, count, isNil, swapOutAll}
 use Rattle.rules.specs.Cells.{empty, filled, levelOneSize, rowAt, row, firstEmpty}
 use Rattle.rules.specs.Graph.{Node}
-use Rattle.rules.specs.Traversal.{Setting, setting}
+use Rattle.rules.specs.Traversal.{WordRule, everyRun, neededRuns, Setting, setting}
 use Rattle.rules.specs.Placing.{tree, treeOf, neededOf, place, filledPlan}
 
 -- 8. a sparse record: how many cells of a run are filled, where the run starts
@@ -70,11 +70,21 @@ putRun X r s =
     let t = putCells X 32 (rowAt (X .K) 1 + r .start) s in
     record { plan = t .plan; left = t .left; real = t .real; words = t .words ++ ((r .start + levelOneSize (X .K)) / 32 ∷ []) }
 
--- while records last, and either untouched is empty (`last`) or enough needed waiting pins are left
+-- the word rule: where so many needed waiting pins are left, may a run be written
+unfoldable pub allows : WordRule → ℕ → Bool
+allows everyRun left = true
+allows neededRuns zero = false
+allows neededRuns (suc n) = true
+
+-- is a run with so many filled cells written: either untouched is empty (`last`) or enough needed waiting pins are left
+unfoldable pub goesOn : WordRule → Bool → ℕ → ℕ → Bool
+goesOn rule last filled left = allows rule left && (last || leb (32 - filled) left)
+
+-- while records last
 unfoldable pub putRuns : Setting → Bool → List Sparse → Put → Put
 putRuns X last [] s = s
 putRuns X last (r ∷ rs) s =
-    elim (last || leb (32 - r .filled) (length (s .left))) [
+    elim (goesOn (X .rule) last (r .filled) (length (s .left))) [
       | true ↦ putRuns X last rs (putRun X r s)
       | false ↦ s
     ]
@@ -158,7 +168,7 @@ finish X room pl =
       ]
     ]
 
-unfoldable pub oneStage : ℕ → List Node → List ℕ → List ℕ → ℕ → Stage?
-oneStage K g done waiting room =
-    let X = setting K g done waiting in
+unfoldable pub oneStage : WordRule → ℕ → List Node → List ℕ → List ℕ → ℕ → Stage?
+oneStage rule K g done waiting room =
+    let X = setting rule K g done waiting in
     finish X room (filledPlan X)

@@ -75,7 +75,7 @@ resultSize plan gates = length plan + pinCount gates
 unfoldable pub foldSized : ℕ → (plan gates : List ℕ) → (bits result : ℕ) → Bool
 foldSized K plan gates bits result = planSized K (length plan) && leb (pinCount gates) bits && leb (resultSize plan gates) result
 
--- 1, 2, 3 or 5, else 0: there are no records to refuse
+-- 1, 2, 3, 23 or 5, else 0: there are no records to refuse
 unfoldable pub foldRefusal : ℕ → (plan gates given bits result : List ℕ) → ℕ
 foldRefusal K plan gates given bits result = refusalOf K (foldSized K plan gates (length bits) (length result)) gates given []
 

@@ -58,7 +58,7 @@ unfoldable pub gateBit : Bool → Bool → Node → Bool
 gateBit x y leaf = false
 gateBit x y (gate a b) = literalBit a x && literalBit b y
 
--- the graph value of a pin; a given pin's is its bit even if a gate drives it. With a fuel of N + 1 it does not run out, since operands are lower
+-- the graph value of a pin; a given pin's is its bit even if a gate drives it. With a fuel of N + 1 it does not run out, since no chain of operands meets a pin twice
 unfoldable pub value : ℕ → List Node → List ℕ → List ℕ → ℕ → Bool
 value zero g given bits p = false
 value (suc f) g given bits p =

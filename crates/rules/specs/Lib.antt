@@ -1,6 +1,7 @@
 pub mod Lists
 pub mod Cells
 pub mod Graph
+pub mod Loops
 pub mod Records
 pub mod Reservation
 pub mod Checks

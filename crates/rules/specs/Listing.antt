@@ -10,7 +10,8 @@ use Rattle.rules.specs.Lists.{count}
 use Rattle.rules.specs.Cells.{filled}
 use Rattle.rules.specs.Graph.{graphOf}
 use Rattle.rules.specs.Records.{groupsOf}
-use Rattle.rules.specs.Checks.{refusalOf}
+use Rattle.rules.specs.Checks.{refusalOf, pinShown}
+use Rattle.rules.specs.Traversal.{WordRule}
 use Rattle.rules.specs.Build.{Stage, Answer, refusal, whole, build}
 use Rattle.rules.specs.Job.{Job, noJob, job, readJob, jobRooms}
 
@@ -53,21 +54,26 @@ stagesLines k (s ∷ ss) = stageLines k s ++ stagesLines (suc k) ss
 unfoldable pub listing : ℕ → List Stage → List ℕ
 listing K ss = text "plan height " ++ decimal K ++ text " stages " ++ decimal (length ss) ++ text "\n" ++ stagesLines 1 ss ++ text "end\n"
 
-unfoldable pub refusedLine : ℕ → ℕ → List ℕ
-refusedLine n k = text "refused " ++ decimal n ++ text " stage " ++ decimal k ++ text "\n"
+-- the pin shown with a refusal, if there is one
+unfoldable pub pinText : ℕ → List ℕ
+pinText zero = []
+pinText (suc p) = text " pin " ++ decimal (suc p)
+
+unfoldable pub refusedLine : ℕ → ℕ → ℕ → List ℕ
+refusedLine n k p = text "refused " ++ decimal n ++ text " stage " ++ decimal k ++ pinText p ++ text "\n"
 
 unfoldable pub answerText : ℕ → Answer → List ℕ
-answerText K (refusal n k) = refusedLine n k
+answerText K (refusal n k) = refusedLine n k 0
 answerText K (whole ss) = listing K ss
 
 -- the program's own areas have the right sizes
-unfoldable pub jobText : Job → List ℕ
-jobText J =
+unfoldable pub jobText : WordRule → Job → List ℕ
+jobText rule J =
     elim (refusalOf (J .height) true (J .gates) (J .given) (J .records)) [
-      | zero ↦ answerText (J .height) (build (J .height) (graphOf (J .gates)) (J .given) (groupsOf (J .records)) jobRooms)
-      | suc n ↦ refusedLine (suc n) 0
+      | zero ↦ answerText (J .height) (build rule (J .height) (graphOf (J .gates)) (J .given) (groupsOf (J .records)) jobRooms)
+      | suc n ↦ refusedLine (suc n) 0 (pinShown (suc n) (J .gates))
     ]
 
 -- 11 comes before all
-unfoldable pub printed : List ℕ → List ℕ
-printed bytes = elim (readJob bytes) [ noJob ↦ refusedLine 11 0 | job J ↦ jobText J ]
+unfoldable pub printed : WordRule → List ℕ → List ℕ
+printed rule bytes = elim (readJob bytes) [ noJob ↦ refusedLine 11 0 0 | job J ↦ jobText rule J ]

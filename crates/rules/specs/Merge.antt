@@ -8,12 +8,13 @@ use Rattle.rules.specs.Lists.{mem, every, sum, padded}
 use Rattle.rules.specs.Cells.{rooms}
 use Rattle.rules.specs.Graph.{Node, graphOf}
 use Rattle.rules.specs.Records.{Group, output, groupsOf, waitingOf}
-use Rattle.rules.specs.Traversal.{traverse}
-use Rattle.rules.specs.Checks.{workSize, areasSized, refusalOf}
+use Rattle.rules.specs.Traversal.{WordRule, traverse}
+use Rattle.rules.specs.Checks.{workSize, areasSized, pinShown, refusalOf}
 use Rattle.rules.specs.Build.{Answer, refusal, whole, build, Areas, areasAfter, reply}
 
 -- what every build of a merge shares, with the greatest number of stages that a union may have and the ranks that the begun blocks hold
 pub record Common : Type 0 where
+  pub rule : WordRule
   pub K : ℕ
   pub g : List Node
   pub given : List ℕ
@@ -34,7 +35,7 @@ unfoldable pub named : Common → List ℕ → List Group
 named J is = map (λ i. getD (J .groups) i (output 0)) is
 
 unfoldable pub builtOf : Common → List ℕ → Answer
-builtOf J is = build (J .K) (J .g) (J .given) (named J is) (J .rooms)
+builtOf J is = build (J .rule) (J .K) (J .g) (J .given) (named J is) (J .rooms)
 
 -- the size of a traversal
 unfoldable pub sizeFor : Common → List ℕ → ℕ
@@ -161,13 +162,13 @@ pub data MergeAnswer : Type 0 where
   turned : (part number at : ℕ) → MergeAnswer
   merged : Result → MergeAnswer
 
-unfoldable pub merge : ℕ → List Node → List ℕ → List Group → ℕ → ℕ → List (List ℕ) → MergeAnswer
-merge K g given groups rooms extra parts =
-    let J : Common = record { K = K; g = g; given = given; groups = groups; rooms = rooms; cap = 0; ranks = 0 } in
+unfoldable pub merge : WordRule → ℕ → List Node → List ℕ → List Group → ℕ → ℕ → List (List ℕ) → MergeAnswer
+merge rule K g given groups rooms extra parts =
+    let J : Common = record { rule = rule; K = K; g = g; given = given; groups = groups; rooms = rooms; cap = 0; ranks = 0 } in
     elim (original J 0 parts) [
       | bad i n k ↦ turned i n k
       | good ps ↦ merged (merging
-          (record { K = K; g = g; given = given; groups = groups; rooms = rooms; cap = mostStages ps 0 + extra; ranks = begun (length ps) (max (length ps / 8) 20) 0 4 })
+          (record { rule = rule; K = K; g = g; given = given; groups = groups; rooms = rooms; cap = mostStages ps 0 + extra; ranks = begun (length ps) (max (length ps / 8) 20) 0 4 })
           (length ps) (occupied ps) 0)
     ]
 
@@ -206,7 +207,7 @@ mergeable records l extra =
     && leb extra 255
     && leb (length (l .indices)) 4294967295
 
--- the answer of a merge; stages and words are sums
+-- the answer of a merge; stages and words are sums, and the pin shown is 0 unless 23
 pub record MergeReply : Type 0 where
   pub number : ℕ
   pub stages : ℕ
@@ -215,9 +216,14 @@ pub record MergeReply : Type 0 where
   pub partitions : ℕ
   pub trials : ℕ
   pub refused : ℕ
+  pub pin : ℕ
 
 unfoldable pub refuseMerge : (number stage part : ℕ) → MergeReply
-refuseMerge n k i = record { number = n; stages = 0; words = 0; stage = k; partitions = 0; trials = 0; refused = i }
+refuseMerge n k i = record { number = n; stages = 0; words = 0; stage = k; partitions = 0; trials = 0; refused = i; pin = 0 }
+
+-- what the checks refuse
+unfoldable pub refuseMergeChecked : ℕ → List ℕ → MergeReply
+refuseMergeChecked n gates = record { number = n; stages = 0; words = 0; stage = 0; partitions = 0; trials = 0; refused = 0; pin = pinShown n gates }
 
 unfoldable pub indicesOf : List Part → List ℕ
 indicesOf [] = []
@@ -242,6 +248,7 @@ mergeReply (merged r) = record {
   partitions = length (r .parts);
   trials = r .trials;
   refused = 0;
+  pin = 0;
 }
 
 -- the group list at exit: the merged partitions in final order, unused lengths and stages 0; as it was on refusal
@@ -258,7 +265,7 @@ pub record MergeOutcome : Type 0 where
   pub groups : GroupList
   pub areas : Areas
 
--- the first of 1 to 5 and 10 that applies, or 0
+-- the first of 1, 2, 3, 23, 4, 5 and 10 that applies, or 0
 unfoldable pub mergeRefusal : ℕ → (gates given records : List ℕ) → GroupList → ℕ → Areas → ℕ
 mergeRefusal K gates given records l extra a =
     elim (refusalOf K (mergeSized K gates records l a) gates given records) [
@@ -266,16 +273,16 @@ mergeRefusal K gates given records l extra a =
       | suc n ↦ suc n
     ]
 
-unfoldable pub mergeAnswerOf : ℕ → (gates given records : List ℕ) → GroupList → ℕ → ℕ → MergeAnswer
-mergeAnswerOf K gates given records l extra size =
-    merge K (graphOf gates) given (groupsOf records) (rooms K size) extra (splitBy (l .lengths) (l .indices))
+unfoldable pub mergeAnswerOf : WordRule → ℕ → (gates given records : List ℕ) → GroupList → ℕ → ℕ → MergeAnswer
+mergeAnswerOf rule K gates given records l extra size =
+    merge rule K (graphOf gates) given (groupsOf records) (rooms K size) extra (splitBy (l .lengths) (l .indices))
 
--- the whole call: after 1 to 5 and 10 nothing is changed
-unfoldable pub merger : ℕ → (gates given records : List ℕ) → GroupList → ℕ → Areas → MergeOutcome
-merger K gates given records l extra a =
+-- the whole call: after 1 to 5, 23 and 10 nothing is changed
+unfoldable pub merger : WordRule → ℕ → (gates given records : List ℕ) → GroupList → ℕ → Areas → MergeOutcome
+merger rule K gates given records l extra a =
     elim (mergeRefusal K gates given records l extra a) [
       | zero ↦
-          let m = mergeAnswerOf K gates given records l extra (length (a .plan)) in
+          let m = mergeAnswerOf rule K gates given records l extra (length (a .plan)) in
           record { reply = mergeReply m; groups = groupListAfter m l; areas = areasAfter K (mergeWorkSize gates records l) [] a }
-      | suc n ↦ record { reply = refuseMerge (suc n) 0 0; groups = l; areas = a }
+      | suc n ↦ record { reply = refuseMergeChecked (suc n) gates; groups = l; areas = a }
     ]

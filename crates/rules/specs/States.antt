@@ -7,6 +7,7 @@ use Rattle.rules.specs.Cells.{wordLimit}
 use Rattle.rules.specs.Graph.{Node}
 use Rattle.rules.specs.Records.{Group, waitingOf}
 use Rattle.rules.specs.Reservation.{reserved, reservable}
+use Rattle.rules.specs.Traversal.{WordRule}
 use Rattle.rules.specs.Ending.{refused, stage, oneStage}
 
 -- the given and realised pins, the pins that wait, the words that may still be written; or none, where so many stages were not completed
@@ -15,19 +16,19 @@ pub data State : Type 0 where
   state : (done waiting : List ℕ) (room : ℕ) → State
 
 -- s completed stages on
-unfoldable pub afterFrom : ℕ → List Node → ℕ → List ℕ → List ℕ → ℕ → State
-afterFrom K g zero done waiting room = state done waiting room
-afterFrom K g (suc s) done [] room = none
-afterFrom K g (suc s) done (w ∷ ws) room =
-    elim (oneStage K g done (w ∷ ws) room) [
+unfoldable pub afterFrom : WordRule → ℕ → List Node → ℕ → List ℕ → List ℕ → ℕ → State
+afterFrom rule K g zero done waiting room = state done waiting room
+afterFrom rule K g (suc s) done [] room = none
+afterFrom rule K g (suc s) done (w ∷ ws) room =
+    elim (oneStage rule K g done (w ∷ ws) room) [
       | refused n ↦ none
-      | stage plan words realised waiting ↦ afterFrom K g s (realised ++ done) waiting (room - length words)
+      | stage plan words realised waiting ↦ afterFrom rule K g s (realised ++ done) waiting (room - length words)
     ]
 
 -- after s completed stages of a build
-unfoldable pub after : ℕ → List Node → (given : List ℕ) → List Group → ℕ → State
-after K g given groups s =
+unfoldable pub after : WordRule → ℕ → List Node → (given : List ℕ) → List Group → ℕ → State
+after rule K g given groups s =
     elim (reservable K groups) [
-      | true ↦ afterFrom K g s given (waitingOf groups []) (wordLimit K - reserved groups)
+      | true ↦ afterFrom rule K g s given (waitingOf groups []) (wordLimit K - reserved groups)
       | false ↦ none
     ]

@@ -36,8 +36,14 @@ unfoldable pub greatest : List ℕ → ℕ → ℕ
 greatest [] m = m
 greatest (x ∷ xs) m = greatest xs (max x m)
 
--- what does not change in a stage: the height, the graph, given and realised pins, waiting pins, the traversal (last pin first, and in order) and the levels
+-- which sparse runs rule 8 writes once nothing is untouched: every one, idle runs too, as the Rust does; or none after the last needed waiting pin
+pub data WordRule : Type 0 where
+  everyRun : WordRule
+  neededRuns : WordRule
+
+-- what does not change in a stage: the word rule, the height, the graph, given and realised pins, waiting pins, the traversal (last pin first, and in order) and the levels
 pub record Setting : Type 0 where
+  pub rule : WordRule
   pub K : ℕ
   pub g : List Node
   pub done : List ℕ
@@ -46,10 +52,10 @@ pub record Setting : Type 0 where
   pub order : List ℕ
   pub lv : List ℕ
 
-unfoldable pub setting : ℕ → List Node → List ℕ → List ℕ → Setting
-setting K g done waiting =
+unfoldable pub setting : WordRule → ℕ → List Node → List ℕ → List ℕ → Setting
+setting rule K g done waiting =
     let s = traverse (length g) g done waiting in
-    record { K = K; g = g; done = done; waiting = waiting; seen = s; order = reverse s; lv = levels g done s }
+    record { rule = rule; K = K; g = g; done = done; waiting = waiting; seen = s; order = reverse s; lv = levels g done s }
 
 unfoldable pub levelAt : Setting → ℕ → ℕ
 levelAt X p = getD (X .lv) p 0

@@ -1,4 +1,5 @@
 pub mod Classes
 pub mod Laid
+pub mod Rule
 pub mod Puts
 pub mod Ran

@@ -13,6 +13,7 @@ use Rattle.rules.proofs.Lists.Members.{In}
 use Rattle.columns.specs.Fields.{WAITING, CELLS, STACK, PHASE, PLACE, MARK, TAIL, ONES, PINS}
 use Rattle.columns.specs.Area.{Frame}
 use Rattle.columns.specs.Lists.{list, span, Holds, Marked, Placed}
+use Rattle.runs.specs.declared.WordRule.{WordRule}
 use Rattle.walk.specs.Stands.{Context}
 use Rattle.tree.specs.Bits.{Standing}
 use Rattle.rules.proofs.Stage.Puts as rules-puts
@@ -21,6 +22,7 @@ use Rattle.runs.specs.declared.puts.Written.{Written}
 use Rattle.sparse.specs.declared.Runs.{Runs}
 use Rattle.sparse.specs.Runs.{listed}
 use Rattle.runs.specs.Laid.{noted}
+use Rattle.runs.specs.Rule.{ruleOf}
 
 -- only what placing counts, and the realised pins, changed
 pub record Moved (m : ℕ) (w w′ : List ℕ) : Type 0 where
@@ -85,12 +87,13 @@ pub record PutRecord (C : Context) (m half k at room j start : ℕ) (gates : Lis
 unfoldable pub wordsOf : ℕ → List rules.Sparse → List ℕ
 wordsOf half rs = map (λ r. (r .start + half) / 32) rs
 
-pub record WriteAt (C : Context) (m half k at room : ℕ) (R : Runs) (gates pl w words : List ℕ) : Type 0 where
+pub record WriteAt (C : Context) (m half k : ℕ) (rule : WordRule) (at room : ℕ) (R : Runs) (gates pl w words : List ℕ) : Type 0 where
   pub now : Putting C m k (record { next = 0; real = 0 }) gates pl w
   pub row : half ≡ rowAt (C .X .K) 1
   pub size : length (R .records) ≡ 128
   pub few : R .len ≤ 128
   pub inside : rules-puts.Runs half (listed R)
+  pub ruled : C .X .rule ≡ ruleOf rule
   pub fits : at + room ≤ length words
 
 -- the first j records are done

@@ -13,13 +13,16 @@ use Rattle.columns.specs.Lists.{Marks, Marked}
 use Rattle.walk.specs.Stands.{Context, Begun}
 use Rattle.tree.specs.Bits.{Standing}
 use Rattle.runs.specs.declared.Spent.{Spent}
+use Rattle.runs.specs.declared.WordRule.{WordRule}
+use Rattle.runs.specs.Rule.{ruleOf}
 use Rattle.runs.specs.Laid.{noted}
 
-pub record EndAt (C : Context) (m K half n at room : ℕ) (gates pl w words : List ℕ) : Type 0 where
+pub record EndAt (C : Context) (m K half n : ℕ) (rule : WordRule) (at room : ℕ) (gates pl w words : List ℕ) : Type 0 where
   pub stands : Standing C m 1 gates pl w
   pub begun : Begun C m n gates w
   pub height : K ≡ C .X .K
   pub row : half ≡ rowAt K 1
+  pub ruled : C .X .rule ≡ ruleOf rule
   pub marks : (p : ℕ) → p < m → getD w (MARK * m + p) 0 ≡ 0
   pub spare : (p : ℕ) → p < m → getD w (SPARE * m + p) 0 ≡ 0
   pub fits : at + room ≤ length words

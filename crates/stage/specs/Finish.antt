@@ -13,17 +13,20 @@ use Rattle.rules.proofs.Tree.Fair.{Fair}
 use Rattle.columns.specs.Fields.{ORDER, DONE, WAITING, CELLS, NEEDED, STACK, PHASE, PLACE, MARK, SPARE, TAIL}
 use Rattle.columns.specs.Area.{Room, Frame}
 use Rattle.columns.specs.Lists.{Holds, Marks, Clear, Marked, Placed}
+use Rattle.runs.specs.declared.WordRule.{WordRule as Asked}
 use Rattle.walk.specs.Stands.{Context, Set, Tally}
 use Rattle.tree.specs.Bits.{Standing}
+use Rattle.runs.specs.Rule.{ruleOf}
 use Rattle.runs.specs.declared.Spent.{Spent}
 use Rattle.ending.specs.declared.last.Kept.{Kept}
 use Rattle.stage.specs.declared.finish.Outcome.{Outcome}
 
 -- the plan of rules 2 to 7 stands; o pins are listed, n wait, q are needed
-pub record FinishAt (C : Context) (m K half o n q at room : ℕ) (gates pl w words : List ℕ) : Type 0 where
+pub record FinishAt (C : Context) (m K half o n q : ℕ) (asked : Asked) (at room : ℕ) (gates pl w words : List ℕ) : Type 0 where
   pub stands : Standing C m 1 gates pl w
   pub set : Set C m n o gates w
   pub needed : Holds NEEDED m q (neededOf (C .X) pl) w
+  pub ruled : C .X .rule ≡ ruleOf asked
   pub marks : Clear MARK m w
   pub spare : Clear SPARE m w
   pub tail : (j : ℕ) → j < 256 → getD w (16 * m + j) 0 ≡ 0

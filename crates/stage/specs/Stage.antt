@@ -8,17 +8,20 @@ use Rattle.rules.specs.Lean as lean
 use Rattle.rules.specs.Ending.{Stage?, refused, oneStage}
 use Rattle.columns.specs.Fields.{ORDER, DONE, LEVEL, WAITING, CELLS, RANKED, STARTS, ENDS, REVERSE, NEEDED, LISTED, STACK, PHASE, PLACE, MARK, SPARE, TAIL}
 use Rattle.columns.specs.Lists.{Clear}
+use Rattle.runs.specs.declared.WordRule.{WordRule as Asked}
 use Rattle.walk.specs.Stands.{Context, Begun, Fresh}
+use Rattle.runs.specs.Rule.{ruleOf}
 use Rattle.stage.specs.declared.finish.Outcome.{Outcome}
 use Rattle.stage.specs.Finish.{Changed, Whole}
 
 -- n pins wait; the stage is empty, and so is every column but those of given and realised pins and of the waiting list
-pub record StageAt (C : Context) (m K half n at room : ℕ) (gates pl w words : List ℕ) : Type 0 where
+pub record StageAt (C : Context) (m K half n : ℕ) (asked : Asked) (at room : ℕ) (gates pl w words : List ℕ) : Type 0 where
   pub begun : Begun C m n gates w
   pub fresh : Fresh m w
   pub cells : Clear CELLS m w
   pub marks : Clear MARK m w
   pub tail : (j : ℕ) → j < 258 → getD w (16 * m + j) 0 ≡ 0
+  pub ruled : C .X .rule ≡ ruleOf asked
   pub height : K ≡ C .X .K
   pub row : half ≡ rowAt K 1
   pub blank : pl ≡ lean.blank (C .X)
@@ -30,7 +33,7 @@ columns = ORDER ∷ DONE ∷ LEVEL ∷ WAITING ∷ CELLS ∷ RANKED ∷ STARTS �
 
 -- the stage that rules 1 to 11 build for a context, or what refuses it
 unfoldable pub built : Context → ℕ → Stage?
-built C room = oneStage (C .X .K) (C .X .g) (C .X .done) (C .X .waiting) room
+built C room = oneStage (C .X .rule) (C .X .K) (C .X .g) (C .X .done) (C .X .waiting) room
 
 -- after a whole stage the next one finds what this one found
 pub record Staged (C : Context) (m at room : ℕ) (pl w words : List ℕ) (e : Outcome) (pl′ w′ words′ : List ℕ) : Type 0 where

@@ -5,6 +5,7 @@ use ending::last::Kept;
 use ending::last::last_words;
 use ending::rest::fill_rest;
 use runs::Spent;
+use runs::WordRule;
 use runs::write_runs;
 use tally::Tally;
 use tally::is_over;
@@ -116,14 +117,27 @@ pub fn finish(
     o: usize,
     n: usize,
     q: usize,
+    rule: WordRule,
     tally: Tally,
 ) -> Outcome
-    requires { ⌜ Counted tally × Some (λ C. FinishAt C m height half o n q (tally .spent) (room tally) (now gates) (now stage) (now work) (now words)) ⌝ }
-    ensures { λ r. ⌜ Every (λ C. FinishAt C m height half o n q (tally .spent) (room tally) (now (gates .entry)) (now (stage .entry)) (now (work .entry)) (now (words .entry))) (λ C. Finished C m (tally .spent) (room tally) (rules.finish (C .X) (room tally) (now (stage .entry))) (now (stage .entry)) (now (work .entry)) (now (words .entry)) r (now (stage .exit)) (now (work .exit)) (now (words .exit))) ⌝ }
+    requires { ⌜ Counted tally × Some (λ C. FinishAt C m height half o n q rule (tally .spent) (room tally) (now gates) (now stage) (now work) (now words)) ⌝ }
+    ensures { λ r. ⌜ Every (λ C. FinishAt C m height half o n q rule (tally .spent) (room tally) (now (gates .entry)) (now (stage .entry)) (now (work .entry)) (now (words .entry))) (λ C. Finished C m (tally .spent) (room tally) (rules.finish (C .X) (room tally) (now (stage .entry))) (now (stage .entry)) (now (work .entry)) (now (words .entry)) r (now (stage .exit)) (now (work .exit)) (now (words .exit))) ⌝ }
 {
     let at = tally.spent;
     let room = left(tally);
-    let s = write_runs(gates, stage, work, words, m, height, half, n, at, room);
+    let s = write_runs(
+        gates,
+        stage,
+        work,
+        words,
+        m,
+        height,
+        half,
+        n,
+        rule,
+        at,
+        room,
+    );
     if is_over(spend(tally, s.words)) {
         return Outcome {
             number: 7,

@@ -3,6 +3,7 @@ use finish::finish;
 use lean::filling::fill_tree;
 use prepare::forget;
 use prepare::prepare;
+use runs::WordRule;
 use tally::Tally;
 ghost use Rattle.tally.specs.Spending.{room, Counted};
 ghost use Rattle.walk.specs.Stands.{Some, Every};
@@ -23,10 +24,11 @@ pub fn build_one_stage(
     height: usize,
     half: usize,
     n: usize,
+    rule: WordRule,
     tally: Tally,
 ) -> Outcome
-    requires { ⌜ Counted tally × Some (λ C. StageAt C m height half n (tally .spent) (room tally) (now gates) (now stage) (now work) (now words)) ⌝ }
-    ensures { λ r. ⌜ Every (λ C. StageAt C m height half n (tally .spent) (room tally) (now (gates .entry)) (now (stage .entry)) (now (work .entry)) (now (words .entry))) (λ C. Staged C m (tally .spent) (room tally) (now (stage .entry)) (now (work .entry)) (now (words .entry)) r (now (stage .exit)) (now (work .exit)) (now (words .exit))) ⌝ }
+    requires { ⌜ Counted tally × Some (λ C. StageAt C m height half n rule (tally .spent) (room tally) (now gates) (now stage) (now work) (now words)) ⌝ }
+    ensures { λ r. ⌜ Every (λ C. StageAt C m height half n rule (tally .spent) (room tally) (now (gates .entry)) (now (stage .entry)) (now (work .entry)) (now (words .entry))) (λ C. Staged C m (tally .spent) (room tally) (now (stage .entry)) (now (work .entry)) (now (words .entry)) r (now (stage .exit)) (now (work .exit)) (now (words .exit))) ⌝ }
 {
     let walk = prepare(gates, work, m, n);
     let listed = walk.listed;
@@ -42,6 +44,7 @@ pub fn build_one_stage(
         listed,
         n,
         q,
+        rule,
         tally,
     );
     forget(work, m, listed);

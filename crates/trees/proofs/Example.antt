@@ -12,14 +12,15 @@ use lib.Seq.{getD-set-other}
 use Rattle.rules.specs.Lists.{mem}
 use Rattle.rules.specs.Cells.{empty, isHeight, stageSize, rowAt}
 use Rattle.rules.specs.Graph.{Node, leaf, gate, pinOf, operands, nodeOf, graphOf, below}
-use Rattle.rules.specs.Traversal.{thread, visit, traverse, over, levels, setting, levelAt}
+use Rattle.rules.specs.Traversal.{neededRuns, thread, visit, traverse, over, levels, setting, levelAt}
 use Rattle.rules.specs.Lean.{blank}
 use Rattle.rules.proofs.Lists.Members.{in-cons, in-nil}
 use Rattle.rules.proofs.Needed.Needs.{Graph, setting-sound}
 use Rattle.rules.proofs.Fold.Whole.{mark}
 use Rattle.rules.proofs.Stage.Last.{nobody, one}
 use Rattle.rules.proofs.Stage.Depth.{Ready}
-use Rattle.rules.proofs.Demand.{Valid, graph}
+use Rattle.rules.proofs.Loops.{rank}
+use Rattle.rules.proofs.Demand.{Valid, graph, graph-few, lower-valid}
 use Rattle.cells.specs.Answers.{orZero, hasLevel}
 use Rattle.cells.proofs.Heights.{orZero-true, tall, level-tested}
 use Rattle.columns.specs.Area.{Room, col}
@@ -42,7 +43,7 @@ lower x y p a b h k e = let c : a ≡ x = cc in let d : b ≡ y = cc in (rw c h,
 
 valid : Valid g
 unfolding pinOf
-valid = record { lower = at }
+valid = lower-valid g at
   where
     at : (p a b : ℕ) → getD g p leaf ≡ gate a b → (pinOf a < p) × (pinOf b < p)
     at zero a b e = no-gate e
@@ -55,12 +56,12 @@ valid = record { lower = at }
     at (suc (suc (suc (suc (suc (suc (suc zero))))))) a b e = lower 10 12 7 a b (omega arith) (omega arith) e
     at (suc (suc (suc (suc (suc (suc (suc (suc p)))))))) a b e = no-gate e
 
-G : Graph g (λ p. p)
+G : Graph g (rank g)
 G = graph g valid
 
-ready : Ready g (λ p. p) (7 ∷ [])
+ready : Ready g (rank g) (7 ∷ [])
 unfolding mem
-ready = record { once = one refl nobody; bounded = λ x i. elim (in-cons x 7 [] i) [ inl e ↦ (omega arith, omega arith) | inr e ↦ in-nil x e ] }
+ready = record { once = one refl nobody; bounded = λ x i. let h : x < length g = elim (in-cons x 7 [] i) [ inl e ↦ omega arith | inr e ↦ in-nil x e ] in (h, graph-few g valid x h) }
 
 small : length g ≤ empty
 unfolding empty
@@ -69,12 +70,12 @@ small = omega arith
 pub example : (K : ℕ) → 6 ≤ K → K ≤ 13 → Context
 unfolding setting
 example K low high = record {
-  X = setting K g [] (7 ∷ []);
-  r = λ p. p;
+  X = setting neededRuns K g [] (7 ∷ []);
+  r = rank g;
   G = G;
   R = ready;
-  S = setting-sound K g (λ p. p) G [] (7 ∷ []) (ready .bounded);
-  M = mark g (λ p. p) G small;
+  S = setting-sound neededRuns K g (rank g) G [] (7 ∷ []) (ready .bounded);
+  M = mark g (rank g) G small;
   is = refl;
   low = low;
   high = high;

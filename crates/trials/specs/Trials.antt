@@ -5,6 +5,7 @@ use mathlib.Core.List.{List, _++_}
 use mathlib.Core.Path.{_≡_}
 use lib.ListN.{length, set}
 use Rattle.rules.specs.Lists.{sum}
+use Rattle.rules.specs.Traversal.{WordRule}
 use Rattle.rules.specs.Build.{reply}
 use Rattle.rules.specs.Merge.{Common, builtOf, accepted}
 use Rattle.start.specs.Opening.{Idle}
@@ -58,12 +59,12 @@ pub record Takes (base i j stages words : ℕ) (xs ls w xs′ ls′ w′ : List 
   pub taken : Taken i j xs ls xs′ ls′
   pub joined : Joined (length ls) i j stages words (owned base (length ls) w) (owned base (length ls) w′)
 
-pub record Tried (K m table base i j cap : ℕ) (gates given records xs ls pl w : List ℕ) (r : Bool) (xs′ ls′ pl′ ws′ cs′ w′ : List ℕ) : Type 0 where
+pub record Tried (rule : WordRule) (K m table base i j cap : ℕ) (gates given records xs ls pl w : List ℕ) (r : Bool) (xs′ ls′ pl′ ws′ cs′ w′ : List ℕ) : Type 0 where
   pub stands : Stands K m table base gates given records xs′ ls′ w′
   pub blank : Blank K pl′ ws′ cs′
   pub plan : length pl′ ≡ length pl
   pub count : length ls′ ≡ length ls
-  pub is : (J : Common) → Places K (length pl) gates given records J → J .cap ≡ cap → r ≡ accepted (J .cap) (builtOf J (groupsAt ls xs i ++ groupsAt ls xs j))
+  pub is : (J : Common) → Places rule K (length pl) gates given records J → J .cap ≡ cap → r ≡ accepted (J .cap) (builtOf J (groupsAt ls xs i ++ groupsAt ls xs j))
   pub no : r ≡ false → Barred base j xs ls w xs′ ls′ w′
-  pub yes : r ≡ true → (J : Common) → Places K (length pl) gates given records J
+  pub yes : r ≡ true → (J : Common) → Places rule K (length pl) gates given records J
       → Takes base i j (reply (builtOf J (groupsAt ls xs i ++ groupsAt ls xs j)) .stages) (reply (builtOf J (groupsAt ls xs i ++ groupsAt ls xs j)) .words) xs ls w xs′ ls′ w′

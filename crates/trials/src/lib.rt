@@ -1,5 +1,6 @@
 // What merging into one slot does again and again: the later slots ranked for it, and the trial of one union.
 use placer::Answer;
+use runs::WordRule;
 use slots::BAR;
 use slots::key_slot;
 use slots::start_of;
@@ -10,6 +11,7 @@ use unions::sizing::size_union;
 ghost use mathlib.Core.Path.{_≡_};
 ghost use mathlib.Core.Bool.{_&&_};
 ghost use lib.Dec.{eqb, leb};
+ghost use Rattle.runs.specs.Rule.{ruleOf};
 ghost use Rattle.unions.specs.Unions.{Measured, Built};
 ghost use Rattle.trials.specs.Ranks.{groupsAt, PairAt, RankAt, SlotRanked, AllAt, AllRanked};
 ghost use Rattle.trials.specs.Trials.{BuildAt, JoinAt, Joins, TryAt, Tried};
@@ -121,6 +123,7 @@ pub fn rank_all(
 // The build of the union of slots i and j.
 fn build_pair(
     height: u32,
+    rule: WordRule,
     gates: &[u32],
     given: &[u32],
     records: &[u32],
@@ -136,7 +139,7 @@ fn build_pair(
     j: usize,
 ) -> Answer
     requires { ⌜ BuildAt height m table i j (now gates) (now given) (now records) (now indices) (now lengths) (now plan) (now words) (now counts) (now work) ⌝ }
-    ensures { λ r. ⌜ Built height m table (now (gates .entry)) (now (given .entry)) (now (records .entry)) (groupsAt (now (lengths .entry)) (now (indices .entry)) i) (groupsAt (now (lengths .entry)) (now (indices .entry)) j) (now (plan .entry)) (now (words .entry)) (now (counts .entry)) (now (work .entry)) r (now (plan .exit)) (now (words .exit)) (now (counts .exit)) (now (work .exit)) ⌝ }
+    ensures { λ r. ⌜ Built (ruleOf rule) height m table (now (gates .entry)) (now (given .entry)) (now (records .entry)) (groupsAt (now (lengths .entry)) (now (indices .entry)) i) (groupsAt (now (lengths .entry)) (now (indices .entry)) j) (now (plan .entry)) (now (words .entry)) (now (counts .entry)) (now (work .entry)) r (now (plan .exit)) (now (words .exit)) (now (counts .exit)) (now (work .exit)) ⌝ }
 {
     let a = start_of(lengths, i);
     let b = start_of(lengths, i + 1);
@@ -144,6 +147,7 @@ fn build_pair(
     let d = start_of(lengths, j + 1);
     build_union(
         height,
+        rule,
         gates,
         given,
         records,
@@ -194,6 +198,7 @@ fn join(
 // Slot j's union with slot i, taken if it is accepted; otherwise slot j is barred. Was it accepted?
 pub fn try_union(
     height: u32,
+    rule: WordRule,
     gates: &[u32],
     given: &[u32],
     records: &[u32],
@@ -211,10 +216,11 @@ pub fn try_union(
     cap: usize,
 ) -> bool
     requires { ⌜ TryAt height m table base i j cap (now gates) (now given) (now records) (now indices) (now lengths) (now plan) (now words) (now counts) (now work) ⌝ }
-    ensures { λ r. ⌜ Tried height m table base i j cap (now (gates .entry)) (now (given .entry)) (now (records .entry)) (now (indices .entry)) (now (lengths .entry)) (now (plan .entry)) (now (work .entry)) r (now (indices .exit)) (now (lengths .exit)) (now (plan .exit)) (now (words .exit)) (now (counts .exit)) (now (work .exit)) ⌝ }
+    ensures { λ r. ⌜ Tried (ruleOf rule) height m table base i j cap (now (gates .entry)) (now (given .entry)) (now (records .entry)) (now (indices .entry)) (now (lengths .entry)) (now (plan .entry)) (now (work .entry)) r (now (indices .exit)) (now (lengths .exit)) (now (plan .exit)) (now (words .exit)) (now (counts .exit)) (now (work .exit)) ⌝ }
 {
     let a = build_pair(
         height,
+        rule,
         gates,
         given,
         records,

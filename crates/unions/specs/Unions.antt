@@ -7,6 +7,7 @@ use lib.ListN.{length, getD, replicate}
 use Rattle.rules.specs.Cells.{empty, rooms}
 use Rattle.rules.specs.Graph.{graphOf, pinCount}
 use Rattle.rules.specs.Records.{groupsOf}
+use Rattle.rules.specs.Traversal.{WordRule}
 use Rattle.rules.specs.Build as rules
 use Rattle.rules.specs.Merge.{Common, builtOf, sizeFor}
 use Rattle.rules.proofs.Lists.Members.{In}
@@ -70,20 +71,21 @@ pub record TryAt (K m table : ℕ) (gates given records first second pl ws cs w 
   pub blank : Blank K pl ws cs
 
 -- the areas keep their lengths
-pub record Tried (K m table : ℕ) (gates given records first second pl ws cs w : List ℕ) (a : Answer) (pl′ ws′ cs′ w′ : List ℕ) : Type 0 where
+pub record Tried (rule : WordRule) (K m table : ℕ) (gates given records first second pl ws cs w : List ℕ) (a : Answer) (pl′ ws′ cs′ w′ : List ℕ) : Type 0 where
   pub kept : Kept pl ws cs w pl′ ws′ cs′ w′
   pub past : (j : ℕ) → table ≤ j → getD w′ j 0 ≡ getD w j 0
-  pub reply : told a ≡ rules.reply (rules.build K (graphOf gates) given (picked (groupsOf records) (first ++ second)) (rooms K (length pl)))
+  pub reply : told a ≡ rules.reply (rules.build rule K (graphOf gates) given (picked (groupsOf records) (first ++ second)) (rooms K (length pl)))
 
 -- a merge of these groups in these areas
-pub record Places (K size : ℕ) (gates given records : List ℕ) (J : Common) : Type 0 where
+pub record Places (rule : WordRule) (K size : ℕ) (gates given records : List ℕ) (J : Common) : Type 0 where
   pub shares : Shares gates given records J
+  pub rule-same : J .rule ≡ rule
   pub height : J .K ≡ K
   pub rooms-same : J .rooms ≡ rooms K size
 
-pub record Built (K m table : ℕ) (gates given records first second pl ws cs w : List ℕ) (a : Answer) (pl′ ws′ cs′ w′ : List ℕ) : Type 0 where
+pub record Built (rule : WordRule) (K m table : ℕ) (gates given records first second pl ws cs w : List ℕ) (a : Answer) (pl′ ws′ cs′ w′ : List ℕ) : Type 0 where
   pub leaves : Leaves m table w w′
   pub plan : pl′ ≡ replicate (length pl) empty
   pub words : ws′ ≡ replicate (length ws) empty
   pub counts : cs′ ≡ replicate (length cs) 0
-  pub reply : (J : Common) → Places K (length pl) gates given records J → told a ≡ rules.reply (builtOf J (first ++ second))
+  pub reply : (J : Common) → Places rule K (length pl) gates given records J → told a ≡ rules.reply (builtOf J (first ++ second))

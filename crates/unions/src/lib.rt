@@ -6,6 +6,7 @@ use placer::Answer;
 use placer::areas::empty_all;
 use placer::stages::stages;
 use reservation::reserve_both;
+use runs::WordRule;
 use start::Opening;
 use start::given::mark_given;
 use start::reservation::Reservation;
@@ -13,6 +14,7 @@ use waiting::wait_both;
 ghost use mathlib.Core.List.{_++_};
 ghost use Rattle.rules.specs.Records.{groupsOf};
 ghost use Rattle.start.specs.Opening.{Begins};
+ghost use Rattle.runs.specs.Rule.{ruleOf};
 ghost use Rattle.unions.specs.Names.{picked};
 ghost use Rattle.unions.specs.Unions.{OpenAt, TryAt, Tried, Built};
 
@@ -49,6 +51,7 @@ fn begin_both(
 // The reservation and the stages, in empty areas.
 fn attempt(
     height: u32,
+    rule: WordRule,
     gates: &[u32],
     given: &[u32],
     records: &[u32],
@@ -62,7 +65,7 @@ fn attempt(
     table: usize,
 ) -> Answer
     requires { ⌜ TryAt height m table (now gates) (now given) (now records) (now first) (now second) (now plan) (now words) (now counts) (now work) ⌝ }
-    ensures { λ r. ⌜ Tried height m table (now (gates .entry)) (now (given .entry)) (now (records .entry)) (now (first .entry)) (now (second .entry)) (now (plan .entry)) (now (words .entry)) (now (counts .entry)) (now (work .entry)) r (now (plan .exit)) (now (words .exit)) (now (counts .exit)) (now (work .exit)) ⌝ }
+    ensures { λ r. ⌜ Tried (ruleOf rule) height m table (now (gates .entry)) (now (given .entry)) (now (records .entry)) (now (first .entry)) (now (second .entry)) (now (plan .entry)) (now (words .entry)) (now (counts .entry)) (now (work .entry)) r (now (plan .exit)) (now (words .exit)) (now (counts .exit)) (now (work .exit)) ⌝ }
 {
     let limit = words.len();
     let opening = begin_both(given, records, first, second, work, m, table, limit);
@@ -72,6 +75,7 @@ fn attempt(
             stages: 0,
             words: 0,
             stage: 0,
+            pin: 0,
         },
         Opening::Ready(reserved, n) => {
             let half = Height(height).level_one_size();
@@ -87,6 +91,7 @@ fn attempt(
                 m,
                 wide(height),
                 half,
+                rule,
                 rooms,
                 n,
                 room,
@@ -98,6 +103,7 @@ fn attempt(
 // The build of a union's groups. A merge keeps no plan, so every area is empty again.
 pub fn build_union(
     height: u32,
+    rule: WordRule,
     gates: &[u32],
     given: &[u32],
     records: &[u32],
@@ -111,10 +117,11 @@ pub fn build_union(
     table: usize,
 ) -> Answer
     requires { ⌜ TryAt height m table (now gates) (now given) (now records) (now first) (now second) (now plan) (now words) (now counts) (now work) ⌝ }
-    ensures { λ r. ⌜ Built height m table (now (gates .entry)) (now (given .entry)) (now (records .entry)) (now (first .entry)) (now (second .entry)) (now (plan .entry)) (now (words .entry)) (now (counts .entry)) (now (work .entry)) r (now (plan .exit)) (now (words .exit)) (now (counts .exit)) (now (work .exit)) ⌝ }
+    ensures { λ r. ⌜ Built (ruleOf rule) height m table (now (gates .entry)) (now (given .entry)) (now (records .entry)) (now (first .entry)) (now (second .entry)) (now (plan .entry)) (now (words .entry)) (now (counts .entry)) (now (work .entry)) r (now (plan .exit)) (now (words .exit)) (now (counts .exit)) (now (work .exit)) ⌝ }
 {
     let a = attempt(
         height,
+        rule,
         gates,
         given,
         records,

@@ -23,7 +23,8 @@ use cases::narrow;
 use cases::number;
 use cases::tell;
 use placer::Answer;
-use placer::build;
+use placer::build_by;
+use runs::WordRule;
 
 // How the head's own part goes on.
 const CELLS: usize = 8;
@@ -36,7 +37,8 @@ fn recorded_build(
     counts: &mut [u32],
     work: &mut [u32],
 ) -> Answer {
-    build(
+    build_by(
+        WordRule::EveryRun,
         narrow(head, HEIGHT),
         gates(head, input),
         given(head, input),

@@ -23,7 +23,8 @@ use cases::narrow;
 use cases::number;
 use cases::tell;
 use merge::Answer;
-use merge::merge;
+use merge::merge_by;
+use runs::WordRule;
 
 // How the head goes on: the group list.
 const INDICES: usize = 5;
@@ -54,7 +55,8 @@ fn recorded_merge(
     counts: &mut [u32],
     work: &mut [u32],
 ) -> Answer {
-    merge(
+    merge_by(
+        WordRule::EveryRun,
         narrow(head, HEIGHT),
         gates(head, input),
         given(head, input),

@@ -7,7 +7,7 @@ use lib.ListN.{length, length-reverse}
 use Rattle.rules.specs.Lists.{distinct, gather}
 use Rattle.rules.specs.Cells.{empty}
 use Rattle.rules.specs.Graph.{Node}
-use Rattle.rules.specs.Traversal.{Setting, setting, levelAt, traverse}
+use Rattle.rules.specs.Traversal.{WordRule, Setting, setting, levelAt, traverse}
 use Rattle.rules.specs.Lean.{wanted, lacks}
 use Rattle.rules.specs.Placing.{treeOf}
 use Rattle.rules.proofs.Lists.Members.{In}
@@ -32,14 +32,14 @@ pub low-mark : (C : Context) → length (C .X .g) ≤ empty
 low-mark C = unfold-empty (length (C .X .g)) (C .small)
 
 -- what a stage is handed makes a context
-unfoldable pub context : (K : ℕ) (g : List Node) (r : ℕ → ℕ) → Graph g r → 6 ≤ K → K ≤ 13 → length g ≤ 65536 → (done waiting : List ℕ) → Ready g r waiting → Context
+unfoldable pub context : (rule : WordRule) (K : ℕ) (g : List Node) (r : ℕ → ℕ) → Graph g r → 6 ≤ K → K ≤ 13 → length g ≤ 65536 → (done waiting : List ℕ) → Ready g r waiting → Context
 unfolding setting
-context K g r G low high small done waiting R = record {
-  X = setting K g done waiting;
+context rule K g r G low high small done waiting R = record {
+  X = setting rule K g done waiting;
   r = r;
   G = G;
   R = R;
-  S = setting-sound K g r G done waiting (R .bounded);
+  S = setting-sound rule K g r G done waiting (R .bounded);
   M = mark g r G (unfold-empty (length g) small);
   is = refl;
   low = low;

@@ -24,7 +24,7 @@ pub record Context : Type 0 where
   pub R : Ready (X .g) r (X .waiting)
   pub S : Sound X r (length (X .g))
   pub M : Marked X
-  pub is : X ≡ setting (X .K) (X .g) (X .done) (X .waiting)
+  pub is : X ≡ setting (X .rule) (X .K) (X .g) (X .done) (X .waiting)
   pub low : 6 ≤ X .K
   pub high : X .K ≤ 13
   pub small : length (X .g) ≤ 65536

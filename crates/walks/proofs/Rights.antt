@@ -10,7 +10,7 @@ use lib.Dec.{eqb, leb, ltb}
 use lib.ListN.{length, getD}
 use Rattle.rules.specs.Lists.{every}
 use Rattle.rules.specs.Graph.{Node, leaf, gate, pinOf, graphOf, pinCount}
-use Rattle.rules.specs.Checks.{nodesRight, graphRight, givenRight}
+use Rattle.rules.specs.Checks.{nodesRight, graphRight, loopsRight, givenRight}
 use Rattle.rules.proofs.Lists.Members.{split, true-false, and-true}
 use Rattle.rules.proofs.Demand.{Valid}
 
@@ -24,22 +24,21 @@ pub pins-right : (n : ℕ) (xs : List ℕ) → givenRight n xs ≡ true → (i :
 unfolding givenRight
 pins-right n xs e i h = ltb-true (getD xs i 0) n (every-at (λ p. ltb p n) xs e i h)
 
-lower : (g : List Node) (q : ℕ) → nodesRight q g ≡ true → (i a b : ℕ) → getD g i leaf ≡ gate a b → (pinOf a < q + i) × (pinOf b < q + i)
+inside : (n q : ℕ) (g : List Node) → nodesRight n q g ≡ true → (i a b : ℕ) → getD g i leaf ≡ gate a b → (pinOf a < n) × (pinOf b < n)
 unfolding nodesRight
-lower [] q e i a b d = absurd (let z : _≡_ {A = ℕ} 0 1 = cc in omega arith)
-lower (leaf ∷ g) q e zero a b d = absurd (let z : _≡_ {A = ℕ} 0 1 = cc in omega arith)
-lower (leaf ∷ g) q e (suc i) a b d = let h = lower g (suc q) e i a b d in (omega (arith, h .0), omega (arith, h .1))
-lower (gate x y ∷ g) q e zero a b d =
-    let t = and-true (ltb 0 (pinOf x) && ltb (pinOf x) q && ltb 0 (pinOf y) && ltb (pinOf y) q) (nodesRight (suc q) g) e .0 in
-    let s = and-true (ltb 0 (pinOf x) && ltb (pinOf x) q && ltb 0 (pinOf y)) (ltb (pinOf y) q) t in
-    let r = and-true (ltb 0 (pinOf x) && ltb (pinOf x) q) (ltb 0 (pinOf y)) (s .0) .0 in
-    let o = and-true (ltb 0 (pinOf x)) (ltb (pinOf x) q) r .1 in
+inside n q [] e i a b d = absurd (let z : _≡_ {A = ℕ} 0 1 = cc in omega arith)
+inside n q (leaf ∷ g) e zero a b d = absurd (let z : _≡_ {A = ℕ} 0 1 = cc in omega arith)
+inside n q (leaf ∷ g) e (suc i) a b d = inside n (suc q) g e i a b d
+inside n q (gate x y ∷ g) e zero a b d =
+    let t = and-true (ltb 0 q && ltb 0 (pinOf x) && ltb (pinOf x) n && ltb 0 (pinOf y) && ltb (pinOf y) n) (nodesRight n (suc q) g) e .0 in
+    let s = and-true (ltb 0 q && ltb 0 (pinOf x) && ltb (pinOf x) n && ltb 0 (pinOf y)) (ltb (pinOf y) n) t in
+    let r = and-true (ltb 0 q && ltb 0 (pinOf x) && ltb (pinOf x) n) (ltb 0 (pinOf y)) (s .0) .0 in
+    let o = and-true (ltb 0 q && ltb 0 (pinOf x)) (ltb (pinOf x) n) r .1 in
     let ex : x ≡ a = cc in
     let ey : y ≡ b = cc in
-    (rw (← ex) (omega (arith, ltb-true (pinOf x) q o)), rw (← ey) (omega (arith, ltb-true (pinOf y) q (s .1))))
-lower (gate x y ∷ g) q e (suc i) a b d =
-    let t = and-true (ltb 0 (pinOf x) && ltb (pinOf x) q && ltb 0 (pinOf y) && ltb (pinOf y) q) (nodesRight (suc q) g) e .1 in
-    let h = lower g (suc q) t i a b d in (omega (arith, h .0), omega (arith, h .1))
+    (rw (← ex) (ltb-true (pinOf x) n o), rw (← ey) (ltb-true (pinOf y) n (s .1)))
+inside n q (gate x y ∷ g) e (suc i) a b d =
+    inside n (suc q) g (and-true (ltb 0 q && ltb 0 (pinOf x) && ltb (pinOf x) n && ltb 0 (pinOf y) && ltb (pinOf y) n) (nodesRight n (suc q) g) e .1) i a b d
 
 pub length-graph : (m : ℕ) (gates : List ℕ) → length gates ≡ 2 * m → length (graphOf gates) ≡ m
 unfolding graphOf
@@ -55,14 +54,15 @@ pub record Right (m : ℕ) (gates : List ℕ) : Type 0 where
   pub small : m ≤ 65536
   pub valid : Valid (graphOf gates)
 
-pub graph-right : (gates : List ℕ) → graphRight gates ≡ true → Right (pinCount gates) gates
-unfolding graphRight pinCount
-graph-right gates e =
-    let t = and-true (eqb (length gates % 2) 0 && leb 1 (length gates / 2) && leb (length gates / 2) 65536) (nodesRight 0 (graphOf gates)) e in
+pub graph-right : (gates : List ℕ) → graphRight gates ≡ true → loopsRight gates ≡ true → Right (pinCount gates) gates
+unfolding graphRight pinCount loopsRight
+graph-right gates e f =
+    let t = and-true (eqb (length gates % 2) 0 && leb 1 (length gates / 2) && leb (length gates / 2) 65536) (nodesRight (length gates / 2) 0 (graphOf gates)) e in
     let s = and-true (eqb (length gates % 2) 0 && leb 1 (length gates / 2)) (leb (length gates / 2) 65536) (t .0) in
     let r = and-true (eqb (length gates % 2) 0) (leb 1 (length gates / 2)) (s .0) in
+    let pair : length gates ≡ 2 * (length gates / 2) = omega (arith, div-add-mod' (length gates) 2, eqb-true (length gates % 2) 0 (r .0)) in
     record {
-      pair = omega (arith, div-add-mod' (length gates) 2, eqb-true (length gates % 2) 0 (r .0));
+      pair = pair;
       small = leb-true (length gates / 2) 65536 (s .1);
-      valid = record { lower = λ p a b d. let h = lower (graphOf gates) 0 (t .1) p a b d in (omega (arith, h .0), omega (arith, h .1)) };
+      valid = record { inside = λ p a b d. rw (length-graph (length gates / 2) gates pair) (inside (length gates / 2) 0 (graphOf gates) (t .1) p a b d); free = f };
     }

@@ -8,9 +8,10 @@ use lib.ListN.{length, getD, set, replicate}
 use lib.Seq.{take-nil}
 use Rattle.rules.specs.Lists.{insert, count, laidOver}
 use Rattle.rules.specs.Graph.{graphOf}
-use Rattle.rules.specs.Traversal.{setting}
+use Rattle.rules.specs.Traversal.{neededRuns, setting}
 use Rattle.rules.specs.Lean.{cellsHolding}
-use Rattle.rules.proofs.Demand.{graph}
+use Rattle.rules.proofs.Loops.{rank}
+use Rattle.rules.proofs.Demand.{graph, graph-few}
 use Rattle.columns.specs.Area.{Room, Frame, among}
 use Rattle.columns.specs.Fields.{DONE, LEVEL, WAITING, CELLS, STARTS, ENDS, REVERSE, LISTED, PLACE, MARK, SPARE}
 use Rattle.columns.specs.Lists.{WaitAt as WaitOne, list, Waits, Clear}
@@ -59,11 +60,11 @@ module _ {m : ℕ} {waiting w₀ : List ℕ} (A : WaitAt m waiting w₀) where
 -- ---- the beginning
 
 pub small-pins : {m : ℕ} {gates given waiting w : List ℕ} → StartAt m gates given waiting w → (m ≤ 65536) × (16 * m + 512 ≤ length w)
-small-pins {gates = gates} A = rw (A .pins) (graph-right gates (A .show .graph) .small, A .show .room)
+small-pins {gates = gates} A = rw (A .pins) (graph-right gates (A .show .graph) (A .show .free) .small, A .show .room)
 
 module _ {m : ℕ} {gates given waiting w : List ℕ} (A : StartAt m gates given waiting w) (v : List ℕ) (ev : v ≡ laidOver (replicate (16 * m) 0) w) where
   right : Right m gates
-  right = rw (A .pins) (graph-right gates (A .show .graph))
+  right = rw (A .pins) (graph-right gates (A .show .graph) (A .show .free))
 
   long : 16 * m + 512 ≤ length w
   long = rw (A .pins) (A .show .room)
@@ -120,8 +121,8 @@ module _ {m : ℕ} {gates given waiting w : List ℕ} (A : StartAt m gates given
         size = length-graph m gates (right .pair)
 
         C : Context
-        C = context 6 (graphOf gates) (λ p. p) (graph (graphOf gates) (right .valid)) (omega arith) (omega arith) (rw size (right .small)) (G .done) (W .pins)
-            (record { once = W .placed .once; bounded = λ x e. let h = holds-below (W .placed .held) x e in (rw size h, rw size h) })
+        C = context neededRuns 6 (graphOf gates) (rank (graphOf gates)) (graph (graphOf gates) (right .valid)) (omega arith) (omega arith) (rw size (right .small)) (G .done) (W .pins)
+            (record { once = W .placed .once; bounded = λ x e. let h : x < length (graphOf gates) = rw size (holds-below (W .placed .held) x e) in (h, graph-few (graphOf gates) (right .valid) x h) })
 
 -- ---- nothing is placed
 

@@ -4,7 +4,7 @@ use mathlib.Core.Bool.{true}
 use mathlib.Core.List.{List, [], _∷_}
 use Prim.Native.Nat.{ℕ, _+_, _*_, _<_, _≤_}
 use lib.ListN.{length, getD}
-use Rattle.rules.specs.Checks.{graphRight, givenRight}
+use Rattle.rules.specs.Checks.{graphRight, loopsRight, givenRight}
 use Rattle.rules.specs.Graph.{pinCount}
 use Rattle.columns.specs.Area.{Room, Frame}
 use Rattle.columns.specs.Fields.{DONE, WAITING, CELLS, PLACE, MARK}
@@ -14,6 +14,7 @@ use Rattle.prepare.specs.Prepared.{PrepareAt}
 
 pub record ShowAt (gates given waiting w : List ℕ) : Type 0 where
   pub graph : graphRight gates ≡ true
+  pub free : loopsRight gates ≡ true
   pub gives : givenRight (pinCount gates) given ≡ true
   pub waits : givenRight (pinCount gates) waiting ≡ true
   pub room : 16 * pinCount gates + 512 ≤ length w

@@ -15,39 +15,43 @@ use Rattle.rules.proofs.Bools.{and-right, and-assoc}
 use Rattle.graph.proofs.Gates.{drop-two}
 use Rattle.checks.specs.Values.{operandRight}
 
-node-alone : (p : ℕ) (x : Node) (g : List Node) → nodesRight p (x ∷ g) ≡ nodesRight p (x ∷ []) && nodesRight (suc p) g
+node-alone : (n p : ℕ) (x : Node) (g : List Node) → nodesRight n p (x ∷ g) ≡ nodesRight n p (x ∷ []) && nodesRight n (suc p) g
 unfolding nodesRight
-node-alone p leaf g = refl
-node-alone p (gate a b) g = rw (and-right (ltb 0 (pinOf a) && ltb (pinOf a) p && ltb 0 (pinOf b) && ltb (pinOf b) p))
+node-alone n p leaf g = refl
+node-alone n p (gate a b) g = rw (and-right (ltb 0 p && ltb 0 (pinOf a) && ltb (pinOf a) n && ltb 0 (pinOf b) && ltb (pinOf b) n))
 
-pub nodes-step : (xs : List ℕ) (p : ℕ) → p < pinCount xs →
-    nodesRight p (graphOf (drop (2 * p) xs)) ≡ nodesRight p (nodeOf (getD xs (2 * p) 0) (getD xs (2 * p + 1) 0) ∷ []) && nodesRight (p + 1) (graphOf (drop (2 * (p + 1)) xs))
+pub nodes-step : (n : ℕ) (xs : List ℕ) (p : ℕ) → p < pinCount xs →
+    nodesRight n p (graphOf (drop (2 * p) xs)) ≡ nodesRight n p (nodeOf (getD xs (2 * p) 0) (getD xs (2 * p + 1) 0) ∷ []) && nodesRight n (p + 1) (graphOf (drop (2 * (p + 1)) xs))
 unfolding graphOf
-nodes-step xs p h = rw (drop-two xs p h, add-one p) (node-alone p (nodeOf (getD xs (2 * p) 0) (getD xs (2 * p + 1) 0)) (graphOf (drop (2 * suc p) xs)))
+nodes-step n xs p h = rw (drop-two xs p h, add-one p) (node-alone n p (nodeOf (getD xs (2 * p) 0) (getD xs (2 * p + 1) 0)) (graphOf (drop (2 * suc p) xs)))
 
-none-left : (p : ℕ) (ys : List ℕ) → length ys ≤ 1 → nodesRight p (graphOf ys) ≡ true
+none-left : (n p : ℕ) (ys : List ℕ) → length ys ≤ 1 → nodesRight n p (graphOf ys) ≡ true
 unfolding graphOf nodesRight
-none-left p [] h = refl
-none-left p (a ∷ []) h = refl
-none-left p (a ∷ b ∷ ys) h = absurd (omega arith)
+none-left n p [] h = refl
+none-left n p (a ∷ []) h = refl
+none-left n p (a ∷ b ∷ ys) h = absurd (omega arith)
 
-pub nodes-end : (xs : List ℕ) (p : ℕ) → pinCount xs ≤ p → nodesRight p (graphOf (drop (2 * p) xs)) ≡ true
+pub nodes-end : (n : ℕ) (xs : List ℕ) (p : ℕ) → pinCount xs ≤ p → nodesRight n p (graphOf (drop (2 * p) xs)) ≡ true
 unfolding pinCount
-nodes-end xs p h = none-left p (drop (2 * p) xs) (rw (length-drop (2 * p) xs) (omega arith))
+nodes-end n xs p h = none-left n p (drop (2 * p) xs) (rw (length-drop (2 * p) xs) (omega arith))
 
--- a gate is right where both literals are
-pub operand-test : (p l : ℕ) → operandRight p l ≡ ltb 0 (pinOf l) && ltb (pinOf l) p
+-- a gate of a pin above 0 is right where both literals are
+pub operand-test : (n l : ℕ) → operandRight n l ≡ ltb 0 (pinOf l) && ltb (pinOf l) n
 unfolding operandRight nodesRight
-operand-test p l = split (ltb 0 (pinOf l)) (λ t. split (ltb (pinOf l) p) (λ u. simp (t, u)) (λ u. simp (t, u))) (λ t. simp t)
+operand-test n l = split (ltb 0 (pinOf l)) (λ t. split (ltb (pinOf l) n) (λ u. simp (t, u)) (λ u. simp (t, u))) (λ t. simp t)
 
-pub gate-right : (p a b : ℕ) → nodesRight p (gate a b ∷ []) ≡ operandRight p a && operandRight p b
+pub gate-zero : (n p a b : ℕ) → p ≡ 0 → false ≡ nodesRight n p (gate a b ∷ [])
 unfolding nodesRight
-gate-right p a b = rw (operand-test p a, operand-test p b, and-right (ltb 0 (pinOf a) && ltb (pinOf a) p && ltb 0 (pinOf b) && ltb (pinOf b) p), and-assoc (ltb 0 (pinOf a) && ltb (pinOf a) p) (ltb 0 (pinOf b)) (ltb (pinOf b) p))
+gate-zero n p a b z = rw z
+
+pub gate-right : (n p a b : ℕ) → (p ≡ 0 → ⊥) → nodesRight n p (gate a b ∷ []) ≡ operandRight n a && operandRight n b
+unfolding nodesRight
+gate-right n p a b z = rw (lt-ltb 0 p (omega arith), operand-test n a, operand-test n b, and-right (ltb 0 (pinOf a) && ltb (pinOf a) n && ltb 0 (pinOf b) && ltb (pinOf b) n), and-assoc (ltb 0 (pinOf a) && ltb (pinOf a) n) (ltb 0 (pinOf b)) (ltb (pinOf b) n))
 
 -- a literal's pin, tested
-module _ (p l q : ℕ) (e : q ≡ pinOf l) where
-  pub operand-zero : q ≡ 0 → false ≡ operandRight p l
-  operand-zero z = rw (operand-test p l, ← e, z)
+module _ (n l q : ℕ) (e : q ≡ pinOf l) where
+  pub operand-zero : q ≡ 0 → false ≡ operandRight n l
+  operand-zero z = rw (operand-test n l, ← e, z)
 
-  pub operand-below : (q ≡ 0 → ⊥) → ltb q p ≡ operandRight p l
-  operand-below n = rw (operand-test p l, ← e, lt-ltb 0 q (omega arith))
+  pub operand-below : (q ≡ 0 → ⊥) → ltb q n ≡ operandRight n l
+  operand-below z = rw (operand-test n l, ← e, lt-ltb 0 q (omega arith))

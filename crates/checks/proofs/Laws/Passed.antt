@@ -1,53 +1,57 @@
--- What passing the checks 1 to 5 gives. Assumes nothing.
+-- What passing the checks 1, 2, 3, 23, 4, 5 gives. Assumes nothing.
 use Prim.Native.Nat.{ℕ, zero, suc, _+_, _*_, _%_, _≤_, _<_}
-use mathlib.Core.Bool.{Bool, true, _&&_}
+use mathlib.Core.Bool.{Bool, true, false, _&&_}
+use mathlib.Core.Logic.{inl, inr}
 use mathlib.Core.List.{List, [], _∷_}
 use mathlib.Core.Path.{_≡_, refl, sym, ap, _∙_}
 use native.Mathlib.Omega.{arith}
 use lib.Dec.{leb, ltb, eqb}
 use lib.ListN.{length, getD, drop}
 use borrow.Author.Tests.{leb-true, ltb-true, eqb-true}
-use Rattle.rules.specs.Lists.{every}
+use Rattle.rules.specs.Lists.{every, Found, nothing, found}
 use Rattle.rules.specs.Cells.{isHeight}
-use Rattle.rules.specs.Graph.{Node, leaf, gate, pinOf, graphOf, pinCount}
+use Rattle.rules.specs.Graph.{Node, leaf, gate, pinOf, operands, graphOf, pinCount, below}
+use Rattle.rules.specs.Loops.{loopPin, isNothing, loopless}
 use Rattle.rules.specs.Records.{Group, Groups?, unreadable, groups, sizeOf, groupAt, wholeAt, andThen, read, endpointsOf, allNamed, groupsOf}
-use Rattle.rules.specs.Checks.{nodesRight, graphRight, groupsRight, recordsRight, givenRight, refusalOf}
-use Rattle.rules.proofs.Lists.Members.{In, every-in, split, and-true, true-false, in-getD}
+use Rattle.rules.specs.Checks.{nodesRight, graphRight, loopsRight, pinFound, groupsRight, recordsRight, givenRight, refusalOf}
+use Rattle.rules.proofs.Lists.Members.{In, every-in, split, and-true, true-false, in-getD, in-cons, in-nil}
+use Rattle.rules.proofs.Walk.Reverse.{below-in}
+use Rattle.rules.proofs.Loops.{Loop, Answered, none, least, loop-answered}
 use Rattle.rules.proofs.Demand.{Valid, Ends, first, later}
 use Rattle.records.specs.Values.{sizeAt, endpointAt}
 use Rattle.graph.proofs.Gates.{graph-length}
+use Rattle.loops.specs.Marks.{Inside}
+use Rattle.loops.proofs.Laws.{loop-user}
 use Rattle.records.proofs.Reading.{read-step, read-end, read-cut, size-endpoints, endpoint-is}
-use Rattle.checks.proofs.Laws.Refusing.{refusal-1, refusal-2, refusal-3, refusal-4, refusal-5}
+use Rattle.checks.proofs.Laws.Refusing.{refusal-1, refusal-2, refusal-3, refusal-23, refusal-4, refusal-5}
 
--- a gate's pins are above 0 and below the gate's own
-pub record Below (p a b : ℕ) : Type 0 where
+-- a gate's pins are above 0 and below n
+pub record Below (n a b : ℕ) : Type 0 where
   pub first-above : 0 < pinOf a
-  pub first-below : pinOf a < p
+  pub first-below : pinOf a < n
   pub second-above : 0 < pinOf b
-  pub second-below : pinOf b < p
+  pub second-below : pinOf b < n
 
-gate-below : (p a b : ℕ) (g : List Node) → nodesRight p (gate a b ∷ g) ≡ true → Below p a b × (nodesRight (suc p) g ≡ true)
+pub gate-below : (n p a b : ℕ) (g : List Node) → nodesRight n p (gate a b ∷ g) ≡ true → Below n a b × (nodesRight n (suc p) g ≡ true)
 unfolding nodesRight
-gate-below p a b g e =
-    let w = and-true (ltb 0 (pinOf a) && ltb (pinOf a) p && ltb 0 (pinOf b) && ltb (pinOf b) p) (nodesRight (suc p) g) e in
-    let z = and-true (ltb 0 (pinOf a) && ltb (pinOf a) p && ltb 0 (pinOf b)) (ltb (pinOf b) p) (w .0) in
-    let y = and-true (ltb 0 (pinOf a) && ltb (pinOf a) p) (ltb 0 (pinOf b)) (z .0) in
-    let x = and-true (ltb 0 (pinOf a)) (ltb (pinOf a) p) (y .0) in
-    (record { first-above = ltb-true _ _ (x .0); first-below = ltb-true _ _ (x .1); second-above = ltb-true _ _ (y .1); second-below = ltb-true _ _ (z .1) }, w .1)
+gate-below n p a b g e =
+    let w = and-true (ltb 0 p && ltb 0 (pinOf a) && ltb (pinOf a) n && ltb 0 (pinOf b) && ltb (pinOf b) n) (nodesRight n (suc p) g) e in
+    let z = and-true (ltb 0 p && ltb 0 (pinOf a) && ltb (pinOf a) n && ltb 0 (pinOf b)) (ltb (pinOf b) n) (w .0) in
+    let y = and-true (ltb 0 p && ltb 0 (pinOf a) && ltb (pinOf a) n) (ltb 0 (pinOf b)) (z .0) in
+    let x = and-true (ltb 0 p && ltb 0 (pinOf a)) (ltb (pinOf a) n) (y .0) in
+    let v = and-true (ltb 0 p) (ltb 0 (pinOf a)) (x .0) in
+    (record { first-above = ltb-true _ _ (v .1); first-below = ltb-true _ _ (x .1); second-above = ltb-true _ _ (y .1); second-below = ltb-true _ _ (z .1) }, w .1)
 
 same-gate : {a b c d : ℕ} → gate a b ≡ gate c d → (a ≡ c) × (b ≡ d)
 same-gate e = (cc, cc)
 
-gates-below : (n : ℕ) (g : List Node) → nodesRight n g ≡ true → (p a b : ℕ) → getD g p leaf ≡ gate a b → Below (n + p) a b
+pub gates-below : (n q : ℕ) (g : List Node) → nodesRight n q g ≡ true → (p a b : ℕ) → getD g p leaf ≡ gate a b → Below n a b
 unfolding nodesRight
-gates-below n [] r p a b e = absurd (let z : _≡_ {A = ℕ} 0 1 = cc in omega arith)
-gates-below n (leaf ∷ g) r zero a b e = absurd (let z : _≡_ {A = ℕ} 0 1 = cc in omega arith)
-gates-below n (leaf ∷ g) r (suc p) a b e = let d : n + suc p ≡ suc n + p = omega arith in rw d (gates-below (suc n) g r p a b e)
-gates-below n (gate c d ∷ g) r zero a b e =
-    let s = same-gate e in
-    let z : n + 0 ≡ n = omega arith in
-    rw (z, ← s .0, ← s .1) (gate-below n c d g r .0)
-gates-below n (gate c d ∷ g) r (suc p) a b e = let z : n + suc p ≡ suc n + p = omega arith in rw z (gates-below (suc n) g (gate-below n c d g r .1) p a b e)
+gates-below n q [] r p a b e = absurd (let z : _≡_ {A = ℕ} 0 1 = cc in omega arith)
+gates-below n q (leaf ∷ g) r zero a b e = absurd (let z : _≡_ {A = ℕ} 0 1 = cc in omega arith)
+gates-below n q (leaf ∷ g) r (suc p) a b e = gates-below n (suc q) g r p a b e
+gates-below n q (gate c d ∷ g) r zero a b e = let s = same-gate e in rw (← s .0, ← s .1) (gate-below n q c d g r .0)
+gates-below n q (gate c d ∷ g) r (suc p) a b e = gates-below n (suc q) g (gate-below n q c d g r .1) p a b e
 
 named-below : (n q : ℕ) (gs : List Group) → allNamed n gs ≡ true → Ends q gs → q < n
 unfolding allNamed
@@ -71,46 +75,87 @@ pub record Passed (K : ℕ) (sized : Bool) (gates given records : List ℕ) : Ty
   pub some : 1 ≤ pinCount gates
   pub few : pinCount gates ≤ 65536
   pub pins : length (graphOf gates) ≡ pinCount gates
-  pub below : (p a b : ℕ) → getD (graphOf gates) p leaf ≡ gate a b → Below p a b
+  pub below : (p a b : ℕ) → getD (graphOf gates) p leaf ≡ gate a b → Below (pinCount gates) a b
   pub valid : Valid (graphOf gates)
   pub short : length records ≤ 65536
   pub readable : read records ≡ groups (groupsOf records)
   pub named : (q : ℕ) → Ends q (groupsOf records) → q < pinCount gates
   pub given-named : (q : ℕ) → In q given → q < pinCount gates
 
-graph-passed : (gates : List ℕ) → graphRight gates ≡ true → (length gates ≡ 2 * pinCount gates) × (1 ≤ pinCount gates) × (pinCount gates ≤ 65536) × (nodesRight 0 (graphOf gates) ≡ true)
+graph-passed : (gates : List ℕ) → graphRight gates ≡ true → (length gates ≡ 2 * pinCount gates) × (1 ≤ pinCount gates) × (pinCount gates ≤ 65536) × (nodesRight (pinCount gates) 0 (graphOf gates) ≡ true)
 unfolding graphRight pinCount
 graph-passed gates e =
-    let z = and-true (eqb (length gates % 2) 0 && leb 1 (pinCount gates) && leb (pinCount gates) 65536) (nodesRight 0 (graphOf gates)) e in
+    let z = and-true (eqb (length gates % 2) 0 && leb 1 (pinCount gates) && leb (pinCount gates) 65536) (nodesRight (pinCount gates) 0 (graphOf gates)) e in
     let y = and-true (eqb (length gates % 2) 0 && leb 1 (pinCount gates)) (leb (pinCount gates) 65536) (z .0) in
     let x = and-true (eqb (length gates % 2) 0) (leb 1 (pinCount gates)) (y .0) in
     let d : length gates % 2 ≡ 0 = eqb-true _ _ (x .0) in
     (omega arith, leb-true _ _ (x .1), leb-true _ _ (y .1), z .1)
 
+-- ---- loops
+
+pub operand-above : (n : ℕ) (x : Node) (q : ℕ) → ((a b : ℕ) → x ≡ gate a b → Below n a b) → In q (operands x) → (0 < q) × (q < n)
+unfolding operands
+operand-above n leaf q h i = in-nil q i
+operand-above n (gate a b) q h i =
+    let k = h a b refl in
+    elim (in-cons q (pinOf a) (pinOf b ∷ []) i) [
+      | inl c ↦ rw c (k .first-above, k .first-below)
+      | inr c ↦ elim (in-cons q (pinOf b) [] c) [ inl d ↦ rw d (k .second-above, k .second-below) | inr d ↦ in-nil q d ]
+    ]
+
+module _ (gates : List ℕ) (e : graphRight gates ≡ true) where
+  followed : (p x : ℕ) → In x (below (graphOf gates) [] p) → (0 < x) × (x < pinCount gates)
+  followed p x i = operand-above (pinCount gates) (getD (graphOf gates) p leaf) x (λ a b d. gates-below (pinCount gates) 0 (graphOf gates) (graph-passed gates e .3) p a b d) (below-in (graphOf gates) [] p x i .1)
+
+  pub inside : Inside gates
+  inside = record { few = graph-passed gates e .2; pins = λ p x i. followed p x i .1 }
+
+  -- pin 0 is no operand, so it is on no loop, and 0 says that there is none
+  found-none : (a : Found) → Answered (graphOf gates) a → pinFound a ≡ 0 → isNothing a ≡ true
+  unfolding pinFound isNothing
+  found-none _ (none h) z = refl
+  found-none _ (least {k = k} l i h) z = absurd (let u = loop-user (graphOf gates) k refl l in omega (arith, followed (u .0) k (u .1) .0))
+
+  found-some : (a : Found) → (pinFound a ≡ 0 → ⊥) → isNothing a ≡ false
+  unfolding pinFound isNothing
+  found-some nothing z = absurd (z refl)
+  found-some (found p) z = refl
+
+  module _ (n : ℕ) (d : n ≡ pinFound (loopPin (graphOf gates))) where
+    pub loops-none : n ≡ 0 → loopsRight gates ≡ true
+    unfolding loopsRight loopless
+    loops-none z = found-none (loopPin (graphOf gates)) (loop-answered (graphOf gates) (λ p x i. rw (graph-length gates) (followed p x i .1))) (sym d ∙ z)
+
+    pub loops-some : (n ≡ 0 → ⊥) → loopsRight gates ≡ false
+    unfolding loopsRight loopless
+    loops-some z = found-some (loopPin (graphOf gates)) (λ y. z (d ∙ y))
+
 module _ (K : ℕ) (sized : Bool) (gates given records : List ℕ) (e : refusalOf K sized gates given records ≡ 0) where
-  checked : (isHeight K ≡ true) × (sized ≡ true) × (graphRight gates ≡ true) × (recordsRight (pinCount gates) records ≡ true) × (givenRight (pinCount gates) given ≡ true)
+  checked : (isHeight K ≡ true) × (sized ≡ true) × (graphRight gates ≡ true) × (loopsRight gates ≡ true) × (recordsRight (pinCount gates) records ≡ true) × (givenRight (pinCount gates) given ≡ true)
   checked =
       split (isHeight K)
       (λ h. split sized
       (λ s. split (graphRight gates)
-      (λ g. split (recordsRight (pinCount gates) records)
+      (λ g. split (loopsRight gates)
+      (λ f. split (recordsRight (pinCount gates) records)
       (λ r. split (givenRight (pinCount gates) given)
-      (λ v. (h, s, g, r, v))
-      (λ t. absurd (omega (arith, refusal-5 K sized gates given records h s g (pinCount gates) refl r t))))
-      (λ t. absurd (omega (arith, refusal-4 K sized gates given records h s g (pinCount gates) refl t))))
+      (λ v. (h, s, g, f, r, v))
+      (λ t. absurd (omega (arith, refusal-5 K sized gates given records h s g f (pinCount gates) refl r t))))
+      (λ t. absurd (omega (arith, refusal-4 K sized gates given records h s g f (pinCount gates) refl t))))
+      (λ t. absurd (omega (arith, refusal-23 K sized gates given records h s g t))))
       (λ t. absurd (omega (arith, refusal-3 K sized gates given records h s t))))
       (λ t. absurd (omega (arith, refusal-2 K sized gates given records h t))))
       (λ t. absurd (omega (arith, refusal-1 K sized gates given records t)))
 
   pub passed : Passed K sized gates given records
-  unfolding recordsRight givenRight
+  unfolding loopsRight recordsRight givenRight
   passed =
       let c = checked in
       let g = graph-passed gates (c .2) in
-      let r = and-true (leb (length records) 65536) (groupsRight (pinCount gates) (read records)) (c .3) in
+      let r = and-true (leb (length records) 65536) (groupsRight (pinCount gates) (read records)) (c .4) in
       let a = all-read (pinCount gates) (read records) (r .1) in
       let o : groupsOf records ≡ a .0 = groups-of records (a .0) (a .1) in
-      let b : (p x y : ℕ) → getD (graphOf gates) p leaf ≡ gate x y → Below p x y = λ p x y q. let z : 0 + p ≡ p = omega arith in rw z at (gates-below 0 (graphOf gates) (g .3) p x y q) in
+      let b : (p x y : ℕ) → getD (graphOf gates) p leaf ≡ gate x y → Below (pinCount gates) x y = gates-below (pinCount gates) 0 (graphOf gates) (g .3) in
       record {
         height = c .0;
         areas = c .1;
@@ -119,11 +164,11 @@ module _ (K : ℕ) (sized : Bool) (gates given records : List ℕ) (e : refusalO
         few = g .2;
         pins = graph-length gates;
         below = b;
-        valid = record { lower = λ p x y q. (b p x y q .first-below, b p x y q .second-below) };
+        valid = record { inside = λ p x y q. rw (graph-length gates) (b p x y q .first-below, b p x y q .second-below); free = c .3 };
         short = leb-true _ _ (r .0);
         readable = a .1 ∙ ap groups (sym o);
         named = λ q i. named-below (pinCount gates) q (a .0) (a .2) (rw o at i);
-        given-named = λ q i. ltb-true q (pinCount gates) (every-in (λ p. ltb p (pinCount gates)) q given (c .4) i);
+        given-named = λ q i. ltb-true q (pinCount gates) (every-in (λ p. ltb p (pinCount gates)) q given (c .5) i);
       }
 
 -- the groups that are still to be read at an index

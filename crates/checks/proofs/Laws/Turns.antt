@@ -21,33 +21,36 @@ pub record NodesLeft (gates : List ℕ) (pins p : ℕ) : Type 0 where
   pub even : 2 * pins ≤ length gates
   pub last : length gates ≤ 2 * pins + 1
   pub upto : p ≤ pins
-  pub same : nodesRight 0 (graphOf gates) ≡ nodesRight p (graphOf (drop (2 * p) gates))
+  pub same : nodesRight pins 0 (graphOf gates) ≡ nodesRight pins p (graphOf (drop (2 * p) gates))
 
 pub nodes-begin : (gates : List ℕ) (pins : ℕ) → pins ≡ pinCount gates → NodesLeft gates pins 0
 unfolding pinCount
 nodes-begin gates pins e = record { even = omega arith; last = omega arith; upto = omega arith; same = refl }
 
 module _ (gates : List ℕ) (pins p : ℕ) (l : NodesLeft gates pins p) where
-  pins-are : pins ≡ pinCount gates
+  pub pins-are : pins ≡ pinCount gates
   unfolding pinCount
   pins-are = omega arith
 
-  step : p < pins → nodesRight 0 (graphOf gates) ≡ nodesRight p (nodeOf (getD gates (2 * p) 0) (getD gates (2 * p + 1) 0) ∷ []) && nodesRight (p + 1) (graphOf (drop (2 * (p + 1)) gates))
-  step h = l .same ∙ nodes-step gates p (omega (arith, pins-are))
+  in-all : nodesRight pins 0 (graphOf gates) ≡ nodesRight (pinCount gates) 0 (graphOf gates)
+  in-all = ap (λ (n : ℕ). nodesRight n 0 (graphOf gates)) pins-are
+
+  step : p < pins → nodesRight pins 0 (graphOf gates) ≡ nodesRight pins p (nodeOf (getD gates (2 * p) 0) (getD gates (2 * p + 1) 0) ∷ []) && nodesRight pins (p + 1) (graphOf (drop (2 * (p + 1)) gates))
+  step h = l .same ∙ nodes-step pins gates p (omega (arith, pins-are))
 
   -- gate p, and what testing it answers
-  module _ {x : Node} {r : Bool} (ex : x ≡ nodeOf (getD gates (2 * p) 0) (getD gates (2 * p + 1) 0)) (er : r ≡ nodesRight p (x ∷ [])) (h : p < pins) where
-    answer : r ≡ nodesRight p (nodeOf (getD gates (2 * p) 0) (getD gates (2 * p + 1) 0) ∷ [])
-    answer = er ∙ ap (λ y. nodesRight p (y ∷ [])) ex
+  module _ {x : Node} {r : Bool} (ex : x ≡ nodeOf (getD gates (2 * p) 0) (getD gates (2 * p + 1) 0)) (er : r ≡ nodesRight pins p (x ∷ [])) (h : p < pins) where
+    answer : r ≡ nodesRight pins p (nodeOf (getD gates (2 * p) 0) (getD gates (2 * p + 1) 0) ∷ [])
+    answer = er ∙ ap (λ y. nodesRight pins p (y ∷ [])) ex
 
     pub nodes-more : not r ≡ false → NodesLeft gates pins (p + 1)
     nodes-more t = record { even = l .even; last = l .last; upto = omega arith; same = rw (yes answer t) at (step h) }
 
-    pub nodes-wrong : not r ≡ true → false ≡ nodesRight 0 (graphOf gates)
-    nodes-wrong t = sym (rw (no answer t) at (step h))
+    pub nodes-wrong : not r ≡ true → false ≡ nodesRight (pinCount gates) 0 (graphOf gates)
+    nodes-wrong t = sym (rw (no answer t) at (step h)) ∙ in-all
 
-  pub nodes-done : pins ≤ p → true ≡ nodesRight 0 (graphOf gates)
-  nodes-done h = sym (l .same ∙ nodes-end gates p (omega (arith, pins-are)))
+  pub nodes-done : pins ≤ p → true ≡ nodesRight (pinCount gates) 0 (graphOf gates)
+  nodes-done h = sym (l .same ∙ nodes-end pins gates p (omega (arith, pins-are))) ∙ in-all
 
 -- the entries before i pass
 pub record EveryLeft (n : ℕ) (xs : List ℕ) (i : ℕ) : Type 0 where

@@ -1,7 +1,7 @@
 -- `checks::node_right` meets its contract. Assumes nothing.
 use Rattle.rules.specs.Checks.{nodesRight}
 use Rattle.graph.specs.Values.{nodeFor}
-use Rattle.checks.proofs.Laws.Gates.{gate-right}
+use Rattle.checks.proofs.Laws.Gates.{gate-zero, gate-right}
 use borrow.Author.Needs.{needs}
 use Rattle.checks.proofs.node_right.Statement.{statement}
 use Rattle.checks.proofs.node_right.Tie as tie
@@ -19,16 +19,20 @@ operand-right-requires-2 : tie.Need-operand-right-requires-2
 operand-right-requires-2 c κs = search needs
 
 returns : tie.Need-returns
-unfolding nodeFor nodesRight
-returns c = rw (c .enum-told .given .1)
+unfolding nodeFor
+returns c = rw (c .before .before .node .given .1) (gate-zero _ _ _ _ (c .if1 .taken))
 
 returns-2 : tie.Need-returns-2
-unfolding nodeFor
-returns-2 c = rw (c .before .before .before .before .node .given .1, gate-right, ← c .before .before .operand-right .ensures, c .before .if1 .taken) (c .operand-right2 .ensures)
+unfolding nodeFor nodesRight
+returns-2 c = rw (c .enum-told .given .1)
 
 returns-3 : tie.Need-returns-3
 unfolding nodeFor
-returns-3 c = rw (c .before .before .before .node .given .1, gate-right, ← c .before .operand-right .ensures, c .if1 .left)
+returns-3 c = rw (c .before .before .before .before .before .node .given .1, gate-right _ _ _ _ (c .before .before .before .if1 .left), ← c .before .before .operand-right .ensures, c .before .if2 .taken) (c .operand-right2 .ensures)
+
+returns-4 : tie.Need-returns-4
+unfolding nodeFor
+returns-4 c = rw (c .before .before .before .before .node .given .1, gate-right _ _ _ _ (c .before .before .if1 .left), ← c .before .operand-right .ensures, c .if2 .left)
 
 pub node-right-spec : {M : Type 1} → statement M
 node-right-spec =
@@ -36,8 +40,9 @@ node-right-spec =
     (tie.spec
     enum-told
     enum-known-node
+    returns
     operand-right-requires
     operand-right-requires-2
-    returns
     returns-2
-    returns-3)
+    returns-3
+    returns-4)

@@ -1,22 +1,23 @@
 -- `checks::nodes_right` meets its contract. Assumes nothing.
 use Prim.Native.Nat.{_-_}
 use native.Mathlib.Omega.{arith}
-use Rattle.checks.proofs.Laws.Turns.{NodesLeft, nodes-begin, nodes-more, nodes-wrong, nodes-done}
+use Rattle.checks.proofs.Laws.Turns.{NodesLeft, nodes-more, nodes-wrong, nodes-done}
+use Rattle.checks.proofs.Laws.Rising.{rising-left}
 use borrow.Author.Needs.{needs}
 use Rattle.checks.proofs.nodes_right.Statement.{statement}
 use Rattle.checks.proofs.nodes_right.Tie as tie
 
 abbrev Inv-loop : tie.InvT-loop
-Inv-loop gates pins p₀ p = NodesLeft gates pins p
+Inv-loop gates from pins p₀ p = NodesLeft gates pins p
 
 abbrev μ-loop : tie.MeasureT-loop
-μ-loop gates pins p₀ p = pins - p
+μ-loop gates from pins p₀ p = pins - p
 
 pin-count-requires : tie.Need-pin-count-requires Inv-loop μ-loop
 pin-count-requires c κs = search needs
 
 loop-holds : tie.Need-loop-holds Inv-loop μ-loop
-loop-holds c = nodes-begin _ _ (c .pin-count .ensures)
+loop-holds c = rising-left _ _ _ (c .pin-count .ensures) (c .before .before .pre)
 
 mul-node-of : tie.Need-mul-node-of Inv-loop μ-loop
 mul-node-of c = omega arith

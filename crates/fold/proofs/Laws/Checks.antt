@@ -4,7 +4,7 @@ use mathlib.Core.Path.{_≡_, refl, sym, _∙_, ap}
 use mathlib.Core.Bool.{Bool, true, false, _&&_}
 use mathlib.Core.List.{List, [], _++_}
 use native.Mathlib.Omega.{arith}
-use lib.Dec.{leb}
+use lib.Dec.{leb, eqb}
 use lib.ListN.{length, replicate}
 use lib.Pow.{pow-pos, pow-mono}
 use borrow.Author.Tests.{le-leb, lt-leb, leb-true, leb-false, eqb-true}
@@ -12,16 +12,18 @@ use Rattle.rules.specs.Lists.{laidOver}
 use Rattle.rules.specs.Cells.{isHeight}
 use Rattle.rules.specs.Graph.{pinCount}
 use Rattle.rules.specs.Records.{read, readFrom, allNamed}
-use Rattle.rules.specs.Checks.{planSized, graphRight, groupsRight, recordsRight, givenRight, refusalOf}
+use Rattle.rules.specs.Checks.{planSized, graphRight, loopsRight, groupsRight, recordsRight, givenRight, refusalOf, pinShown}
 use Rattle.rules.specs.Fold.{foldBits, resultSize, foldSized, foldRefusal, foldResult}
 use Rattle.rules.proofs.Lists.Members.{split, and-true}
 use Rattle.rules.proofs.Stage.Staged.{two-step}
 use Rattle.cells.proofs.Heights.{tall}
-use Rattle.checks.proofs.Laws.Refusing.{refusal-1, refusal-2, refusal-3, refusal-5, refusal-0, height-first}
+use Rattle.checks.specs.declared.Verdict.{Verdict}
+use Rattle.checks.specs.Values.{Says}
+use Rattle.checks.proofs.Laws.Refusing.{refusal-1, refusal-2, refusal-3, refusal-23, refusal-5, refusal-0, height-first, pin-none}
 use Rattle.checks.proofs.Laws.Passed.{Passed, passed}
 use Rattle.fold.specs.declared.Answer.{Answer}
-use Rattle.fold.specs.declared.Answer.the-variants.{Folded, NoHeight, WrongSize, WrongGraph, WrongGiven}
-use Rattle.fold.specs.Answers.{numberFor}
+use Rattle.fold.specs.declared.Answer.the-variants.{Folded, NoHeight, WrongSize, WrongGraph, Looped, WrongGiven}
+use Rattle.fold.specs.Answers.{numberFor, pinFor, Told}
 use Rattle.fold.specs.Stages.{PlanAt, InputAt}
 
 -- ---- sizes, by what the code tests
@@ -60,23 +62,42 @@ unfolding recordsRight groupsRight read readFrom allNamed
 no-records n = refl
 
 module _ (K : ℕ) (plan gates given bits result : List ℕ) where
-  pub refusal-is : (b : Bool) → b ≡ isHeight K && foldSized K plan gates (length bits) (length result) → (n : ℕ) → n ≡ refusalOf K b gates given [] → n ≡ foldRefusal K plan gates given bits result
+  refused-five : (n : ℕ) → n ≡ foldRefusal K plan gates given bits result → (n ≡ 0 → ⊥) → (n ≡ 1 → ⊥) → (n ≡ 2 → ⊥) → (n ≡ 3 → ⊥) → (n ≡ 23 → ⊥) → n ≡ 5
   unfolding foldRefusal
-  refusal-is b eb n e = e ∙ height-first K (foldSized K plan gates (length bits) (length result)) gates given [] b eb
-
-  pub refused-five : (n : ℕ) → n ≡ foldRefusal K plan gates given bits result → (n ≡ 0 → ⊥) → (n ≡ 1 → ⊥) → (n ≡ 2 → ⊥) → (n ≡ 3 → ⊥) → n ≡ 5
-  unfolding foldRefusal
-  refused-five n e a b c d =
+  refused-five n e a b c d l =
       let s = foldSized K plan gates (length bits) (length result) in
       split (isHeight K)
       (λ h. split s
       (λ z. split (graphRight gates)
-      (λ g. split (givenRight (pinCount gates) given)
-      (λ v. absurd (a (e ∙ sym (refusal-0 K s gates given [] h z g (pinCount gates) refl (no-records (pinCount gates)) v))))
-      (λ v. e ∙ sym (refusal-5 K s gates given [] h z g (pinCount gates) refl (no-records (pinCount gates)) v)))
+      (λ g. split (loopsRight gates)
+      (λ f. split (givenRight (pinCount gates) given)
+      (λ v. absurd (a (e ∙ sym (refusal-0 K s gates given [] h z g f (pinCount gates) refl (no-records (pinCount gates)) v))))
+      (λ v. e ∙ sym (refusal-5 K s gates given [] h z g f (pinCount gates) refl (no-records (pinCount gates)) v)))
+      (λ f. absurd (l (e ∙ sym (refusal-23 K s gates given [] h z g f)))))
       (λ g. absurd (d (e ∙ sym (refusal-3 K s gates given [] h z g)))))
       (λ z. absurd (c (e ∙ sym (refusal-2 K s gates given [] h z)))))
       (λ h. absurd (b (e ∙ sym (refusal-1 K s gates given [] h))))
+
+  module _ (b : Bool) (eb : b ≡ isHeight K && foldSized K plan gates (length bits) (length result)) (v : Verdict) (S : Says (refusalOf K b gates given []) gates v) where
+    refusal-is : refusalOf K b gates given [] ≡ foldRefusal K plan gates given bits result
+    unfolding foldRefusal
+    refusal-is = height-first K (foldSized K plan gates (length bits) (length result)) gates given [] b eb
+
+    number-is : v .number ≡ foldRefusal K plan gates given bits result
+    number-is = S .number ∙ refusal-is
+
+    pub told-plain : (k : ℕ) (a : Answer) → v .number ≡ k → (k ≡ 23 → ⊥) → numberFor a ≡ k → pinFor a ≡ 0 → Told (foldRefusal K plan gates given bits result) gates a
+    told-plain k a e h n p =
+        let d : k ≡ foldRefusal K plan gates given bits result = sym e ∙ number-is in
+        record { number = n ∙ d; pin = p ∙ pin-none _ gates (λ z. h (d ∙ z)) }
+
+    pub told-looped : v .number ≡ 23 → Told (foldRefusal K plan gates given bits result) gates (Looped (v .pin))
+    unfolding numberFor pinFor
+    told-looped e = record { number = sym e ∙ number-is; pin = S .pin ∙ ap (λ (n : ℕ). pinShown n gates) refusal-is }
+
+    pub told-five : (v .number ≡ 0 → ⊥) → (v .number ≡ 1 → ⊥) → (v .number ≡ 2 → ⊥) → (v .number ≡ 3 → ⊥) → (v .number ≡ 23 → ⊥) → Told (foldRefusal K plan gates given bits result) gates WrongGiven
+    unfolding numberFor pinFor
+    told-five a b c d l = told-plain 5 WrongGiven (refused-five (v .number) number-is a b c d l) (λ z. omega arith) refl refl
 
   -- what is left
   pub result-kept : (n : ℕ) → n ≡ foldRefusal K plan gates given bits result → (n ≡ 0 → ⊥) → result ≡ foldResult K plan gates given bits result
@@ -120,21 +141,22 @@ module _ (K : ℕ) (plan gates given bits result : List ℕ) where
 
 -- ---- one outcome
 
-answerOf : ℕ → Answer
-answerOf zero = Folded
-answerOf (suc zero) = NoHeight
-answerOf (suc (suc zero)) = WrongSize
-answerOf (suc (suc (suc zero))) = WrongGraph
-answerOf (suc (suc (suc (suc n)))) = WrongGiven
+answerOf : ℕ → ℕ → Answer
+answerOf zero p = Folded
+answerOf (suc zero) p = NoHeight
+answerOf (suc (suc zero)) p = WrongSize
+answerOf (suc (suc (suc zero))) p = WrongGraph
+answerOf (suc (suc (suc (suc n)))) p = elim (eqb n 1) [ true ↦ WrongGiven | false ↦ Looped p ]
 
-answer-back : (a : Answer) → answerOf (numberFor a) ≡ a
-unfolding answerOf numberFor
+answer-back : (a : Answer) → answerOf (numberFor a) (pinFor a) ≡ a
+unfolding answerOf numberFor pinFor
 answer-back Folded = refl
 answer-back NoHeight = refl
 answer-back WrongSize = refl
 answer-back WrongGraph = refl
+answer-back (Looped p) = refl
 answer-back WrongGiven = refl
 
--- answers of one number are one answer
-pub one-answer : (a b : Answer) → numberFor a ≡ numberFor b → a ≡ b
-one-answer a b e = sym (answer-back a) ∙ ap answerOf e ∙ answer-back b
+-- answers of one number and pin are one answer
+pub one-answer : (a b : Answer) → numberFor a ≡ numberFor b → pinFor a ≡ pinFor b → a ≡ b
+one-answer a b e d = sym (answer-back a) ∙ ap (λ (n : ℕ). answerOf n (pinFor a)) e ∙ ap (λ (p : ℕ). answerOf (numberFor b) p) d ∙ answer-back b

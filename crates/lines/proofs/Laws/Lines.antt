@@ -12,7 +12,7 @@ use borrow.Author.Tests.{eq-eqb, ne-eqb}
 use Rattle.rules.specs.Lists.{count, sum}
 use Rattle.rules.specs.Cells.{empty, filled}
 use Rattle.rules.specs.Build as rules
-use Rattle.rules.specs.Listing.{text, decimal, spaced, wordsText, cellLines, stageLines, stagesLines, listing}
+use Rattle.rules.specs.Listing.{text, decimal, spaced, wordsText, cellLines, stageLines, stagesLines, listing, pinText}
 use Rattle.rules.proofs.Lists.Members.{split, count-append}
 use Rattle.lines.specs.Laid.{Laid}
 use Rattle.lines.specs.Stages.{stagesIn, stageIn, Holds, HoldsOne}
@@ -86,6 +86,15 @@ pub words-some : (ws : List ℕ) → (length ws ≡ 0 → ⊥) → spaced ws ≡
 unfolding wordsText
 words-some [] h = absurd (h refl)
 words-some (w ∷ ws) h = refl
+
+pub pin-none : (p : ℕ) → p ≡ 0 → [] ≡ pinText p
+unfolding pinText
+pin-none p z = rw z
+
+pub pin-some : (p : ℕ) → (p ≡ 0 → ⊥) → text " pin " ++ decimal p ≡ pinText p
+unfolding pinText
+pin-some zero z = absurd (z refl)
+pin-some (suc p) z = refl
 
 -- ---- stages
 

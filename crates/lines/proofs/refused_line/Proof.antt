@@ -1,4 +1,4 @@
--- `lines::refused_line` meets its contract: five texts, one behind the other. Assumes nothing.
+-- `lines::refused_line` meets its contract. Assumes nothing.
 use Rattle.rules.specs.Listing.{text, refusedLine}
 use Rattle.lines.proofs.Laws.Laid.{laid-more}
 use borrow.Author.Needs.{needs}
@@ -26,6 +26,9 @@ put-text-requires-2 c κs = search needs
 put-decimal-requires-2 : tie.Need-put-decimal-requires-2
 put-decimal-requires-2 c κs = search needs
 
+pin-text-requires : tie.Need-pin-text-requires
+pin-text-requires c κs = search needs
+
 slice-aggregate-put-text-3 : tie.Need-slice-aggregate-put-text-3
 slice-aggregate-put-text-3 c = search needs
 
@@ -37,7 +40,7 @@ same-length c = search needs
 
 returns : tie.Need-returns
 unfolding text refusedLine
-returns c = laid-more (laid-more (laid-more (laid-more (c .before .before .before .before .before .before .before .before .before .before .before .before .before .before .before .before .before .before .before .before .before .put-text .ensures) (rw (c .before .before .before .before .before .before .before .before .before .before .before .before .before .before .before .before .before .wide .ensures) at (c .before .before .before .before .before .before .before .before .before .before .before .before .before .before .before .before .put-decimal .ensures))) (c .before .before .before .before .before .before .before .before .before .before .before .put-text2 .ensures)) (c .before .before .before .before .before .before .before .put-decimal2 .ensures)) (c .before .before .put-text3 .ensures)
+returns c = laid-more (laid-more (laid-more (laid-more (laid-more (c .before .before .before .before .before .before .before .before .before .before .before .before .before .before .before .before .before .before .before .before .before .before .before .before .before .put-text .ensures) (rw (c .before .before .before .before .before .before .before .before .before .before .before .before .before .before .before .before .before .before .before .before .before .wide .ensures) at (c .before .before .before .before .before .before .before .before .before .before .before .before .before .before .before .before .before .before .before .before .put-decimal .ensures))) (c .before .before .before .before .before .before .before .before .before .before .before .before .before .before .before .put-text2 .ensures)) (c .before .before .before .before .before .before .before .before .before .before .before .put-decimal2 .ensures)) (c .before .before .before .before .before .before .before .pin-text .ensures)) (c .before .before .put-text3 .ensures)
 
 pub refused-line-spec : {M : Type 1} → statement M
 refused-line-spec =
@@ -50,6 +53,7 @@ refused-line-spec =
     slice-aggregate-put-text-2
     put-text-requires-2
     put-decimal-requires-2
+    pin-text-requires
     slice-aggregate-put-text-3
     put-text-requires-3
     same-length

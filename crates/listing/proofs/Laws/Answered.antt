@@ -78,11 +78,11 @@ module _ (K n : ℕ) (plan words counts : List ℕ) where
     unfolding listed
     listed-all h g = rw (h, g, listed)
 
-    module _ (number stage : ℕ) where
-      pub answered-no : (number ≡ 0 → ⊥) → written (refusedLine number stage) out ≡ answered K number n stage plan words counts out
+    module _ (number stage pin : ℕ) where
+      pub answered-no : (number ≡ 0 → ⊥) → written (refusedLine number stage pin) out ≡ answered K number n stage pin plan words counts out
       unfolding answered
       answered-no h = rw (ne-eqb number 0 h, answered)
 
-      pub answered-yes : number ≡ 0 → listed K n plan words counts out ≡ answered K number n stage plan words counts out
+      pub answered-yes : number ≡ 0 → listed K n plan words counts out ≡ answered K number n stage pin plan words counts out
       unfolding answered
       answered-yes h = rw (eq-eqb number 0 h, answered)

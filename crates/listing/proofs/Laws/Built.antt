@@ -13,6 +13,7 @@ use Rattle.rules.specs.Lists.{sum, padded, laidOver}
 use Rattle.rules.specs.Cells.{empty, isHeight, wordLimit, stageSize, rooms}
 use Rattle.rules.specs.Graph.{Node}
 use Rattle.rules.specs.Records.{Group}
+use Rattle.rules.specs.Traversal.{WordRule}
 use Rattle.rules.specs.Ending.{stage}
 use Rattle.rules.specs.Build.{Stage, Answer, refusal, whole, stages, build, cellsOf, wordsOf, countsOf, reply, refuse, stagesOf, Areas, areasAfter}
 use Rattle.rules.specs.Listing.{answerText}
@@ -74,16 +75,16 @@ module _ (K : ℕ) (ss : List Stage) (a : Areas) (need : ℕ) (each-sized : Size
       rw (p, q, w)
 
 -- what is printed of a build's answer and areas is the answer's text
-module _ (K : ℕ) (g : List Node) (ok : demand.Valid g) (height : isHeight K ≡ true) (tall : 6 ≤ K) (small : length g ≤ empty) (given : List ℕ) (groups : List Group) (named : (q : ℕ) → demand.Ends q groups → q < length g)
+module _ (rule : WordRule) (K : ℕ) (g : List Node) (ok : demand.Valid g) (height : isHeight K ≡ true) (tall : 6 ≤ K) (small : length g ≤ empty) (given : List ℕ) (groups : List Group) (named : (q : ℕ) → demand.Ends q groups → q < length g)
     (a : Areas) (need : ℕ) (out : List ℕ) where
   abbrev b : Answer
-  b = build K g given groups (rooms K (length (a .plan)))
+  b = build rule K g given groups (rooms K (length (a .plan)))
 
-  pub answer-printed : answered K (reply b .number) (reply b .stages) (reply b .stage) (areasAfter K need (stagesOf b) a .plan) (areasAfter K need (stagesOf b) a .words) (areasAfter K need (stagesOf b) a .counts) out ≡ written (answerText K b) out
+  pub answer-printed : answered K (reply b .number) (reply b .stages) (reply b .stage) (reply b .pin) (areasAfter K need (stagesOf b) a .plan) (areasAfter K need (stagesOf b) a .words) (areasAfter K need (stagesOf b) a .counts) out ≡ written (answerText K b) out
   unfolding reply refuse stagesOf answerText
   answer-printed = answer-cases b
-      (λ n k e. rw e (sym (answered-no K 0 _ _ _ out n k (refused-some K g given groups (rooms K (length (a .plan))) n k e))))
+      (λ n k e. rw e (sym (answered-no K 0 _ _ _ out n k 0 (refused-some rule K g given groups (rooms K (length (a .plan))) n k e))))
       (λ ss e.
-      let S = demand.whole-sizes K g ok tall small given [] groups named (rooms K (length (a .plan))) ss e in
-      let E = demand.whole-sized K g ok tall small given [] groups named (rooms K (length (a .plan))) ss e in
-      rw e (sym (answered-yes K (length ss) _ _ _ out 0 0 refl) ∙ sym (listed-all K (length ss) _ _ _ out height (after-hold K ss a need E (S .cells) (S .few) (S .counts))) ∙ rw (after-stages K ss a need E (S .cells) (S .few) (S .counts))))
+      let S = demand.whole-sizes rule K g ok tall small given [] groups named (rooms K (length (a .plan))) ss e in
+      let E = demand.whole-sized rule K g ok tall small given [] groups named (rooms K (length (a .plan))) ss e in
+      rw e (sym (answered-yes K (length ss) _ _ _ out 0 0 0 refl) ∙ sym (listed-all K (length ss) _ _ _ out height (after-hold K ss a need E (S .cells) (S .few) (S .counts))) ∙ rw (after-stages K ss a need E (S .cells) (S .few) (S .counts))))

@@ -1,48 +1,65 @@
--- The entry for other languages. Assumes nothing.
-use Prim.Native.Nat.{ℕ, suc, _≤_, _<_}
+-- The entries for other languages. Assumes nothing.
+use Prim.Native.Nat.{ℕ, _≤_, _<_}
 use mathlib.Core.List.{List, [], _∷_}
-use mathlib.Core.Path.{_≡_, refl, _∙_}
+use mathlib.Core.Path.{_≡_, refl}
 use native.Mathlib.Omega.{arith}
-use lib.ListN.{length, set, length-set}
+use lib.ListN.{length}
 use borrow.Author.Tests.{lt-ltb, le-ltb}
 use Rattle.rules.specs.Lists.{laidOver}
-use Rattle.rules.specs.Merge.{merger}
+use Rattle.rules.specs.Traversal.{WordRule}
+use Rattle.rules.specs.Merge.{refuseMerge, merger}
+use Rattle.runs.specs.declared.MaybeRule.{MaybeRule}
+use Rattle.runs.specs.declared.MaybeRule.the-variants.{Named, Unknown}
+use Rattle.runs.specs.declared.WordRule.{WordRule as Asked}
+use Rattle.runs.specs.Rule.{Rule?, ruleOf, ruleBy}
+use Rattle.placer.proofs.Laws.Entry.{stores}
 use Rattle.mergechecks.specs.Values.{groupList, areas}
 use Rattle.merge.specs.declared.Answer.{Answer}
 use Rattle.merge.specs.Merge.{told, outcome}
-use Rattle.merge.specs.Entry.{entry, written, entered}
+use Rattle.merge.specs.Entry.{entry, written, entered, unnamed, NoRule, enteredBy}
 
--- numbers stored one behind the other, from place i on
-abbrev pub stores : List ℕ → ℕ → List ℕ → List ℕ
-stores [] i xs = xs
-stores (a ∷ ys) i xs = stores ys (suc i) (set xs i a)
-
-seven-laid : (a b c d e f g : ℕ) (xs : List ℕ) → 7 ≤ length xs → stores (a ∷ b ∷ c ∷ d ∷ e ∷ f ∷ g ∷ []) 0 xs ≡ laidOver (a ∷ b ∷ c ∷ d ∷ e ∷ f ∷ g ∷ []) xs
+eight-laid : (a b c d e f g i : ℕ) (xs : List ℕ) → 8 ≤ length xs → stores (a ∷ b ∷ c ∷ d ∷ e ∷ f ∷ g ∷ i ∷ []) 0 xs ≡ laidOver (a ∷ b ∷ c ∷ d ∷ e ∷ f ∷ g ∷ i ∷ []) xs
 unfolding laidOver
-seven-laid a b c d e f g (p ∷ q ∷ r ∷ s ∷ t ∷ u ∷ v ∷ xs) h = refl
-seven-laid a b c d e f g (p ∷ q ∷ r ∷ s ∷ t ∷ u ∷ []) h = absurd (omega arith)
-seven-laid a b c d e f g (p ∷ q ∷ r ∷ s ∷ t ∷ []) h = absurd (omega arith)
-seven-laid a b c d e f g (p ∷ q ∷ r ∷ s ∷ []) h = absurd (omega arith)
-seven-laid a b c d e f g (p ∷ q ∷ r ∷ []) h = absurd (omega arith)
-seven-laid a b c d e f g (p ∷ q ∷ []) h = absurd (omega arith)
-seven-laid a b c d e f g (p ∷ []) h = absurd (omega arith)
-seven-laid a b c d e f g [] h = absurd (omega arith)
+eight-laid a b c d e f g i (p ∷ q ∷ r ∷ s ∷ t ∷ u ∷ v ∷ w ∷ xs) h = refl
+eight-laid a b c d e f g i (p ∷ q ∷ r ∷ s ∷ t ∷ u ∷ v ∷ []) h = absurd (omega arith)
+eight-laid a b c d e f g i (p ∷ q ∷ r ∷ s ∷ t ∷ u ∷ []) h = absurd (omega arith)
+eight-laid a b c d e f g i (p ∷ q ∷ r ∷ s ∷ t ∷ []) h = absurd (omega arith)
+eight-laid a b c d e f g i (p ∷ q ∷ r ∷ s ∷ []) h = absurd (omega arith)
+eight-laid a b c d e f g i (p ∷ q ∷ r ∷ []) h = absurd (omega arith)
+eight-laid a b c d e f g i (p ∷ q ∷ []) h = absurd (omega arith)
+eight-laid a b c d e f g i (p ∷ []) h = absurd (omega arith)
+eight-laid a b c d e f g i [] h = absurd (omega arith)
 
-pub stores-length : (ys : List ℕ) (i : ℕ) (xs : List ℕ) → length (stores ys i xs) ≡ length xs
-stores-length [] i xs = refl
-stores-length (a ∷ ys) i xs = stores-length ys (suc i) (set xs i a) ∙ length-set xs i a
+pub written-stored : (a : Answer) (xs : List ℕ) (n : ℕ) → n ≡ a .number → 8 ≤ length xs → stores (n ∷ a .stages ∷ a .words ∷ a .stage ∷ a .partitions ∷ a .trials ∷ a .refused ∷ a .pin ∷ []) 0 xs ≡ written (told a) xs
+unfolding written told
+written-stored a xs n e h = rw e (eight-laid (a .number) (a .stages) (a .words) (a .stage) (a .partitions) (a .trials) (a .refused) (a .pin) xs h)
 
-pub still-inside : (k : ℕ) (ys xs : List ℕ) → k < length xs → k < length (stores ys 0 xs)
-still-inside k ys xs h = rw (stores-length ys 0 xs) h
-
-module _ (K : ℕ) (gates given records xs ls st : List ℕ) (extra : ℕ) (pl ws cs w ys : List ℕ) where
-  pub entry-short : length ys < 7 → entry 2 xs ls st pl ws cs w ys ≡ entered K gates given records (groupList xs ls st) extra (areas pl ws cs w) ys
+module _ (rule : WordRule) (K : ℕ) (gates given records xs ls st : List ℕ) (extra : ℕ) (pl ws cs w ys : List ℕ) where
+  pub entry-short : length ys < 8 → entry 2 xs ls st pl ws cs w ys ≡ entered rule K gates given records (groupList xs ls st) extra (areas pl ws cs w) ys
   unfolding entry entered
-  entry-short h = rw (lt-ltb (length ys) 7 h, entered)
+  entry-short h = rw (lt-ltb (length ys) 8 h, entered)
 
-  pub entry-merged : 7 ≤ length ys → (a : Answer) (xs′ ls′ st′ pl′ ws′ cs′ w′ : List ℕ) → outcome a xs′ ls′ st′ pl′ ws′ cs′ w′ ≡ merger K gates given records (groupList xs ls st) extra (areas pl ws cs w) → (n : ℕ) → n ≡ a .number
-      → entry (a .number) xs′ ls′ st′ pl′ ws′ cs′ w′ (stores (n ∷ a .stages ∷ a .words ∷ a .stage ∷ a .partitions ∷ a .trials ∷ a .refused ∷ []) 0 ys)
-      ≡ entered K gates given records (groupList xs ls st) extra (areas pl ws cs w) ys
-  unfolding entry entered written outcome told
-  entry-merged h a xs′ ls′ st′ pl′ ws′ cs′ w′ e n m =
-      rw (le-ltb (length ys) 7 h, entered, ← e, m, seven-laid (a .number) (a .stages) (a .words) (a .stage) (a .partitions) (a .trials) (a .refused) ys h) refl
+  pub entry-merged : 8 ≤ length ys → (a : Answer) (xs′ ls′ st′ pl′ ws′ cs′ w′ zs : List ℕ) → outcome a xs′ ls′ st′ pl′ ws′ cs′ w′ ≡ merger rule K gates given records (groupList xs ls st) extra (areas pl ws cs w) → zs ≡ written (told a) ys
+      → entry (a .number) xs′ ls′ st′ pl′ ws′ cs′ w′ zs ≡ entered rule K gates given records (groupList xs ls st) extra (areas pl ws cs w) ys
+  unfolding entry entered outcome told
+  entry-merged h a xs′ ls′ st′ pl′ ws′ cs′ w′ zs e d = rw (d, le-ltb (length ys) 8 h, entered, ← e) refl
+
+-- no rule
+pub none-short : (xs : List ℕ) → length xs < 8 → NoRule 2 xs xs
+unfolding unnamed
+none-short xs h = record { number = refl; answer = rw (lt-ltb (length xs) 8 h, unnamed) }
+
+pub none-told : (xs ys : List ℕ) → 8 ≤ length xs → ys ≡ written (told (record { number = 2; stages = 0; words = 0; stage = 0; partitions = 0; trials = 0; refused = 0; pin = 0 })) xs → NoRule 2 xs ys
+unfolding unnamed told refuseMerge
+none-told xs ys h e = record { number = refl; answer = rw (le-ltb (length xs) 8 h, unnamed) e }
+
+-- the rule that was asked for
+module _ (K : ℕ) (gates given records xs ls st : List ℕ) (extra : ℕ) (pl ws cs w ys : List ℕ) (r : Rule?) (m : MaybeRule) (e : ruleBy m ≡ r) where
+  pub by-none : m ≡ Unknown → (n : ℕ) (zs : List ℕ) → NoRule n ys zs → entry n xs ls st pl ws cs w zs ≡ enteredBy r K gates given records (groupList xs ls st) extra (areas pl ws cs w) ys
+  unfolding ruleBy entry enteredBy
+  by-none d n zs N = rw (← e, d, enteredBy, N .number, N .answer) refl
+
+  pub by-rule : (rule : Asked) → m ≡ Named rule → (n : ℕ) (xs′ ls′ st′ pl′ ws′ cs′ w′ zs : List ℕ) → entry n xs′ ls′ st′ pl′ ws′ cs′ w′ zs ≡ entered (ruleOf rule) K gates given records (groupList xs ls st) extra (areas pl ws cs w) ys
+      → entry n xs′ ls′ st′ pl′ ws′ cs′ w′ zs ≡ enteredBy r K gates given records (groupList xs ls st) extra (areas pl ws cs w) ys
+  unfolding ruleBy enteredBy
+  by-rule rule d n xs′ ls′ st′ pl′ ws′ cs′ w′ zs E = rw (← e, d) E

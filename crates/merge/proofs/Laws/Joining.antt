@@ -13,6 +13,7 @@ use Rattle.rules.specs.Lists.{every}
 use Rattle.rules.specs.Cells.{rooms}
 use Rattle.rules.specs.Graph.{graphOf}
 use Rattle.rules.specs.Records.{groupsOf}
+use Rattle.rules.specs.Traversal.{WordRule}
 use Rattle.rules.specs.Merge.{Common, Part, Result, MergeAnswer, turned, merged, merge, merging, original, mostStages, occupied, begun, splitBy, addPart, mergeAnswerOf, mergeReply, refuseMerge, groupListAfter}
 use Rattle.rules.proofs.Lists.Members.{In, split, in-cons, in-nil, true-false}
 use Rattle.unions.specs.Unions.{Places}
@@ -63,16 +64,16 @@ module _ {K m table base extra : ℕ} {gates given records xs ls st pl ws cs w :
         };
       }
 
-  abbrev common : ℕ → ℕ → Common
-  common cap ranks = record { K = K; g = graphOf gates; given = given; groups = groupsOf records; rooms = rooms K (length pl); cap = cap; ranks = ranks }
+  module _ {rule : WordRule} {r : Originals} {pl₁ ws₁ cs₁ w₁ : List ℕ} (G : Given rule K m table base gates given records xs ls pl ws cs w r pl₁ ws₁ cs₁ w₁) where
+    abbrev common : ℕ → ℕ → Common
+    common cap ranks = record { rule = rule; K = K; g = graphOf gates; given = given; groups = groupsOf records; rooms = rooms K (length pl); cap = cap; ranks = ranks }
 
-  places : (cap ranks : ℕ) → Places K (length pl) gates given records (common cap ranks)
-  places cap ranks = record { shares = record { graph = refl; given-same = refl; groups-same = refl }; height = refl; rooms-same = refl }
+    places : (cap ranks : ℕ) → Places rule K (length pl) gates given records (common cap ranks)
+    places cap ranks = record { shares = record { graph = refl; given-same = refl; groups-same = refl }; rule-same = refl; height = refl; rooms-same = refl }
 
-  abbrev answer : MergeAnswer
-  answer = mergeAnswerOf K gates given records (groupList xs ls st) extra (length pl)
+    abbrev answer : MergeAnswer
+    answer = mergeAnswerOf rule K gates given records (groupList xs ls st) extra (length pl)
 
-  module _ {r : Originals} {pl₁ ws₁ cs₁ w₁ : List ℕ} (G : Given K m table base gates given records xs ls pl ws cs w r pl₁ ws₁ cs₁ w₁) where
     stands : Stands K m table base gates given records xs ls w₁
     stands = stands-stays (A .at) (record { len = G .changes .len; idle = G .changes .idle; kept = G .changes .starts })
 
@@ -88,7 +89,7 @@ module _ {K m table base extra : ℕ} {gates given records xs ls st pl ws cs w :
     unfolding mergeAnswerOf merge groupList partsFor
     answer-refused i n k e = rw (originals-are ∙ ap (λ (x : Originals). partsFor x parts) e, merge) refl
 
-    pub join-refused : {i n k : ℕ} → r ≡ Refused i n k → {a : Answer} → a ≡ refusedFor n k i → Joined K extra gates given records xs ls st pl a xs ls st
+    pub join-refused : {i n k : ℕ} → r ≡ Refused i n k → {a : Answer} → a ≡ refusedFor n k i → Joined rule K extra gates given records xs ls st pl a xs ls st
     unfolding told refusedFor mergeReply refuseMerge groupListAfter
     join-refused {i} {n} {k} e {a} d = record { reply = rw (d, answer-refused i n k e) refl; groups = rw (answer-refused i n k e) refl }
 
@@ -112,11 +113,11 @@ module _ {K m table base extra : ℕ} {gates given records xs ls st pl ws cs w :
         pub slots-at : SlotsAt K m table base (most + extra) ranks gates given records xs ls pl₁ ws₁ cs₁ w₁
         slots-at = record { at = stands; blank = rw (G .plan, G .words, G .counts) (A .blank); cap-fits = omega (arith, cap-small); few = B .few }
 
-        module _ {trials : ℕ} {xs₂ ls₂ pl₂ ws₂ cs₂ w₂ : List ℕ} (T : Slotted K m table base (most + extra) ranks gates given records xs ls pl₁ w₁ trials xs₂ ls₂ pl₂ ws₂ cs₂ w₂) where
+        module _ {trials : ℕ} {xs₂ ls₂ pl₂ ws₂ cs₂ w₂ : List ℕ} (T : Slotted rule K m table base (most + extra) ranks gates given records xs ls pl₁ w₁ trials xs₂ ls₂ pl₂ ws₂ cs₂ w₂) where
           abbrev result : List Part → Result
           result ps = record { parts = ps; trials = trials }
 
-          tries : Tries K (length pl₁) (most + extra) gates given records (common (most + extra) ranks)
+          tries : Tries rule K (length pl₁) (most + extra) gates given records (common (most + extra) ranks)
           tries = record { places = rw (G .plan) (places (most + extra) ranks); cap-same = refl }
 
           merges : answer ≡ merged (result (sorted base xs₂ ls₂ w₂))
@@ -142,6 +143,6 @@ module _ {K m table base extra : ℕ} {gates given records xs ls st pl ws cs w :
                 }
 
           pub join-merged : {xs₃ ls₃ st₃ : List ℕ} {t : Totals} → Laid base xs₂ ls₂ w₂ xs₃ ls₃ st₃ t
-              → Joined K extra gates given records xs ls st pl (record { number = 0; stages = t .stages; words = t .words; stage = 0; partitions = t .partitions; trials = trials; refused = 0 }) xs₃ ls₃ st₃
+              → Joined rule K extra gates given records xs ls st pl (record { number = 0; stages = t .stages; words = t .words; stage = 0; partitions = t .partitions; trials = trials; refused = 0; pin = 0 }) xs₃ ls₃ st₃
           unfolding told mergeReply groupList groupListAfter
           join-merged L = record { reply = rw (merges, L .partitions, L .all-stages, L .all-words) refl; groups = rw (merges, L .indices, L .lengths, L .stages, T .keeps .count) refl }

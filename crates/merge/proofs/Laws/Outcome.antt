@@ -13,17 +13,20 @@ use borrow.Author.Tests.{leb-true, eqb-true}
 use Rattle.rules.specs.Lists.{sum, padded, laidOver}
 use Rattle.rules.specs.Cells.{empty, wordLimit, stageSize, rooms, isHeight}
 use Rattle.rules.specs.Graph.{pinCount}
-use Rattle.rules.specs.Checks.{workSize, planSized, areasSized, refusalOf}
+use Rattle.rules.specs.Checks.{workSize, planSized, areasSized, refusalOf, pinShown}
 use Rattle.rules.specs.Build.{Areas, areasAfter, cellsOf, wordsOf, countsOf}
-use Rattle.rules.specs.Merge.{GroupList, mergeWorkSize, mergeSized, mergeable, mergeRefusal, refuseMerge, merger}
+use Rattle.rules.specs.Traversal.{WordRule}
+use Rattle.rules.specs.Merge.{GroupList, mergeWorkSize, mergeSized, mergeable, mergeRefusal, refuseMergeChecked, merger}
 use Rattle.rules.proofs.Lists.Members.{split, and-true}
 use Rattle.cells.specs.Answers.{orZero}
 use Rattle.cells.proofs.Heights.{orZero-true}
+use Rattle.checks.specs.declared.Verdict.{Verdict}
+use Rattle.checks.specs.Values.{Says}
 use Rattle.checks.proofs.Laws.Passed.{Passed, passed}
 use Rattle.placer.proofs.Laws.Laying.{padded-none}
 use Rattle.mergechecks.specs.Values.{groupList, areas}
 use Rattle.merge.specs.declared.Answer.{Answer}
-use Rattle.merge.specs.Merge.{told, refusedFor, outcome, PlaceAt, Placed}
+use Rattle.merge.specs.Merge.{told, outcome, PlaceAt, Placed}
 use Rattle.merge.proofs.Laws.Placing.{Able, able}
 
 pub need-is : (gates records xs ls st : List ℕ) (m : ℕ) → m ≡ pinCount gates → 16 * m + 8 * length records + 512 + (8 * length ls + 8 * length xs) ≡ mergeWorkSize gates records (groupList xs ls st)
@@ -45,10 +48,15 @@ module _ (K : ℕ) (gates given records xs ls st : List ℕ) (extra : ℕ) (pl w
   abbrev lent : Areas
   lent = areas pl ws cs w
 
-  pub outcome-refused : (n : ℕ) → n ≡ mergeRefusal K gates given records l extra lent → n ≢ 0 → {a : Answer} → a ≡ refusedFor n 0 0 → outcome a xs ls st pl ws cs w ≡ merger K gates given records l extra lent
-  unfolding outcome told refusedFor refuseMerge merger
-  outcome-refused zero e h d = absurd (h refl)
-  outcome-refused (suc n) e h d = rw (d, ← e, merger) refl
+  refused-at : (rule : WordRule) (n : ℕ) → n ≡ mergeRefusal K gates given records l extra lent → n ≢ 0 → (p : ℕ) → p ≡ pinShown n gates
+      → outcome (record { number = n; stages = 0; words = 0; stage = 0; partitions = 0; trials = 0; refused = 0; pin = p }) xs ls st pl ws cs w ≡ merger rule K gates given records l extra lent
+  unfolding outcome told refuseMergeChecked merger
+  refused-at rule zero e h p d = absurd (h refl)
+  refused-at rule (suc n) e h p d = rw (← e, merger, d) refl
+
+  pub outcome-refused : (rule : WordRule) (v : Verdict) → Says (mergeRefusal K gates given records l extra lent) gates v → v .number ≢ 0
+      → outcome (record { number = v .number; stages = 0; words = 0; stage = 0; partitions = 0; trials = 0; refused = 0; pin = v .pin }) xs ls st pl ws cs w ≡ merger rule K gates given records l extra lent
+  outcome-refused rule v S h = refused-at rule (v .number) (S .number) h (v .pin) (S .pin ∙ ap (λ (n : ℕ). pinShown n gates) (sym (S .number)))
 
   both : (k : ℕ) → refusalOf K (mergeSized K gates records l lent) gates given records ≡ k → mergeRefusal K gates given records l extra lent ≡ 0 → (refusalOf K (mergeSized K gates records l lent) gates given records ≡ 0) × (mergeable records l extra ≡ true)
   unfolding mergeRefusal
@@ -61,9 +69,9 @@ module _ (K : ℕ) (gates given records xs ls st : List ℕ) (extra : ℕ) (pl w
 pub record Checked (K : ℕ) (gates given records xs ls st : List ℕ) (extra : ℕ) (pl ws cs w : List ℕ) : Type 0 where
   pub none : mergeRefusal K gates given records (groupList xs ls st) extra (areas pl ws cs w) ≡ 0
 
-pub checked : {K : ℕ} {gates given records xs ls st : List ℕ} {extra : ℕ} {pl ws cs w : List ℕ} {number : ℕ} → number ≡ mergeRefusal K gates given records (groupList xs ls st) extra (areas pl ws cs w) → number ≡ 0
+pub checked : {K : ℕ} {gates given records xs ls st : List ℕ} {extra : ℕ} {pl ws cs w : List ℕ} {v : Verdict} → Says (mergeRefusal K gates given records (groupList xs ls st) extra (areas pl ws cs w)) gates v → v .number ≡ 0
     → Checked K gates given records xs ls st extra pl ws cs w
-checked e z = record { none = sym e ∙ z }
+checked S z = record { none = sym (S .number) ∙ z }
 
 module _ {K : ℕ} {gates given records xs ls st : List ℕ} {extra : ℕ} {pl ws cs w : List ℕ} (H : Checked K gates given records xs ls st extra pl ws cs w) where
   clear : (refusalOf K (mergeSized K gates records (groupList xs ls st) (areas pl ws cs w)) gates given records ≡ 0) × (mergeable records (groupList xs ls st) extra ≡ true)
@@ -133,7 +141,7 @@ module _ {K : ℕ} {gates given records xs ls st : List ℕ} {extra : ℕ} {pl w
       work-size = length-take-le (size - 0) w (omega (arith, work-inside)) ∙ omega (arith, en);
     }
 
-    module _ {a : Answer} {xs′ ls′ st′ pl′ ys zs vs : List ℕ} (D : Placed K extra gates given records xs ls st pl (take (limit - 0) ws) (take (rms - 0) cs) (take (size - 0) w) a xs′ ls′ st′ pl′ ys zs vs) where
+    module _ {rule : WordRule} {a : Answer} {xs′ ls′ st′ pl′ ys zs vs : List ℕ} (D : Placed rule K extra gates given records xs ls st pl (take (limit - 0) ws) (take (rms - 0) cs) (take (size - 0) w) a xs′ ls′ st′ pl′ ys zs vs) where
       words-laid : ys ++ drop (limit - 0) ws ≡ laidOver (padded (wordLimit K) empty []) ws
       words-laid =
           part-laid (limit - 0) ws ys (omega (arith, words-inside)) (ap length (D .words) ∙ length-replicate (length (take (limit - 0) ws)) empty)
@@ -152,6 +160,6 @@ module _ {K : ℕ} {gates given records xs ls st : List ℕ} {extra : ℕ} {pl w
       plan-empty : pl′ ≡ padded (length pl) empty []
       plan-empty = D .plan ∙ sym (padded-none (length pl) empty)
 
-      pub outcome-merged : outcome a xs′ ls′ st′ pl′ (ys ++ drop (limit - 0) ws) (zs ++ drop (rms - 0) cs) (vs ++ drop (size - 0) w) ≡ merger K gates given records (groupList xs ls st) extra (areas pl ws cs w)
+      pub outcome-merged : outcome a xs′ ls′ st′ pl′ (ys ++ drop (limit - 0) ws) (zs ++ drop (rms - 0) cs) (vs ++ drop (size - 0) w) ≡ merger rule K gates given records (groupList xs ls st) extra (areas pl ws cs w)
       unfolding outcome areas merger areasAfter cellsOf wordsOf countsOf
       outcome-merged = rw (H .none, merger, D .joined .reply, D .joined .groups, plan-empty, words-laid, counts-laid, work-laid) refl

@@ -12,6 +12,7 @@ use Rattle.rules.specs.Cells.{empty}
 use Rattle.rules.specs.Graph.{pinCount}
 use Rattle.rules.specs.Records.{groupsOf}
 use Rattle.rules.specs.Checks.{workSize}
+use Rattle.rules.specs.Traversal.{WordRule}
 use Rattle.rules.specs.Merge.{mergeWorkSize, mergeable}
 use Rattle.rules.proofs.Lists.Members.{and-true}
 use Rattle.start.specs.Opening.{Idle}
@@ -110,9 +111,9 @@ module _ {K extra : ℕ} {gates given records xs ls st pl ws cs w : List ℕ} (P
           few = can .extra-few;
         }
 
-        pub placed : {a : Answer} {xs₃ ls₃ st₃ pl₃ ws₃ cs₃ w₃ pl₄ ws₄ cs₄ w₄ : List ℕ} → Joined K extra gates given records xs ls st pl₁ a xs₃ ls₃ st₃
+        pub placed : {rule : WordRule} {a : Answer} {xs₃ ls₃ st₃ pl₃ ws₃ cs₃ w₃ pl₄ ws₄ cs₄ w₄ : List ℕ} → Joined rule K extra gates given records xs ls st pl₁ a xs₃ ls₃ st₃
             → length pl₃ ≡ length pl₁ → length ws₃ ≡ length ws₁ → length cs₃ ≡ length cs₁ → length w₃ ≡ length w₂
-            → Emptied pl₃ ws₃ cs₃ w₃ pl₄ ws₄ cs₄ w₄ → Placed K extra gates given records xs ls st pl ws cs w a xs₃ ls₃ st₃ pl₄ ws₄ cs₄ w₄
+            → Emptied pl₃ ws₃ cs₃ w₃ pl₄ ws₄ cs₄ w₄ → Placed rule K extra gates given records xs ls st pl ws cs w a xs₃ ls₃ st₃ pl₄ ws₄ cs₄ w₄
         placed J a b c d F = record {
           joined = record { reply = rw plan-same at (J .reply); groups = rw plan-same at (J .groups) };
           plan = F .plan ∙ ap (λ (n : ℕ). replicate n empty) (a ∙ plan-same);

@@ -15,6 +15,7 @@ pub record Same (a b : Answer) (xs ls st pl ws cs w xs′ ls′ st′ pl′ ws�
   pub partitions : a .partitions ≡ b .partitions
   pub trials : a .trials ≡ b .trials
   pub refused : a .refused ≡ b .refused
+  pub pin : a .pin ≡ b .pin
   pub indices : xs ≡ xs′
   pub lengths : ls ≡ ls′
   pub stages : st ≡ st′
@@ -35,6 +36,7 @@ one-outcome o a b xs ls st pl ws cs w xs′ ls′ st′ pl′ ws′ cs′ w′ d
       partitions = ap (λ (x : MergeOutcome). x .reply .partitions) s;
       trials = ap (λ (x : MergeOutcome). x .reply .trials) s;
       refused = ap (λ (x : MergeOutcome). x .reply .refused) s;
+      pin = ap (λ (x : MergeOutcome). x .reply .pin) s;
       indices = ap (λ (x : MergeOutcome). x .groups .indices) s;
       lengths = ap (λ (x : MergeOutcome). x .groups .lengths) s;
       stages = ap (λ (x : MergeOutcome). x .groups .stages) s;

@@ -20,7 +20,9 @@ use Rattle.sizes.specs.declared.Left.the-variants.{Room}
 use Rattle.sizes.specs.Values.{less, fits}
 use Rattle.sizes.proofs.Rooms.{less-less, others-wrong, work-tested}
 use Rattle.checks.proofs.Laws.Passed.{passed}
-use Rattle.checks.proofs.Laws.Refusing.{height-first}
+use Rattle.checks.specs.declared.Verdict.{Verdict}
+use Rattle.checks.specs.Values.{Says}
+use Rattle.checks.proofs.Laws.Refusing.{height-first, says, says-same}
 use Rattle.mergechecks.specs.Values.{groupList, areas, mergeAreas, Readable}
 
 module _ (K gates records indices : ℕ) (ls : List ℕ) (stages plan words counts work : ℕ) where
@@ -101,14 +103,17 @@ module _ (K : ℕ) (gates given records xs ls st : List ℕ) (extra : ℕ) (pl w
   unfolding mergeAreas mergeSized mergeWorkSize workSize pinCount groupList areas
   same-size = refl
 
-  module _ (b : Bool) (eb : b ≡ isHeight K && mergeAreas K (length gates) (length records) (length xs) ls (length st) (length pl) (length ws) (length cs) (length w)) (r : ℕ) (er : r ≡ refusalOf K b gates given records) where
-    first : r ≡ refusalOf K sized gates given records
-    first = er ∙ height-first K sized gates given records b (eb ∙ ap (λ (x : Bool). isHeight K && x) same-size)
+  module _ (b : Bool) (eb : b ≡ isHeight K && mergeAreas K (length gates) (length records) (length xs) ls (length st) (length pl) (length ws) (length cs) (length w)) (v : Verdict) (S : Says (refusalOf K b gates given records) gates v) where
+    first : v .number ≡ refusalOf K sized gates given records
+    first = S .number ∙ height-first K sized gates given records b (eb ∙ ap (λ (x : Bool). isHeight K && x) same-size)
 
-    pub refused-early : r ≢ 0 → r ≡ number
-    refused-early h = early K gates given records xs ls st extra pl ws cs w r first h
+    said : v .number ≡ number → Says number gates v
+    said e = says-same S (sym (S .number) ∙ e)
 
-    module _ (z : r ≡ 0) where
+    pub refused-early : v .number ≢ 0 → Says number gates v
+    refused-early h = said (early K gates given records xs ls st extra pl ws cs w (v .number) first h)
+
+    module _ (z : v .number ≡ 0) where
       clear : refusalOf K sized gates given records ≡ 0
       clear = sym first ∙ z
 
@@ -119,10 +124,10 @@ module _ (K : ℕ) (gates given records xs ls st : List ℕ) (extra : ℕ) (pl w
       unfolding mergeable groupList
       same-list = refl
 
-      pub refused-late : mergeable records (groupList xs ls ls) extra ≡ false → 10 ≡ number
+      pub refused-late : mergeable records (groupList xs ls ls) extra ≡ false → Says number gates (record { number = 10; pin = 0 })
       unfolding mergeRefusal
-      refused-late e = rw (clear, mergeRefusal, sym same-list ∙ e) refl
+      refused-late e = says number 10 gates _ refl refl (rw (clear, mergeRefusal, sym same-list ∙ e) refl) (λ c. omega arith)
 
-      pub not-refused : mergeable records (groupList xs ls ls) extra ≡ true → 0 ≡ number
+      pub not-refused : mergeable records (groupList xs ls ls) extra ≡ true → Says number gates v
       unfolding mergeRefusal
-      not-refused e = rw (clear, mergeRefusal, sym same-list ∙ e) refl
+      not-refused e = said (z ∙ rw (clear, mergeRefusal, sym same-list ∙ e) refl)

@@ -7,8 +7,6 @@ use borrow.Author.Needs.{needs}
 use Rattle.mergechecks.proofs.groups_in.Statement.{statement}
 use Rattle.mergechecks.proofs.groups_in.Tie as tie
 use Rattle.mergechecks.proofs.groups_in.Reads as reads
-use Rattle.mergechecks.proofs.groups_in.Lts as lts
-use Rattle.records.proofs.size_at.Reads as size-at-reads
 
 abbrev Inv-loop : tie.InvT-loop
 Inv-loop records n₀ at₀ n at = Counting records n at

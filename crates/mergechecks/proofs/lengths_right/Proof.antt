@@ -5,9 +5,6 @@ use Rattle.mergechecks.proofs.Laws.Sums.{Taking, taking-none, taking-sh
 use borrow.Author.Needs.{needs}
 use Rattle.mergechecks.proofs.lengths_right.Statement.{statement}
 use Rattle.mergechecks.proofs.lengths_right.Tie as tie
-use Rattle.mergechecks.proofs.lengths_right.Reads as reads
-use Rattle.mergechecks.proofs.lengths_right.Lts as lts
-use Rattle.columns.proofs.wide.Reads as wide-reads
 
 abbrev Inv-loop : tie.InvT-loop
 Inv-loop lengths total left₀ i₀ left i = Taking lengths total left i

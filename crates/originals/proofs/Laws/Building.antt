@@ -11,6 +11,7 @@ use lib.ListN.{length, getD, take, drop, length-drop, take-append-drop}
 use lib.Seq.{length-take-le}
 use borrow.Author.Tests.{eqb-true, eqb-false}
 use Rattle.rules.specs.Lists.{sum}
+use Rattle.rules.specs.Traversal.{WordRule}
 use Rattle.rules.specs.Build as rules
 use Rattle.rules.specs.Merge.{Common, builtOf, sizeFor, partOf, mostStages, splitBy}
 use Rattle.rules.proofs.Lists.Members.{In, split, in-append-left, in-append-right}
@@ -52,19 +53,19 @@ module _ {n s size stages words : ℕ} {o o′ : List ℕ} (S : Stored n s size 
 
 -- ---- the first s slots are built
 
-pub record Building (K m table base : ℕ) (gates given records xs ls pl ws cs w pl′ ws′ cs′ w′ : List ℕ) (most at s : ℕ) : Type 0 where
+pub record Building (rule : WordRule) (K m table base : ℕ) (gates given records xs ls pl ws cs w pl′ ws′ cs′ w′ : List ℕ) (most at s : ℕ) : Type 0 where
   pub upto : s ≤ length ls
   pub start : at ≡ sum (take s ls)
   pub plan : pl′ ≡ pl
   pub words : ws′ ≡ ws
   pub counts : cs′ ≡ cs
   pub changes : Changes m table base (length ls) w w′
-  pub right : (J : Common) → Places K (length pl) gates given records J → (t : ℕ) → t < s → Right J (getD (splitBy ls xs) t []) t (held (length ls) ls xs (owned base (length ls) w′) t)
+  pub right : (J : Common) → Places rule K (length pl) gates given records J → (t : ℕ) → t < s → Right J (getD (splitBy ls xs) t []) t (held (length ls) ls xs (owned base (length ls) w′) t)
   pub greatest : mostStages (listed (held (length ls) ls xs (owned base (length ls) w′)) (λ _. true) s 0) 0 ≡ most
   pub few : most ≤ m
 
 module _ {K m table base : ℕ} {gates given records xs ls pl ws cs w : List ℕ} (A : OriginalsAt K m table base gates given records xs ls pl ws cs w) where
-  pub building-none : Building K m table base gates given records xs ls pl ws cs w pl ws cs w 0 0 0
+  pub building-none : {rule : WordRule} → Building rule K m table base gates given records xs ls pl ws cs w pl ws cs w 0 0 0
   unfolding sum listed gathered mostStages
   building-none = record {
     upto = omega arith;
@@ -84,7 +85,7 @@ module _ {K m table base : ℕ} {gates given records xs ls pl ws cs w : List ℕ
   abbrev hs : List (List ℕ)
   hs = splitBy ls xs
 
-  module _ {pl₁ ws₁ cs₁ w₁ : List ℕ} {most at s : ℕ} (N : Building K m table base gates given records xs ls pl ws cs w pl₁ ws₁ cs₁ w₁ most at s) where
+  module _ {rule : WordRule} {pl₁ ws₁ cs₁ w₁ : List ℕ} {most at s : ℕ} (N : Building rule K m table base gates given records xs ls pl ws cs w pl₁ ws₁ cs₁ w₁ most at s) where
     module _ (h : s < length ls) {l : ℕ} (el : l ≡ getD ls s 0) where
       pub part-end : at + l ≤ length xs
       part-end = omega (arith, N .start, sum-next ls s h, sum-part ls (s + 1), A .all)
@@ -106,30 +107,30 @@ module _ {K m table base : ℕ} {gates given records xs ls pl ws cs w : List ℕ
         inside = h;
       }
 
-      module _ {a : Answer} {pl₂ ws₂ cs₂ w₂ : List ℕ} (M : Measures K m table base n s gates given records part pl₁ ws₁ cs₁ w₁ a pl₂ ws₂ cs₂ w₂) where
-        replied : (J : Common) → Places K (length pl) gates given records J → told a ≡ rules.reply (builtOf J (getD hs s []))
+      module _ {a : Answer} {pl₂ ws₂ cs₂ w₂ : List ℕ} (M : Measures rule K m table base n s gates given records part pl₁ ws₁ cs₁ w₁ a pl₂ ws₂ cs₂ w₂) where
+        replied : (J : Common) → Places rule K (length pl) gates given records J → told a ≡ rules.reply (builtOf J (getD hs s []))
         replied J f = rw part-is at (M .reply J (rw (N .plan) f))
 
-        number-is : (J : Common) → Places K (length pl) gates given records J → a .number ≡ rules.reply (builtOf J (getD hs s [])) .number
+        number-is : (J : Common) → Places rule K (length pl) gates given records J → a .number ≡ rules.reply (builtOf J (getD hs s [])) .number
         unfolding told
         number-is J f = ap (λ (r : rules.Reply). r .number) (replied J f)
 
-        stage-is : (J : Common) → Places K (length pl) gates given records J → a .stage ≡ rules.reply (builtOf J (getD hs s [])) .stage
+        stage-is : (J : Common) → Places rule K (length pl) gates given records J → a .stage ≡ rules.reply (builtOf J (getD hs s [])) .stage
         unfolding told
         stage-is J f = ap (λ (r : rules.Reply). r .stage) (replied J f)
 
-        stages-are : (J : Common) → Places K (length pl) gates given records J → a .stages ≡ rules.reply (builtOf J (getD hs s [])) .stages
+        stages-are : (J : Common) → Places rule K (length pl) gates given records J → a .stages ≡ rules.reply (builtOf J (getD hs s [])) .stages
         unfolding told
         stages-are J f = ap (λ (r : rules.Reply). r .stages) (replied J f)
 
-        words-are : (J : Common) → Places K (length pl) gates given records J → a .words ≡ rules.reply (builtOf J (getD hs s [])) .words
+        words-are : (J : Common) → Places rule K (length pl) gates given records J → a .words ≡ rules.reply (builtOf J (getD hs s [])) .words
         unfolding told
         words-are J f = ap (λ (r : rules.Reply). r .words) (replied J f)
 
         changed : Changes m table base n w w₂
         changed = changes-then (N .changes) (M .changes)
 
-        pub building-refused : a .number ≢ 0 → Given K m table base gates given records xs ls pl ws cs w (Refused (s + 1) (a .number) (a .stage)) pl₂ ws₂ cs₂ w₂
+        pub building-refused : a .number ≢ 0 → Given rule K m table base gates given records xs ls pl ws cs w (Refused (s + 1) (a .number) (a .stage)) pl₂ ws₂ cs₂ w₂
         unfolding partsFor
         building-refused z = record {
           plan = M .plan ∙ N .plan;
@@ -145,7 +146,7 @@ module _ {K m table base : ℕ} {gates given records xs ls pl ws cs w : List ℕ
           O : Noted m table base n s (a .stages) (a .words) gates given records part w₁ w₂
           O = M .noted z
 
-          size-is : (J : Common) → Places K (length pl) gates given records J → O .size ≡ sizeFor J (getD hs s [])
+          size-is : (J : Common) → Places rule K (length pl) gates given records J → O .size ≡ sizeFor J (getD hs s [])
           size-is J f = rw part-is at (O .measured J (f .shares))
 
           same : (t : ℕ) → t < n → t ≢ s → held n ls xs (owned base n w₂) t ≡ held n ls xs (owned base n w₁) t
@@ -155,7 +156,7 @@ module _ {K m table base : ℕ} {gates given records xs ls pl ws cs w : List ℕ
           unfolding held
           this-stages = O .stored .stages-are
 
-          pub building-more : {most′ : ℕ} → most′ ≡ max (a .stages) most → Building K m table base gates given records xs ls pl ws cs w pl₂ ws₂ cs₂ w₂ most′ (at + l) (s + 1)
+          pub building-more : {most′ : ℕ} → most′ ≡ max (a .stages) most → Building rule K m table base gates given records xs ls pl ws cs w pl₂ ws₂ cs₂ w₂ most′ (at + l) (s + 1)
           building-more e = record {
             upto = omega arith;
             start = omega (arith, N .start, sum-next ls s h);
@@ -173,11 +174,11 @@ module _ {K m table base : ℕ} {gates given records xs ls pl ws cs w : List ℕ
             few = omega (arith, N .few, M .few);
           }
 
-    pub building-done : length ls ≤ s → Given K m table base gates given records xs ls pl ws cs w (Built most) pl₁ ws₁ cs₁ w₁
+    pub building-done : length ls ≤ s → Given rule K m table base gates given records xs ls pl ws cs w (Built most) pl₁ ws₁ cs₁ w₁
     unfolding partsFor allHeld
     building-done h =
         let e : s ≡ length ls = omega (arith, N .upto) in
-        let R : (J : Common) → Places K (length pl) gates given records J → (t : ℕ) → t < length ls → Right J (getD hs t []) t (held n ls xs (owned base n w₁) t) = λ J f t b. N .right J f t (omega arith) in
+        let R : (J : Common) → Places rule K (length pl) gates given records J → (t : ℕ) → t < length ls → Right J (getD hs t []) t (held n ls xs (owned base n w₁) t) = λ J f t b. N .right J f t (omega arith) in
         record {
           plan = N .plan;
           words = N .words;

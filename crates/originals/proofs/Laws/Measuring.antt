@@ -11,6 +11,7 @@ use borrow.Author.Tests.{leb-true}
 use Rattle.rules.specs.Cells.{isHeight, empty, wordLimit, rooms}
 use Rattle.rules.specs.Graph.{graphOf}
 use Rattle.rules.specs.Records.{Group, groupsOf}
+use Rattle.rules.specs.Traversal.{WordRule}
 use Rattle.rules.specs.Build as rules
 use Rattle.rules.specs.Merge.{Common, named, builtOf}
 use Rattle.rules.proofs.Lists.Members.{In, in-nil, in-here, in-there, and-true}
@@ -126,22 +127,22 @@ module _ {K m table base n s : ℕ} {gates given records part pl ws cs w : List 
   pub measure-try : TryAt K m table gates given records part [] pl ws cs w
   measure-try = record { union = union-at (A .ground) (A .groups); blank = A .blank }
 
-  -- a merge that fits
-  abbrev J₀ : Common
-  J₀ = record { K = K; g = graphOf gates; given = given; groups = groupsOf records; rooms = rooms K (length pl); cap = 0; ranks = 0 }
+  module _ {rule : WordRule} {a : Answer} {pl₁ ws₁ cs₁ w₁ : List ℕ} (B : Built rule K m table gates given records part [] pl ws cs w a pl₁ ws₁ cs₁ w₁) where
+    -- a merge that fits
+    abbrev J₀ : Common
+    J₀ = record { rule = rule; K = K; g = graphOf gates; given = given; groups = groupsOf records; rooms = rooms K (length pl); cap = 0; ranks = 0 }
 
-  fits₀ : Places K (length pl) gates given records J₀
-  fits₀ = record { shares = record { graph = refl; given-same = refl; groups-same = refl }; height = refl; rooms-same = refl }
+    fits₀ : Places rule K (length pl) gates given records J₀
+    fits₀ = record { shares = record { graph = refl; given-same = refl; groups-same = refl }; rule-same = refl; height = refl; rooms-same = refl }
 
-  few₀ : Few K (graphOf gates) (builtOf J₀ part)
-  unfolding builtOf empty
-  few₀ =
-      let P = A .ground .passed in
-      build-few K (graphOf gates) (P .valid) (tall K (P .height) .0) (omega (arith, P .pins, P .few)) given [] (named J₀ part)
-      (λ q e. rw (P .pins) (P .named q (picked-ends (groupsOf records) part q (A .groups .named) (rw (named-picked J₀ part {gs = groupsOf records} refl) at e)))) (rooms K (length pl))
+    few₀ : Few K (graphOf gates) (builtOf J₀ part)
+    unfolding builtOf empty
+    few₀ =
+        let P = A .ground .passed in
+        build-few rule K (graphOf gates) (P .valid) (tall K (P .height) .0) (omega (arith, P .pins, P .few)) given [] (named J₀ part)
+        (λ q e. rw (P .pins) (P .named q (picked-ends (groupsOf records) part q (A .groups .named) (rw (named-picked J₀ part {gs = groupsOf records} refl) at e)))) (rooms K (length pl))
 
-  module _ {a : Answer} {pl₁ ws₁ cs₁ w₁ : List ℕ} (B : Built K m table gates given records part [] pl ws cs w a pl₁ ws₁ cs₁ w₁) where
-    replied : (J : Common) → Places K (length pl) gates given records J → told a ≡ rules.reply (builtOf J part)
+    replied : (J : Common) → Places rule K (length pl) gates given records J → told a ≡ rules.reply (builtOf J part)
     replied J h = rw (append-nil part) at (B .reply J h)
 
     stages-most : a .stages ≤ m
@@ -162,7 +163,7 @@ module _ {K m table base n s : ℕ} {gates given records part pl ws cs w : List 
       words-fit = omega (arith, words-most);
     }
 
-    measures : {w₂ : List ℕ} → Changes m table base n w w₂ → (a .number ≡ 0 → Noted m table base n s (a .stages) (a .words) gates given records part w w₂) → Measures K m table base n s gates given records part pl ws cs w a pl₁ ws₁ cs₁ w₂
+    measures : {w₂ : List ℕ} → Changes m table base n w w₂ → (a .number ≡ 0 → Noted m table base n s (a .stages) (a .words) gates given records part w w₂) → Measures rule K m table base n s gates given records part pl ws cs w a pl₁ ws₁ cs₁ w₂
     measures C N = record {
       plan = B .plan ∙ sym (A .blank .plan);
       words = B .words ∙ sym (A .blank .words);
@@ -173,10 +174,10 @@ module _ {K m table base n s : ℕ} {gates given records part pl ws cs w : List 
       noted = N;
     }
 
-    pub measure-refused : a .number ≢ 0 → Measures K m table base n s gates given records part pl ws cs w a pl₁ ws₁ cs₁ w₁
+    pub measure-refused : a .number ≢ 0 → Measures rule K m table base n s gates given records part pl ws cs w a pl₁ ws₁ cs₁ w₁
     measure-refused h = measures (leaves-changes (A .ground) (B .leaves)) (λ z. absurd (h z))
 
-    pub measure-whole : {w₂ : List ℕ} → Noted m table base n s (a .stages) (a .words) gates given records part w₁ w₂ → Measures K m table base n s gates given records part pl ws cs w a pl₁ ws₁ cs₁ w₂
+    pub measure-whole : {w₂ : List ℕ} → Noted m table base n s (a .stages) (a .words) gates given records part w₁ w₂ → Measures rule K m table base n s gates given records part pl ws cs w a pl₁ ws₁ cs₁ w₂
     measure-whole N =
         let C = changes-then (leaves-changes (A .ground) (B .leaves)) (N .changes) in
         measures C (λ z. record { changes = C; size = N .size; stored = rw (leaves-own (A .ground) (B .leaves)) at (N .stored); measured = N .measured })

@@ -27,7 +27,7 @@ module _ (J : Common) (i : ℕ) (is : List ℕ) (rest : List (List ℕ)) where
 
   step-whole : (a : Answer) → builtOf J is ≡ a → reply a .number ≡ 0 → original J i (is ∷ rest) ≡ cons (partOf i is (sizeFor J is) (builtOf J is)) (original J (suc i) rest)
   unfolding original reply refuse builtOf
-  step-whole (refusal n k) e h = absurd (refused-some (J .K) (J .g) (J .given) (named J is) (J .rooms) n k e h)
+  step-whole (refusal n k) e h = absurd (refused-some (J .rule) (J .K) (J .g) (J .given) (named J is) (J .rooms) n k e h)
   step-whole (whole ss) e h = rw (e, original) refl
 
 -- slot t is built, and p is its partition

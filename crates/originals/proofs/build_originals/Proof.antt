@@ -3,17 +3,18 @@ use mathlib.Core.Path.{ap}
 use lib.ListN.{length}
 use Prim.Native.Nat.{_-_}
 use native.Mathlib.Omega.{arith}
+use Rattle.runs.specs.Rule.{ruleOf}
 use Rattle.originals.proofs.Laws.Building.{Building, building-none, part-end, building-at, building-refused, building-more, building-done}
 use borrow.Author.Needs.{needs}
 use Rattle.originals.proofs.build_originals.Statement.{statement}
 use Rattle.originals.proofs.build_originals.Tie as tie
 
 abbrev Inv-loop : tie.InvT-loop
-Inv-loop height gates given records indices lengths plan₀ words₀ counts₀ work₀ m table base n most₀ at₀ s₀ plan words counts work most at s =
-    Building height m table base gates given records indices lengths plan₀ words₀ counts₀ work₀ plan words counts work most at s
+Inv-loop height rule gates given records indices lengths plan₀ words₀ counts₀ work₀ m table base n most₀ at₀ s₀ plan words counts work most at s =
+    Building (ruleOf rule) height m table base gates given records indices lengths plan₀ words₀ counts₀ work₀ plan words counts work most at s
 
 abbrev μ-loop : tie.MeasureT-loop
-μ-loop height gates given records indices lengths plan₀ words₀ counts₀ work₀ m table base n most₀ at₀ s₀ plan words counts work most at s =
+μ-loop height rule gates given records indices lengths plan₀ words₀ counts₀ work₀ m table base n most₀ at₀ s₀ plan words counts work most at s =
     n - s
 
 loop-holds : tie.Need-loop-holds Inv-loop μ-loop
@@ -46,8 +47,8 @@ part-measure-end c = part-end (c .before .before .before .before .before .before
 measure-requires : tie.Need-measure-requires Inv-loop μ-loop
 measure-requires c κs = building-at (c .before .before .before .before .before .before .before .before .before .before .before .before .before .before .before .before .before .before .pre) (c .before .before .before .before .before .before .before .before .loop .inv) (c .before .before .before .before .before .before .before .loop-test .taken) (c .before .before .before .before .before .wide .ensures)
 
-add-t36 : tie.Need-add-t36 Inv-loop μ-loop
-add-t36 c = omega (arith, c .before .before .before .before .before .before .before .before .before .before .before .before .before .before .before .before .before .before .loop-test .taken, c .before .before .before .before .before .before .before .before .before .before .before .before .before .before .before .before .before .before .before .before .before .before .before .before .before .before .before .before .before .pre .ground .few)
+add-t37 : tie.Need-add-t37 Inv-loop μ-loop
+add-t37 c = omega (arith, c .before .before .before .before .before .before .before .before .before .before .before .before .before .before .before .before .before .before .loop-test .taken, c .before .before .before .before .before .before .before .before .before .before .before .before .before .before .before .before .before .before .before .before .before .before .before .before .before .before .before .before .before .pre .ground .few)
 
 same-length : tie.Need-same-length Inv-loop μ-loop
 same-length c = omega (arith, ap length (c .before .before .before .before .before .before .before .before .before .before .measure .ensures .plan), ap length (c .before .before .before .before .before .before .before .before .before .before .before .before .before .before .before .before .before .before .before .loop .inv .plan))
@@ -107,7 +108,7 @@ build-originals-spec =
     part-measure-start
     part-measure-end
     measure-requires
-    add-t36
+    add-t37
     same-length
     same-length-2
     same-length-3

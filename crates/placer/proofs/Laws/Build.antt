@@ -25,6 +25,8 @@ use Rattle.start.specs.declared.reservation.Reservation.the-variants as reserva
 use Rattle.start.specs.Reservation.{reservationOf}
 use Rattle.start.specs.Opening.{BeginAt, First, Begins, reservationFor}
 use Rattle.start.proofs.Laws.First.{begin-at, first-ready, first-low, first-high}
+use Rattle.runs.specs.declared.WordRule.{WordRule as Asked}
+use Rattle.runs.specs.Rule.{ruleOf}
 use Rattle.placer.specs.declared.Answer.{Answer}
 use Rattle.placer.specs.Answers.{told}
 use Rattle.placer.specs.Stages.{Course, answer, StagesAt, Ran, Underway}
@@ -57,11 +59,11 @@ laid-self n w l e =
 -- ---- the build of some groups, from its opening on
 
 module _ {K : ℕ} {sized : Bool} {gates given records : List ℕ} (P : Passed K sized gates given records) {pl ws cs : List ℕ} (A : Blank K pl ws cs) {m : ℕ} (pins : m ≡ pinCount gates) {limit : ℕ} (lim : limit ≡ length ws)
-    {far : ℕ} {gs : List Group} {w : List ℕ} {r : Opening} {w₁ : List ℕ} (B : Begins m limit far given gs w r w₁) where
+    {far : ℕ} {gs : List Group} {w : List ℕ} {r : Opening} {w₁ : List ℕ} (B : Begins m limit far given gs w r w₁) (asked : Asked) where
   limit-is : limit ≡ wordLimit K
   limit-is = lim ∙ A .words-size
 
-  pub built-over : r ≡ Over → Tried (rules.build K (graphOf gates) given gs (rooms K (length pl))) pl ws cs w (record { number = 6; stages = 0; words = 0; stage = 0 }) pl ws cs w₁
+  pub built-over : r ≡ Over → Tried (rules.build (ruleOf asked) K (graphOf gates) given gs (rooms K (length pl))) pl ws cs w (record { number = 6; stages = 0; words = 0; stage = 0; pin = 0 }) pl ws cs w₁
   unfolding rules.build told rules.reply rules.refuse reservationFor
   built-over e =
       let f = over-refused K gs (ap reservationFor (sym e) ∙ B .answer K limit-is) in
@@ -86,6 +88,7 @@ module _ {K : ℕ} {sized : Bool} {gates given records : List ℕ} (P : Passed K
 
       abbrev pub course : Course
       course = record {
+        rule = ruleOf asked;
         K = K;
         g = graphOf gates;
         given = given;
@@ -100,11 +103,11 @@ module _ {K : ℕ} {sized : Bool} {gates given records : List ℕ} (P : Passed K
         limit = omega arith;
       }
 
-      built : rules.build K (graphOf gates) given gs (rooms K (length pl)) ≡ answer course
+      built : rules.build (ruleOf asked) K (graphOf gates) given gs (rooms K (length pl)) ≡ answer course
       unfolding rules.build answer
       built = rw (known .0, rules.build)
 
-      same : answer course ≡ rules.before [] (rules.stages K (graphOf gates) (rooms K (length pl) - 0) 1 given (waitingOf gs []) (wordLimit K - reserved gs - 0))
+      same : answer course ≡ rules.before [] (rules.stages (ruleOf asked) K (graphOf gates) (rooms K (length pl) - 0) 1 given (waitingOf gs []) (wordLimit K - reserved gs - 0))
       unfolding answer rules.before
       same =
           let d : rooms K (length pl) - 0 ≡ rooms K (length pl) = omega arith in
@@ -145,9 +148,9 @@ module _ {K : ℕ} {sized : Bool} {gates given records : List ℕ} (P : Passed K
         unfolding rowAt
         half-is = rw height (row ∙ (rw (P .height, orZero-true (levelOneSize K)) refl))
 
-        pub built-stages : StagesAt course m h half rms 0 0 n room gates pl ws cs v
+        pub built-stages : StagesAt course m h half asked rms 0 0 n room gates pl ws cs v
         built-stages = record {
-          known = record { height = height; row = half-is; graph = refl; size = P .pins ∙ sym pins; pair = P .even ∙ ap (λ (i : ℕ). 2 * i) (sym pins) };
+          known = record { ruled = refl; height = height; row = half-is; graph = refl; size = P .pins ∙ sym pins; pair = P .even ∙ ap (λ (i : ℕ). 2 * i) (sym pins) };
           now = first;
           all = all ∙ A .counts-size;
           short = omega arith;
@@ -157,7 +160,7 @@ module _ {K : ℕ} {sized : Bool} {gates given records : List ℕ} (P : Passed K
       abbrev ss : List rules.Stage
       ss = rules.stagesOf (answer course)
 
-      pub built-ran : {a : Answer} {pl′ ws′ cs′ w′ : List ℕ} → Ran course pl ws cs v a pl′ ws′ cs′ w′ → Tried (rules.build K (graphOf gates) given gs (rooms K (length pl))) pl ws cs v a pl′ ws′ cs′ w′
+      pub built-ran : {a : Answer} {pl′ ws′ cs′ w′ : List ℕ} → Ran course pl ws cs v a pl′ ws′ cs′ w′ → Tried (rules.build (ruleOf asked) K (graphOf gates) given gs (rooms K (length pl))) pl ws cs v a pl′ ws′ cs′ w′
       built-ran R = rw built (record {
         kept = R .kept;
         reply = R .reply;
@@ -178,9 +181,9 @@ module _ {K : ℕ} {gates given records pl ws cs w : List ℕ} (A : TryAt K gate
   try-begin pins = rw pins (begin-at (A .at .passed) w (omega (arith, A .at .work)) (laid-self (workSize gates records) w (A .at .work) (A .work)))
 
   -- it is the build of the records' groups
-  pub tried : {a : Answer} {u pl′ ws′ cs′ w′ : List ℕ} → length u ≡ length w → Tried (rules.build K (graphOf gates) given (groupsOf records) (rooms K (length pl))) pl ws cs u a pl′ ws′ cs′ w′ → Tried (rules.answerOf K gates given records (length pl)) pl ws cs w a pl′ ws′ cs′ w′
+  pub tried : (asked : Asked) {a : Answer} {u pl′ ws′ cs′ w′ : List ℕ} → length u ≡ length w → Tried (rules.build (ruleOf asked) K (graphOf gates) given (groupsOf records) (rooms K (length pl))) pl ws cs u a pl′ ws′ cs′ w′ → Tried (rules.answerOf (ruleOf asked) K gates given records (length pl)) pl ws cs w a pl′ ws′ cs′ w′
   unfolding rules.answerOf
-  tried e T = record { kept = record { plan = T .kept .plan; words = T .kept .words; counts = T .kept .counts; work = T .kept .work ∙ e }; reply = T .reply; whole = T .whole }
+  tried asked e T = record { kept = record { plan = T .kept .plan; words = T .kept .words; counts = T .kept .counts; work = T .kept .work ∙ e }; reply = T .reply; whole = T .whole }
 
 -- ---- from the last stage to the areas at exit
 
@@ -238,6 +241,6 @@ module _ {K : ℕ} {gates given records pl ws cs w pl₁ ws₁ cs₁ w₁ : List
       work = D .work ∙ ap (λ (i : ℕ). replicate i 0) (T .kept .work ∙ work-same);
     }
 
-  pub placed : {a : Answer} {pl₂ ws₂ cs₂ w₂ pl₃ ws₃ cs₃ w₃ : List ℕ} → Tried (rules.answerOf K gates given records (length pl₁)) pl₁ ws₁ cs₁ w₁ a pl₂ ws₂ cs₂ w₂ → Tidied (a .number) pl₂ ws₂ cs₂ w₂ pl₃ ws₃ cs₃ w₃ →
-      Placed (rules.answerOf K gates given records (length pl)) pl ws cs w a pl₃ ws₃ cs₃ w₃
-  placed T D = so (rw plan-same at T) D
+  pub placed : (asked : Asked) {a : Answer} {pl₂ ws₂ cs₂ w₂ pl₃ ws₃ cs₃ w₃ : List ℕ} → Tried (rules.answerOf (ruleOf asked) K gates given records (length pl₁)) pl₁ ws₁ cs₁ w₁ a pl₂ ws₂ cs₂ w₂ → Tidied (a .number) pl₂ ws₂ cs₂ w₂ pl₃ ws₃ cs₃ w₃ →
+      Placed (rules.answerOf (ruleOf asked) K gates given records (length pl)) pl ws cs w a pl₃ ws₃ cs₃ w₃
+  placed asked T D = so (rw plan-same at T) D

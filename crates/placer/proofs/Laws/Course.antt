@@ -8,11 +8,13 @@ use native.Mathlib.Omega.{arith}
 use lib.Pow.{pow-mono}
 use lib.ListN.{length}
 use Rattle.rules.specs.Graph.{Node}
+use Rattle.rules.specs.Traversal.{WordRule}
 use Rattle.rules.specs.Ending.{refused, stage, oneStage}
 use Rattle.rules.specs.Cells.{empty, wordLimit}
 use Rattle.rules.specs.Build.{Stage, Answer, refusal, whole, more, before, stages, cellsOf, wordsOf, countsOf, refuse, reply, stagesOf}
 use Rattle.rules.proofs.Stage.Refusals.{before-refusal}
 use Rattle.rules.proofs.Build.Lengths.{length-padded}
+use Rattle.runs.specs.declared.WordRule.{WordRule as Asked}
 use Rattle.placer.specs.Answers.{told}
 use Rattle.placer.specs.Stages.{Course, answer, OneAt, One, StagesAt, Whole}
 
@@ -45,28 +47,28 @@ before-whole (t ∷ ss) ts = rw (before-whole ss ts)
 
 -- ---- one more, by what it answers
 
-module _ (K : ℕ) (g : List Node) (k : ℕ) (done waiting : List ℕ) (room : ℕ) where
-  pub none-waits : (r : ℕ) → waiting ≡ [] → stages K g r k done waiting room ≡ whole []
+module _ (rule : WordRule) (K : ℕ) (g : List Node) (k : ℕ) (done waiting : List ℕ) (room : ℕ) where
+  pub none-waits : (r : ℕ) → waiting ≡ [] → stages rule K g r k done waiting room ≡ whole []
   unfolding stages
   none-waits zero e = rw (e, stages)
   none-waits (suc r) e = rw (e, stages)
 
-  pub no-room : 0 < length waiting → stages K g 0 k done waiting room ≡ refusal 9 k
+  pub no-room : 0 < length waiting → stages rule K g 0 k done waiting room ≡ refusal 9 k
   unfolding stages
-  no-room h = elim waiting as (λ ws. 0 < length ws → stages K g 0 k done ws room ≡ refusal 9 k) [ [] ↦ λ z. absurd (omega arith) | w ∷ ws ↦ λ z. refl ] h
+  no-room h = elim waiting as (λ ws. 0 < length ws → stages rule K g 0 k done ws room ≡ refusal 9 k) [ [] ↦ λ z. absurd (omega arith) | w ∷ ws ↦ λ z. refl ] h
 
   nonempty : (P : List ℕ → Type 0) → ((w : ℕ) (ws : List ℕ) → P (w ∷ ws)) → 0 < length waiting → P waiting
   nonempty P f h = elim waiting as (λ xs. 0 < length xs → P xs) [ [] ↦ λ z. absurd (omega arith) | w ∷ ws ↦ λ z. f w ws ] h
 
-  pub stage-refused : 0 < length waiting → (r n : ℕ) → oneStage K g done waiting room ≡ refused n → stages K g (suc r) k done waiting room ≡ refusal n k
+  pub stage-refused : 0 < length waiting → (r n : ℕ) → oneStage rule K g done waiting room ≡ refused n → stages rule K g (suc r) k done waiting room ≡ refusal n k
   unfolding stages
-  stage-refused h r n = nonempty (λ xs. oneStage K g done xs room ≡ refused n → stages K g (suc r) k done xs room ≡ refusal n k) (λ w ws e. rw (e, stages)) h
+  stage-refused h r n = nonempty (λ xs. oneStage rule K g done xs room ≡ refused n → stages rule K g (suc r) k done xs room ≡ refusal n k) (λ w ws e. rw (e, stages)) h
 
-  pub stage-more : 0 < length waiting → (r : ℕ) (pl ws re left : List ℕ) → oneStage K g done waiting room ≡ stage pl ws re left →
-      stages K g (suc r) k done waiting room ≡ more (record { plan = pl; words = ws }) (stages K g r (suc k) (re ++ done) left (room - length ws))
+  pub stage-more : 0 < length waiting → (r : ℕ) (pl ws re left : List ℕ) → oneStage rule K g done waiting room ≡ stage pl ws re left →
+      stages rule K g (suc r) k done waiting room ≡ more (record { plan = pl; words = ws }) (stages rule K g r (suc k) (re ++ done) left (room - length ws))
   unfolding stages
   stage-more h r pl ws re left =
-      nonempty (λ xs. oneStage K g done xs room ≡ stage pl ws re left → stages K g (suc r) k done xs room ≡ more (record { plan = pl; words = ws }) (stages K g r (suc k) (re ++ done) left (room - length ws))) (λ w zs e. rw (e, stages)) h
+      nonempty (λ xs. oneStage rule K g done xs room ≡ stage pl ws re left → stages rule K g (suc r) k done xs room ≡ more (record { plan = pl; words = ws }) (stages rule K g r (suc k) (re ++ done) left (room - length ws))) (λ w zs e. rw (e, stages)) h
 
 -- ---- the loop over the stages
 
@@ -77,8 +79,8 @@ empty-list (x ∷ xs) e = absurd (omega arith)
 pub limit-small : (K : ℕ) → K ≤ 13 → 2 ^ (K - 5) ≤ 256
 limit-small K h = pow-mono {i = K - 5} {j = 8} (omega arith)
 
-module _ {C : Course} {m K half rooms k at n room : ℕ} {gates pl ws cs w : List ℕ} (A : StagesAt C m K half rooms k at n room gates pl ws cs w) where
-  pub next-at : {b : ℕ} → b ≡ room → 0 < n → k ≢ rooms → OneAt C m K half k n at (b - at) gates pl ws cs w
+module _ {C : Course} {m K half : ℕ} {asked : Asked} {rooms k at n room : ℕ} {gates pl ws cs w : List ℕ} (A : StagesAt C m K half asked rooms k at n room gates pl ws cs w) where
+  pub next-at : {b : ℕ} → b ≡ room → 0 < n → k ≢ rooms → OneAt C m K half asked k n at (b - at) gates pl ws cs w
   next-at e h r = record { known = A .known; now = A .now; left = ap (λ (i : ℕ). i - at) (e ∙ A .left); waits = h; more = omega (arith, A .now .few, A .all) }
 
   pub spent-within : at ≤ room
@@ -99,28 +101,28 @@ module _ {C : Course} {m K half rooms k at n room : ℕ} {gates pl ws cs w : Lis
       let z : C .rooms - k ≡ 0 = omega (arith, A .all) in
       let s = A .now .same in
       let r = rw z at s in
-      r ∙ ap (before (A .now .ss)) (no-room (C .K) (C .g) (suc k) (A .now .done) (A .now .waiting) (C .room - at) (omega (arith, A .now .work .waiting .held .count))) ∙ before-refusal (A .now .ss) 9 (suc k)
+      r ∙ ap (before (A .now .ss)) (no-room (C .rule) (C .K) (C .g) (suc k) (A .now .done) (A .now .waiting) (C .room - at) (omega (arith, A .now .work .waiting .held .count))) ∙ before-refusal (A .now .ss) 9 (suc k)
 
   pub all-whole : n ≡ 0 → answer C ≡ whole (A .now .ss)
   all-whole e =
       A .now .same
-      ∙ ap (before (A .now .ss)) (none-waits (C .K) (C .g) (suc k) (A .now .done) (A .now .waiting) (C .room - at) (C .rooms - k) (empty-list (A .now .waiting) (omega (arith, A .now .work .waiting .held .count))))
+      ∙ ap (before (A .now .ss)) (none-waits (C .rule) (C .K) (C .g) (suc k) (A .now .done) (A .now .waiting) (C .room - at) (C .rooms - k) (empty-list (A .now .waiting) (omega (arith, A .now .work .waiting .held .count))))
       ∙ before-whole (A .now .ss) []
       ∙ ap whole (append-nil (A .now .ss))
 
   pub still-rooms : 0 < n → k ≢ rooms → k < rooms
   still-rooms h r = omega (arith, A .now .few, A .all)
 
-  pub one-on : {number written left : ℕ} {pl′ ws′ cs′ w′ : List ℕ} → One C m k at pl ws cs w number written left pl′ ws′ cs′ w′ → number ≡ 0 → {spent : ℕ} → spent ≡ at + written → StagesAt C m K half rooms (k + 1) spent left room gates pl′ ws′ cs′ w′
+  pub one-on : {number written left : ℕ} {pl′ ws′ cs′ w′ : List ℕ} → One C m k at pl ws cs w number written left pl′ ws′ cs′ w′ → number ≡ 0 → {spent : ℕ} → spent ≡ at + written → StagesAt C m K half asked rooms (k + 1) spent left room gates pl′ ws′ cs′ w′
   one-on O z e = rw (e, add-one k) (record { known = A .known; now = O .on z; all = A .all; short = A .short; left = A .left })
 
 -- what the answers tell
-pub refused-told : (C : Course) (number k : ℕ) → answer C ≡ refusal number (suc k) → told (record { number = number; stages = 0; words = 0; stage = k + 1 }) ≡ reply (answer C)
+pub refused-told : (C : Course) (number k : ℕ) → answer C ≡ refusal number (suc k) → told (record { number = number; stages = 0; words = 0; stage = k + 1; pin = 0 }) ≡ reply (answer C)
 unfolding told reply refuse
 refused-told C number k e = rw (e, add-one k, reply)
 
-module _ {C : Course} {m K half rooms k at n room : ℕ} {gates pl ws cs w : List ℕ} (A : StagesAt C m K half rooms k at n room gates pl ws cs w) (z : n ≡ 0) where
-  pub whole-told : told (record { number = 0; stages = k; words = at; stage = 0 }) ≡ reply (answer C)
+module _ {C : Course} {m K half : ℕ} {asked : Asked} {rooms k at n room : ℕ} {gates pl ws cs w : List ℕ} (A : StagesAt C m K half asked rooms k at n room gates pl ws cs w) (z : n ≡ 0) where
+  pub whole-told : told (record { number = 0; stages = k; words = at; stage = 0; pin = 0 }) ≡ reply (answer C)
   unfolding told reply
   whole-told = rw (all-whole A z, A .now .count, A .now .spent, reply)
 

@@ -14,12 +14,14 @@ use Rattle.rules.specs.Traversal.{setting}
 use Rattle.rules.specs.Ending.{refused, stage, oneStage}
 use Rattle.rules.specs.Build as rules
 use Rattle.rules.specs.Lean.{blank}
+use Rattle.rules.proofs.Loops.{rank}
 use Rattle.rules.proofs.Demand.{graph}
 use Rattle.rules.proofs.Stage.Depth.{still-ready}
 use Rattle.rules.proofs.Build.Lengths.{length-padded}
 use Rattle.columns.specs.Fields.{DONE}
 use Rattle.columns.specs.Lists.{Marks}
 use Rattle.columns.proofs.Area.Frames.{frame-room}
+use Rattle.runs.specs.declared.WordRule.{WordRule as Asked}
 use Rattle.walk.specs.Stands.{Context}
 use Rattle.walk.proofs.Contexts.{context, unfold-empty}
 use Rattle.stage.specs.declared.finish.Outcome.{Outcome}
@@ -46,12 +48,12 @@ lent-part a e xs ys h l =
     let d : drop (e - a) (drop a xs) ≡ drop (a + length ys) xs = rw (← l) (drop-drop (length ys) a xs) in
     rw d refl
 
-module _ {C : Course} {m K half k n at room : ℕ} {gates pl ws cs w : List ℕ} (A : OneAt C m K half k n at room gates pl ws cs w) where
+module _ {C : Course} {m K half : ℕ} {asked : Asked} {k n at room : ℕ} {gates pl ws cs w : List ℕ} (A : OneAt C m K half asked k n at room gates pl ws cs w) where
   abbrev U : Underway C m k at n pl ws cs w
   U = A .now
 
   abbrev pub ctx : Context
-  ctx = context (C .K) (C .g) (λ p. p) (graph (C .g) (C .valid)) (C .low) (C .high) (C .small) (U .done) (U .waiting) (U .ready)
+  ctx = context (C .rule) (C .K) (C .g) (rank (C .g)) (graph (C .g) (C .valid)) (C .low) (C .high) (C .small) (U .done) (U .waiting) (U .ready)
 
   pub stage-size : 4 * half ≡ stageSize (C .K)
   stage-size = rw (← A .known .height) (size-is K half (rw (A .known .height) (C .low)) (A .known .row))
@@ -89,7 +91,7 @@ module _ {C : Course} {m K half k n at room : ℕ} {gates pl ws cs w : List ℕ}
     unfolding blank context setting
     part-blank = ap (λ (i : ℕ). take i (drop a pl)) part-size ∙ ap (λ (x : List ℕ). take (stageSize (C .K)) (drop a x)) (U .plan) ∙ blank-part (C .rooms * stageSize (C .K)) empty a (stageSize (C .K)) (rules.cellsOf (U .ss)) (U .cells ∙ sym start) (omega (arith, start, part-inside k (C .rooms) (stageSize (C .K)) (A .more)))
 
-    pub stage-at : StageAt ctx m K half n at room gates (take (e - a) (drop a pl)) w ws
+    pub stage-at : StageAt ctx m K half n asked at room gates (take (e - a) (drop a pl)) w ws
     unfolding context setting
     stage-at = record {
       begun = record { base = record { area = U .work .area; size = A .known .size; graph = A .known .graph; pair = A .known .pair }; done = U .work .done; waiting = U .work .waiting };
@@ -97,6 +99,7 @@ module _ {C : Course} {m K half k n at room : ℕ} {gates pl ws cs w : List ℕ}
       cells = U .work .cells;
       marks = U .work .marks;
       tail = U .work .tail;
+      ruled = A .known .ruled;
       height = A .known .height;
       row = A .known .row;
       blank = part-blank;
@@ -121,14 +124,14 @@ module _ {C : Course} {m K half k n at room : ℕ} {gates pl ws cs w : List ℕ}
       rooms-left : C .rooms - k ≡ suc (C .rooms - suc k)
       rooms-left = omega (arith, A .more)
 
-      same : answer C ≡ rules.before (U .ss) (rules.stages (C .K) (C .g) (suc (C .rooms - suc k)) (suc k) (U .done) (U .waiting) room)
+      same : answer C ≡ rules.before (U .ss) (rules.stages (C .rule) (C .K) (C .g) (suc (C .rooms - suc k)) (suc k) (U .done) (U .waiting) room)
       same = let h = U .same in rw (rooms-left, ← A .left) at h
 
       one-refused : 0 < s .number → One C m k at pl ws cs w (s .number) (s .words) (s .waiting) (laidAt a ys pl) ws′ cs w′
       unfolding built context setting
       one-refused h = record {
         kept = record { plan = plan-kept; words = S .changed .len; counts = refl; work = S .changed .frame .len };
-        refused = λ z. same ∙ ap (rules.before (U .ss)) (stage-refused (C .K) (C .g) (suc k) (U .done) (U .waiting) room waits (C .rooms - suc k) (s .number) (S .refuses h)) ∙ before-refusal (U .ss) (s .number) (suc k);
+        refused = λ z. same ∙ ap (rules.before (U .ss)) (stage-refused (C .rule) (C .K) (C .g) (suc k) (U .done) (U .waiting) room waits (C .rooms - suc k) (s .number) (S .refuses h)) ∙ before-refusal (U .ss) (s .number) (suc k);
         on = λ z. absurd (omega arith);
       }
 
@@ -145,17 +148,17 @@ module _ {C : Course} {m K half k n at room : ℕ} {gates pl ws cs w : List ℕ}
         abbrev next : rules.Stage
         next = record { plan = ys; words = W .ws }
 
-        one : oneStage (C .K) (C .g) (U .done) (U .waiting) room ≡ stage ys (W .ws) (tree (C .K) ys) (W .left)
+        one : oneStage (C .rule) (C .K) (C .g) (U .done) (U .waiting) room ≡ stage ys (W .ws) (tree (C .K) ys) (W .left)
         unfolding built context setting
         one = W .is
 
         pub words-few : s .words < 4294967296
         words-few = omega (arith, W .count, W .fit, A .left, C .limit, word-limit)
 
-        goes : answer C ≡ rules.before (U .ss ++ (next ∷ [])) (rules.stages (C .K) (C .g) (C .rooms - suc k) (suc (suc k)) (tree (C .K) ys ++ U .done) (W .left) (C .room - (at + s .words)))
+        goes : answer C ≡ rules.before (U .ss ++ (next ∷ [])) (rules.stages (C .rule) (C .K) (C .g) (C .rooms - suc k) (suc (suc k)) (tree (C .K) ys ++ U .done) (W .left) (C .room - (at + s .words)))
         goes =
             let r : room - length (W .ws) ≡ C .room - (at + s .words) = omega (arith, A .left, W .count) in
-            same ∙ ap (rules.before (U .ss)) (stage-more (C .K) (C .g) (suc k) (U .done) (U .waiting) room waits (C .rooms - suc k) ys (W .ws) (tree (C .K) ys) (W .left) one) ∙ before-more (U .ss) next _ ∙ ap (λ (i : ℕ). rules.before (U .ss ++ (next ∷ [])) (rules.stages (C .K) (C .g) (C .rooms - suc k) (suc (suc k)) (tree (C .K) ys ++ U .done) (W .left) i)) r
+            same ∙ ap (rules.before (U .ss)) (stage-more (C .rule) (C .K) (C .g) (suc k) (U .done) (U .waiting) room waits (C .rooms - suc k) ys (W .ws) (tree (C .K) ys) (W .left) one) ∙ before-more (U .ss) next _ ∙ ap (λ (i : ℕ). rules.before (U .ss ++ (next ∷ [])) (rules.stages (C .rule) (C .K) (C .g) (C .rooms - suc k) (suc (suc k)) (tree (C .K) ys ++ U .done) (W .left) i)) r
 
         marked : Marks DONE m (tree (C .K) ys ++ U .done) w′
         unfolding context setting
@@ -170,7 +173,7 @@ module _ {C : Course} {m K half k n at room : ℕ} {gates pl ws cs w : List ℕ}
             done = tree (C .K) ys ++ U .done;
             waiting = W .left;
             same = goes;
-            ready = still-ready (C .K) (C .g) (λ p. p) (graph (C .g) (C .valid)) (C .low) (unfold-empty (length (C .g)) (C .small)) (U .done) (U .waiting) (U .ready) room ys (W .ws) (tree (C .K) ys) (W .left) one;
+            ready = still-ready (C .rule) (C .K) (C .g) (rank (C .g)) (graph (C .g) (C .valid)) (C .low) (unfold-empty (length (C .g)) (C .small)) (U .done) (U .waiting) (U .ready) room ys (W .ws) (tree (C .K) ys) (W .left) one;
             count = length-append (U .ss) (next ∷ []) ∙ omega (arith, U .count);
             few = omega (arith, A .more);
             cells = rw (cells-more (U .ss) next) (length-append (rules.cellsOf (U .ss)) ys ∙ omega (arith, U .cells, part-length, part-size, suc-mul k (stageSize (C .K))));

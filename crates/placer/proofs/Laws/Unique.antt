@@ -11,6 +11,7 @@ pub record Same (a b : Answer) (pl ws cs w pl′ ws′ cs′ w′ : List ℕ) : 
   pub stages : a .stages ≡ b .stages
   pub count : a .words ≡ b .words
   pub stage : a .stage ≡ b .stage
+  pub pin : a .pin ≡ b .pin
   pub plan : pl ≡ pl′
   pub words : ws ≡ ws′
   pub counts : cs ≡ cs′
@@ -25,6 +26,7 @@ one-outcome o a b pl ws cs w pl′ ws′ cs′ w′ d e =
       stages = ap (λ (x : rules.Outcome). x .reply .stages) s;
       count = ap (λ (x : rules.Outcome). x .reply .words) s;
       stage = ap (λ (x : rules.Outcome). x .reply .stage) s;
+      pin = ap (λ (x : rules.Outcome). x .reply .pin) s;
       plan = ap (λ (x : rules.Outcome). x .areas .plan) s;
       words = ap (λ (x : rules.Outcome). x .areas .words) s;
       counts = ap (λ (x : rules.Outcome). x .areas .counts) s;

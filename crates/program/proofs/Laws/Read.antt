@@ -16,6 +16,7 @@ use Rattle.rules.proofs.Lists.Members.{and-true}
 use Rattle.rules.proofs.Lists.Lengths.{length-upTo}
 use Rattle.rules.proofs.Job.Bits.{Bytes, gather-width}
 use Rattle.rules.proofs.Job.Files.{Written, written, only-written}
+use Rattle.rules.specs.Traversal.{neededRuns}
 use Rattle.rules.specs.Listing.{refusedLine, jobText, printed}
 use Rattle.listing.specs.Listing as listed
 use Rattle.program.specs.Sizes.{jobOf, Fits}
@@ -75,11 +76,11 @@ module _ (bs : List ℕ) (J : Job) (B : Bytes bs) (e : readJob bs ≡ job J) whe
 
 -- ---- what is printed
 
-pub printed-none : (bs out : List ℕ) → readJob bs ≡ noJob → listed.written (refusedLine 11 0) out ≡ listed.written (printed bs) out
+pub printed-none : (bs out : List ℕ) → readJob bs ≡ noJob → listed.written (refusedLine 11 0 0) out ≡ listed.written (printed neededRuns bs) out
 unfolding printed
 printed-none bs out e = rw (e, printed)
 
-pub printed-job : (bs out : List ℕ) (J : Job) → readJob bs ≡ job J → listed.written (jobText (jobOf (J .height) (J .gates) (J .given) (J .records))) out ≡ listed.written (printed bs) out
+pub printed-job : (bs out : List ℕ) (J : Job) → readJob bs ≡ job J → listed.written (jobText neededRuns (jobOf (J .height) (J .gates) (J .given) (J .records))) out ≡ listed.written (printed neededRuns bs) out
 unfolding printed jobOf
 printed-job bs out J e = rw (e, printed)
 

@@ -1,6 +1,6 @@
 -- What a build in the program's areas leaves prints the job's text. Assumes nothing.
 use mathlib.Core.Path.{_≡_, refl, sym, _∙_, ap}
-use mathlib.Core.Bool.{true}
+use mathlib.Core.Bool.{true, false}
 use mathlib.Core.List.{List}
 use Prim.Native.Nat.{ℕ, zero, suc, _+_, _-_, _*_, _%_, _≤_}
 use native.Mathlib.Nat.{mul-mod-left, mul-div-cancel}
@@ -14,6 +14,7 @@ use Rattle.rules.specs.Cells.{empty, isHeight, wordLimit, stageSize, rooms}
 use Rattle.rules.specs.Graph.{graphOf, pinCount}
 use Rattle.rules.specs.Records.{groupsOf}
 use Rattle.rules.specs.Checks.{planSized, workSize, areasSized, refusalOf}
+use Rattle.rules.specs.Traversal.{WordRule, neededRuns}
 use Rattle.rules.specs.Build as rules
 use Rattle.rules.specs.Listing.{answerText, jobText}
 use Rattle.rules.proofs.Lists.Members.{split, and-true}
@@ -35,22 +36,22 @@ unfolding isHeight
 low K h = leb-true 6 K (and-true (leb 6 K) (leb K 13) h .0)
 
 -- areas of right sizes with four rooms, wherever there is such a height
-module _ (K : ℕ) (gates given records : List ℕ) (A : rules.Areas) (out : List ℕ)
+module _ (rule : WordRule) (K : ℕ) (gates given records : List ℕ) (A : rules.Areas) (out : List ℕ)
     (right : isHeight K ≡ true → rules.sizesRight K gates records A ≡ true) (four : isHeight K ≡ true → rooms K (length (A .plan)) ≡ 4) where
   same-refusal : refusalOf K (rules.sizesRight K gates records A) gates given records ≡ refusalOf K true gates given records
   unfolding refusalOf
   same-refusal = split (isHeight K) (λ t. rw (right t)) (λ t. rw (t, refusalOf))
 
-  placed-text : answered K (rules.placer K gates given records A .reply .number) (rules.placer K gates given records A .reply .stages) (rules.placer K gates given records A .reply .stage)
-      (rules.placer K gates given records A .areas .plan) (rules.placer K gates given records A .areas .words) (rules.placer K gates given records A .areas .counts) out ≡ written (jobText (jobOf K gates given records)) out
-  unfolding rules.placer jobText jobOf rules.refuse rules.answerOf empty
+  placed-text : answered K (rules.placer rule K gates given records A .reply .number) (rules.placer rule K gates given records A .reply .stages) (rules.placer rule K gates given records A .reply .stage) (rules.placer rule K gates given records A .reply .pin)
+      (rules.placer rule K gates given records A .areas .plan) (rules.placer rule K gates given records A .areas .words) (rules.placer rule K gates given records A .areas .counts) out ≡ written (jobText rule (jobOf K gates given records)) out
+  unfolding rules.placer jobText jobOf rules.refuse rules.refuseChecked rules.answerOf empty
   placed-text = number-cases (refusalOf K true gates given records)
       (λ z.
       let P : Passed K true gates given records = passed K true gates given records z in
       rw (same-refusal, z, rules.placer, jobText)
-      (answer-printed K (graphOf gates) (P .valid) (P .height) (low K (P .height)) (omega (arith, P .pins, P .few)) given (groupsOf records) (λ q i. rw (P .pins) (P .named q i)) A (workSize gates records) out
-      ∙ ap (λ (r : ℕ). written (answerText K (rules.build K (graphOf gates) given (groupsOf records) r)) out) (four (P .height))))
-      (λ n z. rw (same-refusal, z, rules.placer, jobText) (sym (answered-no K 0 _ _ _ out (suc n) 0 (λ e. omega arith))))
+      (answer-printed rule K (graphOf gates) (P .valid) (P .height) (low K (P .height)) (omega (arith, P .pins, P .few)) given (groupsOf records) (λ q i. rw (P .pins) (P .named q i)) A (workSize gates records) out
+      ∙ ap (λ (r : ℕ). written (answerText K (rules.build rule K (graphOf gates) given (groupsOf records) r)) out) (four (P .height))))
+      (λ n z. rw (same-refusal, z, rules.placer, jobText) (sym (answered-no K 0 _ _ _ out (suc n) 0 _ (λ e. omega arith))))
 
 module _ {K : ℕ} {gates records pl ws cs w : List ℕ} (B : BuildAt K gates records pl ws cs w) where
   four-rooms : isHeight K ≡ true → rooms K (length pl) ≡ 4
@@ -67,10 +68,10 @@ module _ {K : ℕ} {gates records pl ws cs w : List ℕ} (B : BuildAt K gates re
       rw (p, q, r, t)
 
   -- what the build answered and left, listed
-  pub text-printed : (given out pl′ ws′ cs′ w′ : List ℕ) (a : Answer) → outcome a pl′ ws′ cs′ w′ ≡ rules.placer K gates given records (areas pl ws cs w) →
-      answered K (a .number) (a .stages) (a .stage) pl′ ws′ cs′ out ≡ written (jobText (jobOf K gates given records)) out
+  pub text-printed : (given out pl′ ws′ cs′ w′ : List ℕ) (a : Answer) → outcome a pl′ ws′ cs′ w′ ≡ rules.placer neededRuns K gates given records (areas pl ws cs w) →
+      answered K (a .number) (a .stages) (a .stage) (a .pin) pl′ ws′ cs′ out ≡ written (jobText neededRuns (jobOf K gates given records)) out
   unfolding outcome told areas
-  text-printed given out pl′ ws′ cs′ w′ a e = rw (← e) at (placed-text K gates given records (areas pl ws cs w) out all-right four-rooms)
+  text-printed given out pl′ ws′ cs′ w′ a e = rw (← e) at (placed-text neededRuns K gates given records (areas pl ws cs w) out all-right four-rooms)
 
 -- the front of the plan area
 module _ {K : ℕ} {gates records pl ws cs w : List ℕ} (A : AreasAt K gates records pl ws cs w) (s : ℕ) (e : s ≡ orZero (isHeight K) (stageSize K)) where

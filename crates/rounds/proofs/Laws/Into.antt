@@ -6,6 +6,7 @@ use mathlib.Core.Logic.{_≢_}
 use mathlib.Core.Path.{_≡_, refl, sym, ap, subst, _∙_}
 use native.Mathlib.Omega.{arith}
 use lib.ListN.{length, getD}
+use Rattle.rules.specs.Traversal.{WordRule}
 use Rattle.rules.specs.Merge.{Common, Part, rankOf, Round, none, some, without, Merged, rounds}
 use Rattle.rules.proofs.Lists.Members.{true-false}
 use Rattle.slots.specs.Slots.{listed, but, own, free, full, held}
@@ -90,21 +91,21 @@ module _ {J : Common} {k i left t : ℕ} {P : ℕ → Part} {f opens : ℕ → B
 pub keeps-more : {K m table base : ℕ} {gates given records ls pl xs₁ ls₁ pl₁ ws₁ cs₁ w₁ xs₂ ls₂ pl₂ ws₂ cs₂ w₂ : List ℕ} → Keeps K m table base gates given records ls pl xs₁ ls₁ pl₁ ws₁ cs₁ w₁ → Keeps K m table base gates given records ls₁ pl₁ xs₂ ls₂ pl₂ ws₂ cs₂ w₂ → Keeps K m table base gates given records ls pl xs₂ ls₂ pl₂ ws₂ cs₂ w₂
 keeps-more A B = record { stands = B .stands; blank = B .blank; plan = B .plan ∙ A .plan; count = B .count ∙ A .count }
 
-pub tries-same : {K a b cap : ℕ} {gates given records : List ℕ} {J : Common} → b ≡ a → Tries K a cap gates given records J → Tries K b cap gates given records J
-tries-same {K} {a} {b} {cap} {gates} {given} {records} {J} e T = subst (λ (z : ℕ). Tries K z cap gates given records J) (sym e) T
+pub tries-same : {rule : WordRule} {K a b cap : ℕ} {gates given records : List ℕ} {J : Common} → b ≡ a → Tries rule K a cap gates given records J → Tries rule K b cap gates given records J
+tries-same {rule} {K} {a} {b} {cap} {gates} {given} {records} {J} e T = subst (λ (z : ℕ). Tries rule K z cap gates given records J) (sym e) T
 
 -- what the rounds of slot i were to come to
 abbrev pub aim : Common → (base i fuel trials : ℕ) → (xs ls w : List ℕ) → Merged
 aim J base i fuel trials xs ls w = rounds J fuel (partsIn base xs ls w i) (listed (partsIn base xs ls w) (full ls) (length ls - suc i) (suc i)) [] trials
 
-pub record Rounding (K m table base i cap ranks fuel trials t left : ℕ) (gates given records xs ls pl w xs₁ ls₁ pl₁ ws₁ cs₁ w₁ : List ℕ) : Type 0 where
+pub record Rounding (rule : WordRule) (K m table base i cap ranks fuel trials t left : ℕ) (gates given records xs ls pl w xs₁ ls₁ pl₁ ws₁ cs₁ w₁ : List ℕ) : Type 0 where
   pub keeps : Keeps K m table base gates given records ls pl xs₁ ls₁ pl₁ ws₁ cs₁ w₁
   pub upto : left ≤ fuel
   pub few : t + 260 * left ≤ trials + 260 * fuel
   pub still : full ls₁ i ≡ true
   pub lower : (s : ℕ) → s < i → full ls₁ s ≡ full ls s
   pub kept : (s : ℕ) → s < i → partsIn base xs₁ ls₁ w₁ s ≡ partsIn base xs ls w s
-  pub is : (J : Common) → Tries K (length pl) cap gates given records J → J .ranks ≡ ranks
+  pub is : (J : Common) → Tries rule K (length pl) cap gates given records J → J .ranks ≡ ranks
       → Going J (length ls₁ - suc i) i left t (partsIn base xs₁ ls₁ w₁) (full ls₁) (opensIn base ls₁ w₁) (aim J base i fuel trials xs ls w)
 
 -- the areas' lengths stay
@@ -120,7 +121,7 @@ pub sizes-none : {xs ls pl ws cs w : List ℕ} → Sizes xs ls pl ws cs w xs ls 
 sizes-none = record { indices = refl; lengths = refl; plan = refl; words = refl; counts = refl; work = refl }
 
 module _ {K m table base i cap ranks fuel trials : ℕ} {gates given records xs ls pl ws cs w : List ℕ} (A : IntoAt K m table base i cap ranks fuel trials gates given records xs ls pl ws cs w) where
-  pub rounding-none : Rounding K m table base i cap ranks fuel trials trials fuel gates given records xs ls pl w xs ls pl ws cs w
+  pub rounding-none : {rule : WordRule} → Rounding rule K m table base i cap ranks fuel trials trials fuel gates given records xs ls pl w xs ls pl ws cs w
   rounding-none = record {
     keeps = record { stands = A .at; blank = A .blank; plan = refl; count = refl };
     upto = omega arith;
@@ -131,7 +132,7 @@ module _ {K m table base i cap ranks fuel trials : ℕ} {gates given records xs 
     is = λ J T e. record { barred = []; bars = bars-none (λ s l u. A .opens s (omega arith) (omega (arith, A .first))); same = refl };
   }
 
-  module _ {t left : ℕ} {xs₁ ls₁ pl₁ ws₁ cs₁ w₁ : List ℕ} (N : Rounding K m table base i cap ranks fuel trials t left gates given records xs ls pl w xs₁ ls₁ pl₁ ws₁ cs₁ w₁) where
+  module _ {rule : WordRule} {t left : ℕ} {xs₁ ls₁ pl₁ ws₁ cs₁ w₁ : List ℕ} (N : Rounding rule K m table base i cap ranks fuel trials t left gates given records xs ls pl w xs₁ ls₁ pl₁ ws₁ cs₁ w₁) where
     first : i < length ls₁
     first = omega (arith, A .first, N .keeps .count)
 
@@ -146,7 +147,7 @@ module _ {K m table base i cap ranks fuel trials : ℕ} {gates given records xs 
       opens : (s : ℕ) → s < length ls₁ → opensIn base ls₁ w₂ s ≡ opensIn base ls₁ w₁ s
       opens s h = free-same (length ls₁) (owned base (length ls₁) w₁) (owned base (length ls₁) w₂) (R .low) s h
 
-      pub rounding-ranked : Rounding K m table base i cap ranks fuel trials t left gates given records xs ls pl w xs₁ ls₁ pl₁ ws₁ cs₁ w₂
+      pub rounding-ranked : Rounding rule K m table base i cap ranks fuel trials t left gates given records xs ls pl w xs₁ ls₁ pl₁ ws₁ cs₁ w₂
       rounding-ranked = record {
         keeps = record { stands = stands-stays (N .keeps .stands) (R .stays); blank = N .keeps .blank; plan = N .keeps .plan; count = N .keeps .count };
         upto = N .upto;
@@ -179,7 +180,7 @@ module _ {K m table base i cap ranks fuel trials : ℕ} {gates given records xs 
         ready = ready;
       }
 
-    module _ (h : 0 < left) {r : Outcome} {xs₂ ls₂ pl₂ ws₂ cs₂ w₂ : List ℕ} (O : Rounded K m table base i cap ranks t gates given records xs₁ ls₁ pl₁ w₁ r xs₂ ls₂ pl₂ ws₂ cs₂ w₂) where
+    module _ (h : 0 < left) {r : Outcome} {xs₂ ls₂ pl₂ ws₂ cs₂ w₂ : List ℕ} (O : Rounded rule K m table base i cap ranks t gates given records xs₁ ls₁ pl₁ w₁ r xs₂ ls₂ pl₂ ws₂ cs₂ w₂) where
       abbrev P : ℕ → Part
       P = partsIn base xs₁ ls₁ w₁
 
@@ -189,14 +190,14 @@ module _ {K m table base i cap ranks fuel trials : ℕ} {gates given records xs 
       nrs : (s : ℕ) → P s .nr ≡ s
       nrs s = numbered (length ls₁) ls₁ xs₁ (owned base (length ls₁) w₁) s
 
-      module _ (F : Fails K (length pl₁) base i cap ranks t (r .trials) gates given records xs₁ ls₁ w₁ xs₂ ls₂ w₂) where
+      module _ (F : Fails rule K (length pl₁) base i cap ranks t (r .trials) gates given records xs₁ ls₁ w₁ xs₂ ls₂ w₂) where
         still-parts : (s : ℕ) → s < length ls₁ → Q s ≡ P s
         still-parts s l = rw (F .indices, F .lengths) (F .parts s l)
 
         still-full : (s : ℕ) → full ls₂ s ≡ full ls₁ s
         still-full s = ap (λ (l : List ℕ). full l s) (F .lengths)
 
-        comes : (J : Common) → Tries K (length pl) cap gates given records J → J .ranks ≡ ranks → aim J base i fuel trials xs ls w ≡ merged Q (full ls₂) (length ls - suc i) i (r .trials)
+        comes : (J : Common) → Tries rule K (length pl) cap gates given records J → J .ranks ≡ ranks → aim J base i fuel trials xs ls w ≡ merged Q (full ls₂) (length ls - suc i) i (r .trials)
         comes J T e =
             let G = N .is J T e in
             let f = F .is J (tries-same (N .keeps .plan) T) (G .barred) (G .bars) in
@@ -204,7 +205,7 @@ module _ {K m table base i cap ranks fuel trials : ℕ} {gates given records xs 
             ∙ ap (λ (x : ℕ). merged P (full ls₁) (x - suc i) i (r .trials)) (N .keeps .count)
             ∙ merged-same P Q (full ls₁) (full ls₂) (length ls - suc i) i (r .trials) (λ s l u. still-full s) (λ s l u. still-parts s (omega (arith, first, N .keeps .count)))
 
-        pub fails : Into K m table base i cap ranks fuel trials gates given records xs ls pl w (r .trials) xs₂ ls₂ pl₂ ws₂ cs₂ w₂
+        pub fails : Into rule K m table base i cap ranks fuel trials gates given records xs ls pl w (r .trials) xs₂ ls₂ pl₂ ws₂ cs₂ w₂
         fails = record {
           keeps = keeps-more (N .keeps) (O .keeps);
           few = omega (arith, F .few, N .few, A .few);
@@ -214,14 +215,14 @@ module _ {K m table base i cap ranks fuel trials : ℕ} {gates given records xs 
           is = comes;
         }
 
-      pub rounding-fails : r .taken ≡ false → Into K m table base i cap ranks fuel trials gates given records xs ls pl w (r .trials) xs₂ ls₂ pl₂ ws₂ cs₂ w₂
+      pub rounding-fails : r .taken ≡ false → Into rule K m table base i cap ranks fuel trials gates given records xs ls pl w (r .trials) xs₂ ls₂ pl₂ ws₂ cs₂ w₂
       rounding-fails e = fails (O .no e)
 
-      module _ (W : Wins K (length pl₁) base i cap ranks t (r .trials) gates given records xs₁ ls₁ w₁ xs₂ ls₂ w₂) where
+      module _ (W : Wins rule K (length pl₁) base i cap ranks t (r .trials) gates given records xs₁ ls₁ w₁ xs₂ ls₂ w₂) where
         other-full : (s : ℕ) → s ≤ i → full ls₂ s ≡ full ls₁ s
         other-full s l = W .fulls s ∙ but-other (W .j) (full ls₁) s (λ z. omega (arith, W .order))
 
-        goes-on : (J : Common) → Tries K (length pl) cap gates given records J → J .ranks ≡ ranks → Going J (length ls₂ - suc i) i (left - 1) (r .trials) Q (full ls₂) (opensIn base ls₂ w₂) (aim J base i fuel trials xs ls w)
+        goes-on : (J : Common) → Tries rule K (length pl) cap gates given records J → J .ranks ≡ ranks → Going J (length ls₂ - suc i) i (left - 1) (r .trials) Q (full ls₂) (opensIn base ls₂ w₂) (aim J base i fuel trials xs ls w)
         goes-on J T e =
             let G = N .is J T e in
             let v = W .is J (tries-same (N .keeps .plan) T) (G .barred) (G .bars) in
@@ -230,7 +231,7 @@ module _ {K m table base i cap ranks fuel trials : ℕ} {gates given records xs 
             (sym (O .keeps .count))
             (going-wins G nrs h e (W .j) (W .fulls) (λ s l u z. W .parts s (omega (arith, first)) (λ y. omega arith) z) (v .0) (r .trials) (v .1) (v .2))
 
-        pub wins : Rounding K m table base i cap ranks fuel trials (r .trials) (left - 1) gates given records xs ls pl w xs₂ ls₂ pl₂ ws₂ cs₂ w₂
+        pub wins : Rounding rule K m table base i cap ranks fuel trials (r .trials) (left - 1) gates given records xs ls pl w xs₂ ls₂ pl₂ ws₂ cs₂ w₂
         wins = record {
           keeps = keeps-more (N .keeps) (O .keeps);
           upto = omega (arith, N .upto);
@@ -241,10 +242,10 @@ module _ {K m table base i cap ranks fuel trials : ℕ} {gates given records xs 
           is = goes-on;
         }
 
-      pub rounding-more : r .taken ≡ true → Rounding K m table base i cap ranks fuel trials (r .trials) (left - 1) gates given records xs ls pl w xs₂ ls₂ pl₂ ws₂ cs₂ w₂
+      pub rounding-more : r .taken ≡ true → Rounding rule K m table base i cap ranks fuel trials (r .trials) (left - 1) gates given records xs ls pl w xs₂ ls₂ pl₂ ws₂ cs₂ w₂
       rounding-more e = wins (O .yes e)
 
-    pub rounding-done : left ≤ 0 → Into K m table base i cap ranks fuel trials gates given records xs ls pl w t xs₁ ls₁ pl₁ ws₁ cs₁ w₁
+    pub rounding-done : left ≤ 0 → Into rule K m table base i cap ranks fuel trials gates given records xs ls pl w t xs₁ ls₁ pl₁ ws₁ cs₁ w₁
     rounding-done h = record {
       keeps = N .keeps;
       few = omega (arith, N .few);

@@ -13,6 +13,7 @@ use Rattle.rules.specs.Lists.{mem, nothing, found}
 use Rattle.rules.specs.Cells.{rooms}
 use Rattle.rules.specs.Graph.{graphOf}
 use Rattle.rules.specs.Records.{groupsOf}
+use Rattle.rules.specs.Traversal.{WordRule}
 use Rattle.rules.specs.Merge.{Common, Part, Round, none, some, before, rankOf, accepted, builtOf, partOf}
 use Rattle.rules.proofs.Lists.Members.{and-true, true-false}
 use Rattle.unions.specs.Unions.{Places}
@@ -58,7 +59,7 @@ seen-some n b e = rw (ne-eqb b n e, seen) refl
 -- ---- along the ranks
 
 -- no union was accepted yet: only bars changed, and the definition's round goes on from here
-pub record Trying (K m table base i cap ranks trials : ℕ) (gates given records xs ls pl ws cs w xs₁ ls₁ pl₁ ws₁ cs₁ w₁ : List ℕ) (t left : ℕ) : Type 0 where
+pub record Trying (rule : WordRule) (K m table base i cap ranks trials : ℕ) (gates given records xs ls pl ws cs w xs₁ ls₁ pl₁ ws₁ cs₁ w₁ : List ℕ) (t left : ℕ) : Type 0 where
   pub indices : xs₁ ≡ xs
   pub lengths : ls₁ ≡ ls
   pub keeps : Keeps K m table base gates given records ls pl xs₁ ls₁ pl₁ ws₁ cs₁ w₁
@@ -70,7 +71,7 @@ pub record Trying (K m table base i cap ranks trials : ℕ) (gates given records
   pub high : (x : ℕ) → 4 * length ls ≤ x → getD (owned base (length ls) w₁) x 0 ≡ getD (owned base (length ls) w) x 0
   pub shrinks : (s : ℕ) → s < length ls → opensIn base ls w₁ s ≡ true → opensIn base ls w s ≡ true
   pub total : t + left ≡ trials + ranks
-  pub is : (J : Common) → Tries K (length pl) cap gates given records J → (bs : List ℕ) → Bars (full ls) (opensIn base ls w) (length ls - suc i) (suc i) bs
+  pub is : (J : Common) → Tries rule K (length pl) cap gates given records J → (bs : List ℕ) → Bars (full ls) (opensIn base ls w) (length ls - suc i) (suc i) bs
       → (bs₁ : List ℕ) × (Bars (full ls) (opensIn base ls w₁) (length ls - suc i) (suc i) bs₁)
       × (goes J (partsIn base xs ls w i) (partsIn base xs ls w) (length ls - suc i) (suc i) (opensIn base ls w) ranks bs trials ≡ goes J (partsIn base xs ls w i) (partsIn base xs ls w) (length ls - suc i) (suc i) (opensIn base ls w₁) left bs₁ t)
 
@@ -84,7 +85,7 @@ module _ {K m table base i cap ranks trials : ℕ} {gates given records xs ls pl
   abbrev part : ℕ → Part
   part = partsIn base xs ls w
 
-  pub trying-none : Trying K m table base i cap ranks trials gates given records xs ls pl ws cs w xs ls pl ws cs w trials ranks
+  pub trying-none : {rule : WordRule} → Trying rule K m table base i cap ranks trials gates given records xs ls pl ws cs w xs ls pl ws cs w trials ranks
   trying-none = record {
     indices = refl;
     lengths = refl;
@@ -104,7 +105,7 @@ module _ {K m table base i cap ranks trials : ℕ} {gates given records xs ls pl
   unfolding held
   numbered s = refl
 
-  module _ {xs₁ ls₁ pl₁ ws₁ cs₁ w₁ : List ℕ} {t left : ℕ} (N : Trying K m table base i cap ranks trials gates given records xs ls pl ws cs w xs₁ ls₁ pl₁ ws₁ cs₁ w₁ t left) where
+  module _ {rule : WordRule} {xs₁ ls₁ pl₁ ws₁ cs₁ w₁ : List ℕ} {t left : ℕ} (N : Trying rule K m table base i cap ranks trials gates given records xs ls pl ws cs w xs₁ ls₁ pl₁ ws₁ cs₁ w₁ t left) where
     abbrev o₁ : List ℕ
     o₁ = owned base n w₁
 
@@ -126,21 +127,21 @@ module _ {K m table base i cap ranks trials : ℕ} {gates given records xs ls pl
     same-part : (s : ℕ) → s < n → held n ls xs o₁ s ≡ part s
     same-part = held-same n ls xs (owned base n w) o₁ (N .low)
 
-    fails : ((J : Common) (bs : List ℕ) → goes-on J (free n o₁) left bs t ≡ none bs t) → Rounded K m table base i cap ranks trials gates given records xs ls pl w (record { taken = false; trials = t }) xs₁ ls₁ pl₁ ws₁ cs₁ w₁
+    fails : ((J : Common) (bs : List ℕ) → goes-on J (free n o₁) left bs t ≡ none bs t) → Rounded rule K m table base i cap ranks trials gates given records xs ls pl w (record { taken = false; trials = t }) xs₁ ls₁ pl₁ ws₁ cs₁ w₁
     fails e = record {
       keeps = N .keeps;
       no = λ z. record { indices = N .indices; lengths = N .lengths; parts = same-part; few = omega (arith, N .total); is = λ J S bs B. let f = N .is J S bs B in (f .0, f .2 ∙ e J (f .0)) };
       yes = λ z. true-false z refl;
     }
 
-    pub trying-ends : left ≤ 0 → Rounded K m table base i cap ranks trials gates given records xs ls pl w (record { taken = false; trials = t }) xs₁ ls₁ pl₁ ws₁ cs₁ w₁
+    pub trying-ends : left ≤ 0 → Rounded rule K m table base i cap ranks trials gates given records xs ls pl w (record { taken = false; trials = t }) xs₁ ls₁ pl₁ ws₁ cs₁ w₁
     trying-ends h = let z : left ≡ 0 = omega arith in fails (λ J bs. rw z (round-ends J (part i) part k (suc i) (ahead n o₁) (free n o₁) bs t))
 
     module _ {j : ℕ} (G : Picked n (i + 1) (take (base + 8 * n - base) (drop base w₁)) j) where
       picked : best (ahead n o₁) (free n o₁) k (suc i) ≡ seen n j
       picked = let z : i + 1 ≡ suc i = omega arith in let q : Picked n (suc i) o₁ j = rw (z, lent-now) at G in q .is
 
-      pub trying-stuck : j ≡ n → Rounded K m table base i cap ranks trials gates given records xs ls pl w (record { taken = false; trials = t }) xs₁ ls₁ pl₁ ws₁ cs₁ w₁
+      pub trying-stuck : j ≡ n → Rounded rule K m table base i cap ranks trials gates given records xs ls pl w (record { taken = false; trials = t }) xs₁ ls₁ pl₁ ws₁ cs₁ w₁
       trying-stuck e = fails (λ J bs. round-none J (part i) part k (suc i) (ahead n o₁) (free n o₁) left bs t (picked ∙ seen-none n j e))
 
       module _ (d : j ≢ n) where
@@ -159,11 +160,11 @@ module _ {K m table base i cap ranks trials : ℕ} {gates given records xs ls pl
         pub trying-try : TryAt K m table base i j cap gates given records xs₁ ls₁ pl₁ ws₁ cs₁ w₁
         trying-try = record { at = N .keeps .stands; blank = N .keeps .blank; order = order; second = omega (arith, inside, N .keeps .count); cap-fits = A .cap-fits }
 
-        module _ (l : 0 < left) {r : Bool} {xs₂ ls₂ pl₂ ws₂ cs₂ w₂ : List ℕ} (R₀ : Tried K m table base i j cap gates given records xs₁ ls₁ pl₁ w₁ r xs₂ ls₂ pl₂ ws₂ cs₂ w₂) where
+        module _ (l : 0 < left) {r : Bool} {xs₂ ls₂ pl₂ ws₂ cs₂ w₂ : List ℕ} (R₀ : Tried rule K m table base i j cap gates given records xs₁ ls₁ pl₁ w₁ r xs₂ ls₂ pl₂ ws₂ cs₂ w₂) where
           abbrev o₂ : List ℕ
           o₂ = owned base n w₂
 
-          R : Tried K m table base i j cap gates given records xs ls pl₁ w₁ r xs₂ ls₂ pl₂ ws₂ cs₂ w₂
+          R : Tried rule K m table base i j cap gates given records xs ls pl₁ w₁ r xs₂ ls₂ pl₂ ws₂ cs₂ w₂
           R = rw (N .indices, N .lengths) at R₀
 
           keeps-on : Keeps K m table base gates given records ls pl xs₂ ls₂ pl₂ ws₂ cs₂ w₂
@@ -175,8 +176,8 @@ module _ {K m table base i cap ranks trials : ℕ} {gates given records xs ls pl
           one-more : suc t ≡ t + 1
           one-more = omega arith
 
-          module _ (J : Common) (S : Tries K (length pl) cap gates given records J) where
-            places : Places K (length pl₁) gates given records J
+          module _ (J : Common) (S : Tries rule K (length pl) cap gates given records J) where
+            places : Places rule K (length pl₁) gates given records J
             places = rw (N .keeps .plan) (S .places)
 
             ready : (s : ℕ) → Among (free n o₁) k (suc i) s → Ready J (part i) part n o₁ s
@@ -210,7 +211,7 @@ module _ {K m table base i cap ranks trials : ℕ} {gates given records xs ls pl
                 ∙ ap (λ (p : Part). some j p bs (t + 1)) (sym u)
 
           pub trying-more : r ≡ false → length ws₂ ≡ length ws₁ → length cs₂ ≡ length cs₁ → length w₂ ≡ length w₁
-              → Trying K m table base i cap ranks trials gates given records xs ls pl ws cs w xs₂ ls₂ pl₂ ws₂ cs₂ w₂ (t + 1) (left - 1)
+              → Trying rule K m table base i cap ranks trials gates given records xs ls pl ws cs w xs₂ ls₂ pl₂ ws₂ cs₂ w₂ (t + 1) (left - 1)
           trying-more e lw lc la =
               let D = R .no e in
               let opens : (s : ℕ) → s < n → free n o₂ s ≡ but j (free n o₁) s = λ s h. ap (λ (o : List ℕ). free n o s) (D .bar) ∙ barred n j o₁ inside (own-length base n w₁ own-room) s h in
@@ -233,12 +234,12 @@ module _ {K m table base i cap ranks trials : ℕ} {gates given records xs ls pl
 
           -- any merge in these areas
           abbrev J₀ : Common
-          J₀ = record { K = K; g = graphOf gates; given = given; groups = groupsOf records; rooms = rooms K (length pl₁); cap = cap; ranks = 0 }
+          J₀ = record { rule = rule; K = K; g = graphOf gates; given = given; groups = groupsOf records; rooms = rooms K (length pl₁); cap = cap; ranks = 0 }
 
-          P₀ : Places K (length pl₁) gates given records J₀
-          P₀ = record { shares = record { graph = refl; given-same = refl; groups-same = refl }; height = refl; rooms-same = refl }
+          P₀ : Places rule K (length pl₁) gates given records J₀
+          P₀ = record { shares = record { graph = refl; given-same = refl; groups-same = refl }; rule-same = refl; height = refl; rooms-same = refl }
 
-          pub trying-takes : r ≡ true → Rounded K m table base i cap ranks trials gates given records xs ls pl w (record { taken = true; trials = t + 1 }) xs₂ ls₂ pl₂ ws₂ cs₂ w₂
+          pub trying-takes : r ≡ true → Rounded rule K m table base i cap ranks trials gates given records xs ls pl w (record { taken = true; trials = t + 1 }) xs₂ ls₂ pl₂ ws₂ cs₂ w₂
           trying-takes e =
               let U = R .yes e J₀ P₀ in
               let later : (s : ℕ) → suc i ≤ s → s < suc i + k → free n o₂ s ≡ but j (free n o₁) s = λ s a b. U .joined .bars s (omega (arith, A .first)) in

@@ -7,6 +7,7 @@ use mathlib.Core.Path.{_≡_, refl, sym, ap, subst, _∙_}
 use native.Mathlib.Omega.{arith}
 use lib.ListN.{length, getD, take, drop}
 use borrow.Author.Tests.{eq-eqb, ne-eqb}
+use Rattle.rules.specs.Traversal.{WordRule}
 use Rattle.rules.specs.Merge.{Common, merging, addPart, Result}
 use Rattle.slots.specs.Slots.{gathered, listed, full}
 use Rattle.slots.specs.Moves.{Opened}
@@ -26,7 +27,7 @@ module _ {K m table base i cap ranks fuel trials : ℕ} {gates given records xs 
   abbrev n : ℕ
   n = length ls
 
-  pub slot-empty : getD ls i 0 ≡ 0 → Stepped K m table base i cap ranks fuel trials gates given records xs ls pl w (record { fuel = fuel; trials = trials }) xs ls pl ws cs w
+  pub slot-empty : {rule : WordRule} → getD ls i 0 ≡ 0 → Stepped rule K m table base i cap ranks fuel trials gates given records xs ls pl w (record { fuel = fuel; trials = trials }) xs ls pl ws cs w
   unfolding full
   slot-empty e = record {
     keeps = record { stands = A .at; blank = A .blank; plan = refl; count = refl };
@@ -68,11 +69,11 @@ module _ {K m table base i cap ranks fuel trials : ℕ} {gates given records xs 
       opens = λ s a b. rw back (O .bars s b);
     }
 
-    module _ {t : ℕ} {xs₁ ls₁ pl₁ ws₁ cs₁ w₁ : List ℕ} (I : Into K m table base i cap ranks fuel trials gates given records xs ls pl now t xs₁ ls₁ pl₁ ws₁ cs₁ w₁) where
-      steps : (J : Common) → Tries K (length pl) cap gates given records J → J .ranks ≡ ranks → (whole : Result) → Merging J n whole (partsIn base xs ls w) (full ls) i fuel trials → Merging J n whole (partsIn base xs₁ ls₁ w₁) (full ls₁) (i + 1) (fuel - 1) t
+    module _ {rule : WordRule} {t : ℕ} {xs₁ ls₁ pl₁ ws₁ cs₁ w₁ : List ℕ} (I : Into rule K m table base i cap ranks fuel trials gates given records xs ls pl now t xs₁ ls₁ pl₁ ws₁ cs₁ w₁) where
+      steps : (J : Common) → Tries rule K (length pl) cap gates given records J → J .ranks ≡ ranks → (whole : Result) → Merging J n whole (partsIn base xs ls w) (full ls) i fuel trials → Merging J n whole (partsIn base xs₁ ls₁ w₁) (full ls₁) (i + 1) (fuel - 1) t
       steps J T e whole M = merging-full M (A .first) is-full (I .still) (I .lower) (λ s l. I .kept s l ∙ parts s (omega (arith, A .first))) (rounds-same J (partsIn base xs ls w) (partsIn base xs ls now) (full ls) (n - suc i) i fuel [] trials (λ s a b. parts s (omega (arith, A .first))) ∙ I .is J T e)
 
-      pub slot-merged : Stepped K m table base i cap ranks fuel trials gates given records xs ls pl w (record { fuel = fuel - 1; trials = t }) xs₁ ls₁ pl₁ ws₁ cs₁ w₁
+      pub slot-merged : Stepped rule K m table base i cap ranks fuel trials gates given records xs ls pl w (record { fuel = fuel - 1; trials = t }) xs₁ ls₁ pl₁ ws₁ cs₁ w₁
       slot-merged = record {
         keeps = I .keeps;
         fuel-few = omega arith;
@@ -87,16 +88,16 @@ module _ {K m table base i cap ranks fuel trials : ℕ} {gates given records xs 
 abbrev pub goal : Common → ℕ → (xs ls w : List ℕ) → Result
 goal J base xs ls w = merging J (length ls) (listed (partsIn base xs ls w) (full ls) (length ls) 0) 0
 
-pub record Slotting (K m table base cap ranks i fuel trials : ℕ) (gates given records xs ls pl w xs₁ ls₁ pl₁ ws₁ cs₁ w₁ : List ℕ) : Type 0 where
+pub record Slotting (rule : WordRule) (K m table base cap ranks i fuel trials : ℕ) (gates given records xs ls pl w xs₁ ls₁ pl₁ ws₁ cs₁ w₁ : List ℕ) : Type 0 where
   pub keeps : Keeps K m table base gates given records ls pl xs₁ ls₁ pl₁ ws₁ cs₁ w₁
   pub upto : i ≤ length ls
   pub enough : length ls ≤ i + fuel
   pub fuel-few : fuel ≤ length ls
   pub few : trials + 266240 * fuel ≤ 266240 * length ls
-  pub is : (J : Common) → Tries K (length pl) cap gates given records J → J .ranks ≡ ranks → Merging J (length ls₁) (goal J base xs ls w) (partsIn base xs₁ ls₁ w₁) (full ls₁) i fuel trials
+  pub is : (J : Common) → Tries rule K (length pl) cap gates given records J → J .ranks ≡ ranks → Merging J (length ls₁) (goal J base xs ls w) (partsIn base xs₁ ls₁ w₁) (full ls₁) i fuel trials
 
 module _ {K m table base cap ranks : ℕ} {gates given records xs ls pl ws cs w : List ℕ} (A : SlotsAt K m table base cap ranks gates given records xs ls pl ws cs w) where
-  pub slotting-none : Slotting K m table base cap ranks 0 (length ls) 0 gates given records xs ls pl w xs ls pl ws cs w
+  pub slotting-none : {rule : WordRule} → Slotting rule K m table base cap ranks 0 (length ls) 0 gates given records xs ls pl w xs ls pl ws cs w
   slotting-none = record {
     keeps = record { stands = A .at; blank = A .blank; plan = refl; count = refl };
     upto = omega arith;
@@ -106,7 +107,7 @@ module _ {K m table base cap ranks : ℕ} {gates given records xs ls pl ws cs w 
     is = λ J T e. merging-none;
   }
 
-  module _ {i fuel trials : ℕ} {xs₁ ls₁ pl₁ ws₁ cs₁ w₁ : List ℕ} (N : Slotting K m table base cap ranks i fuel trials gates given records xs ls pl w xs₁ ls₁ pl₁ ws₁ cs₁ w₁) where
+  module _ {rule : WordRule} {i fuel trials : ℕ} {xs₁ ls₁ pl₁ ws₁ cs₁ w₁ : List ℕ} (N : Slotting rule K m table base cap ranks i fuel trials gates given records xs ls pl w xs₁ ls₁ pl₁ ws₁ cs₁ w₁) where
     pub slotting-at : i < length ls → SlotAt K m table base i cap ranks fuel trials gates given records xs₁ ls₁ pl₁ ws₁ cs₁ w₁
     slotting-at h = record {
       at = N .keeps .stands;
@@ -119,8 +120,8 @@ module _ {K m table base cap ranks : ℕ} {gates given records xs ls pl ws cs w 
       enough = omega (arith, N .keeps .count, N .enough);
     }
 
-    module _ (h : i < length ls) {r : Course} {xs₂ ls₂ pl₂ ws₂ cs₂ w₂ : List ℕ} (S : Stepped K m table base i cap ranks fuel trials gates given records xs₁ ls₁ pl₁ w₁ r xs₂ ls₂ pl₂ ws₂ cs₂ w₂) where
-      pub slotting-more : Slotting K m table base cap ranks (i + 1) (r .fuel) (r .trials) gates given records xs ls pl w xs₂ ls₂ pl₂ ws₂ cs₂ w₂
+    module _ (h : i < length ls) {r : Course} {xs₂ ls₂ pl₂ ws₂ cs₂ w₂ : List ℕ} (S : Stepped rule K m table base i cap ranks fuel trials gates given records xs₁ ls₁ pl₁ w₁ r xs₂ ls₂ pl₂ ws₂ cs₂ w₂) where
+      pub slotting-more : Slotting rule K m table base cap ranks (i + 1) (r .fuel) (r .trials) gates given records xs ls pl w xs₂ ls₂ pl₂ ws₂ cs₂ w₂
       slotting-more = record {
         keeps = keeps-more (N .keeps) (S .keeps);
         upto = omega arith;
@@ -130,7 +131,7 @@ module _ {K m table base cap ranks : ℕ} {gates given records xs ls pl ws cs w 
         is = λ J T e. subst (λ (x : ℕ). Merging J x (goal J base xs ls w) (partsIn base xs₂ ls₂ w₂) (full ls₂) (i + 1) (r .fuel) (r .trials)) (sym (S .keeps .count)) (S .is J (tries-same (N .keeps .plan) T) e (goal J base xs ls w) (N .is J T e));
       }
 
-    pub slotting-done : length ls ≤ i → Slotted K m table base cap ranks gates given records xs ls pl w trials xs₁ ls₁ pl₁ ws₁ cs₁ w₁
+    pub slotting-done : length ls ≤ i → Slotted rule K m table base cap ranks gates given records xs ls pl w trials xs₁ ls₁ pl₁ ws₁ cs₁ w₁
     slotting-done h = record {
       keeps = N .keeps;
       is = λ J T e. merging-done (N .is J T e) (omega (arith, N .keeps .count)) ∙ ap (λ (x : ℕ). ended J x) (N .keeps .count);

@@ -2,6 +2,7 @@
 use mathlib.Core.Path.{_∙_}
 use Prim.Native.Nat.{_-_}
 use borrow.Author.Needs.{needs}
+use Rattle.runs.specs.Rule.{ruleOf}
 use Rattle.rounds.proofs.Laws.Into.{Sizes, sizes-none}
 use Rattle.rounds.proofs.Laws.Slots.{Slotting, slotting-none, slotting-at, slotting-more, slotting-done}
 use Rattle.rounds.proofs.merge_slots.Statement.{statement}
@@ -11,11 +12,11 @@ use Rattle.rounds.proofs.merge_slots.Lts as lts
 use Rattle.rounds.proofs.merge_slot.Reads as merge-slot-reads
 
 abbrev Inv-loop : tie.InvT-loop
-Inv-loop height gates given records indices₀ lengths₀ plan₀ words₀ counts₀ work₀ m table base cap ranks n trials₀ fuel₀ i₀ indices lengths plan words counts work trials fuel i =
-    Slotting height m table base cap ranks i fuel trials gates given records indices₀ lengths₀ plan₀ work₀ indices lengths plan words counts work × Sizes indices₀ lengths₀ plan₀ words₀ counts₀ work₀ indices lengths plan words counts work
+Inv-loop height rule gates given records indices₀ lengths₀ plan₀ words₀ counts₀ work₀ m table base cap ranks n trials₀ fuel₀ i₀ indices lengths plan words counts work trials fuel i =
+    Slotting (ruleOf rule) height m table base cap ranks i fuel trials gates given records indices₀ lengths₀ plan₀ work₀ indices lengths plan words counts work × Sizes indices₀ lengths₀ plan₀ words₀ counts₀ work₀ indices lengths plan words counts work
 
 abbrev μ-loop : tie.MeasureT-loop
-μ-loop height gates given records indices₀ lengths₀ plan₀ words₀ counts₀ work₀ m table base cap ranks n trials₀ fuel₀ i₀ indices lengths plan words counts work trials fuel i =
+μ-loop height rule gates given records indices₀ lengths₀ plan₀ words₀ counts₀ work₀ m table base cap ranks n trials₀ fuel₀ i₀ indices lengths plan words counts work trials fuel i =
     n - i
 
 loop-holds : tie.Need-loop-holds Inv-loop μ-loop
@@ -31,7 +32,7 @@ loop-less : tie.Need-loop-less Inv-loop μ-loop
 loop-less c = search needs
 
 loop-again : tie.Need-loop-again Inv-loop μ-loop
-loop-again c = (slotting-more (c .before .before .before .before .before .before .before .before .before .before .before .before .before .before .before .before .before .before .before .before .before .before .before .before .before .before .before .before .before .before .pre) (c .before .before .before .before .before .before .before .before .before .before .before .before .before .before .before .before .before .before .before .before .loop .inv .0) (c .before .before .before .before .before .before .before .before .before .before .before .before .before .before .before .before .before .before .before .loop-test .taken) (c .before .before .before .before .before .before .before .before .before .before .before .before .merge-slot .ensures), record { indices = c .before .before .before .before .before .before .before .before .before .before .before .before .merge-slot .kept .1 .1 .1 .1 .0 ∙ c .before .before .before .before .before .before .before .before .before .before .before .before .before .before .before .before .before .before .before .before .loop .inv .1 .indices; lengths = c .before .before .before .before .before .before .before .before .before .before .before .before .merge-slot .kept .1 .1 .1 .1 .1 .0 ∙ c .before .before .before .before .before .before .before .before .before .before .before .before .before .before .before .before .before .before .before .before .loop .inv .1 .lengths; plan = c .before .before .before .before .before .before .before .before .before .before .before .before .merge-slot .kept .1 .1 .1 .1 .1 .1 .0 ∙ c .before .before .before .before .before .before .before .before .before .before .before .before .before .before .before .before .before .before .before .before .loop .inv .1 .plan; words = c .before .before .before .before .before .before .before .before .before .before .before .before .merge-slot .kept .1 .1 .1 .1 .1 .1 .1 .0 ∙ c .before .before .before .before .before .before .before .before .before .before .before .before .before .before .before .before .before .before .before .before .loop .inv .1 .words; counts = c .before .before .before .before .before .before .before .before .before .before .before .before .merge-slot .kept .1 .1 .1 .1 .1 .1 .1 .1 .0 ∙ c .before .before .before .before .before .before .before .before .before .before .before .before .before .before .before .before .before .before .before .before .loop .inv .1 .counts; work = c .before .before .before .before .before .before .before .before .before .before .before .before .merge-slot .kept .1 .1 .1 .1 .1 .1 .1 .1 .1 .0 ∙ c .before .before .before .before .before .before .before .before .before .before .before .before .before .before .before .before .before .before .before .before .loop .inv .1 .work })
+loop-again c = (slotting-more (c .before .before .before .before .before .before .before .before .before .before .before .before .before .before .before .before .before .before .before .before .before .before .before .before .before .before .before .before .before .before .pre) (c .before .before .before .before .before .before .before .before .before .before .before .before .before .before .before .before .before .before .before .before .loop .inv .0) (c .before .before .before .before .before .before .before .before .before .before .before .before .before .before .before .before .before .before .before .loop-test .taken) (c .before .before .before .before .before .before .before .before .before .before .before .before .merge-slot .ensures), record { indices = c .before .before .before .before .before .before .before .before .before .before .before .before .merge-slot .kept .1 .1 .1 .1 .1 .0 ∙ c .before .before .before .before .before .before .before .before .before .before .before .before .before .before .before .before .before .before .before .before .loop .inv .1 .indices; lengths = c .before .before .before .before .before .before .before .before .before .before .before .before .merge-slot .kept .1 .1 .1 .1 .1 .1 .0 ∙ c .before .before .before .before .before .before .before .before .before .before .before .before .before .before .before .before .before .before .before .before .loop .inv .1 .lengths; plan = c .before .before .before .before .before .before .before .before .before .before .before .before .merge-slot .kept .1 .1 .1 .1 .1 .1 .1 .0 ∙ c .before .before .before .before .before .before .before .before .before .before .before .before .before .before .before .before .before .before .before .before .loop .inv .1 .plan; words = c .before .before .before .before .before .before .before .before .before .before .before .before .merge-slot .kept .1 .1 .1 .1 .1 .1 .1 .1 .0 ∙ c .before .before .before .before .before .before .before .before .before .before .before .before .before .before .before .before .before .before .before .before .loop .inv .1 .words; counts = c .before .before .before .before .before .before .before .before .before .before .before .before .merge-slot .kept .1 .1 .1 .1 .1 .1 .1 .1 .1 .0 ∙ c .before .before .before .before .before .before .before .before .before .before .before .before .before .before .before .before .before .before .before .before .loop .inv .1 .counts; work = c .before .before .before .before .before .before .before .before .before .before .before .before .merge-slot .kept .1 .1 .1 .1 .1 .1 .1 .1 .1 .1 .0 ∙ c .before .before .before .before .before .before .before .before .before .before .before .before .before .before .before .before .before .before .before .before .loop .inv .1 .work })
 
 same-length : tie.Need-same-length Inv-loop μ-loop
 same-length c = search needs

@@ -1,4 +1,5 @@
 -- `rounds::round` meets its contract: the best open slot is tried until a union is accepted. Assumes nothing.
+use Rattle.runs.specs.Rule.{ruleOf}
 use Rattle.rounds.proofs.Laws.Round.{Trying, trying-none, trying-best, trying-stuck, trying-try, trying-takes, trying-more, trying-ends}
 use borrow.Author.Needs.{needs}
 use Rattle.rounds.proofs.round.Statement.{statement}
@@ -9,11 +10,11 @@ use Rattle.slots.proofs.best.Reads as best-reads
 use Rattle.trials.proofs.try_union.Reads as try-union-reads
 
 abbrev Inv-loop : tie.InvT-loop
-Inv-loop height gates given records indices₀ lengths₀ plan₀ words₀ counts₀ work₀ m table base i cap ranks trials n end t₀ left₀ indices lengths plan words counts work t left =
-    Trying height m table base i cap ranks trials gates given records indices₀ lengths₀ plan₀ words₀ counts₀ work₀ indices lengths plan words counts work t left
+Inv-loop height rule gates given records indices₀ lengths₀ plan₀ words₀ counts₀ work₀ m table base i cap ranks trials n end t₀ left₀ indices lengths plan words counts work t left =
+    Trying (ruleOf rule) height m table base i cap ranks trials gates given records indices₀ lengths₀ plan₀ words₀ counts₀ work₀ indices lengths plan words counts work t left
 
 abbrev μ-loop : tie.MeasureT-loop
-μ-loop height gates given records indices₀ lengths₀ plan₀ words₀ counts₀ work₀ m table base i cap ranks trials n end t₀ left₀ indices lengths plan words counts work t left =
+μ-loop height rule gates given records indices₀ lengths₀ plan₀ words₀ counts₀ work₀ m table base i cap ranks trials n end t₀ left₀ indices lengths plan words counts work t left =
     left
 
 mul-end : tie.Need-mul-end Inv-loop μ-loop
@@ -98,7 +99,7 @@ loop-less : tie.Need-loop-less Inv-loop μ-loop
 loop-less c = search needs
 
 loop-again : tie.Need-loop-again Inv-loop μ-loop
-loop-again c = trying-more (c .before .before .before .before .before .before .before .before .before .before .before .before .before .before .before .before .before .before .before .before .before .before .before .before .before .before .before .before .before .before .before .before .before .before .before .pre) (c .before .before .before .before .before .before .before .before .before .before .before .before .before .before .before .before .before .before .before .before .before .before .before .before .before .loop .inv) (c .before .before .before .before .before .before .before .before .before .before .before .before .before .before .before .before .before .before .before .before .before .best .ensures) (c .before .before .before .before .before .before .before .before .before .before .before .before .before .before .before .before .before .before .before .before .if1 .left) (c .before .before .before .before .before .before .before .before .before .before .before .before .before .before .before .before .before .before .before .before .before .before .before .before .loop-test .taken) (c .before .before .before .before .before .before .before .before .before .before .before .before .before .try-union .ensures) (c .if2 .left) (c .before .before .before .before .before .before .before .before .before .before .before .before .before .try-union .kept .1 .1 .1 .1 .1 .1 .1 .0) (c .before .before .before .before .before .before .before .before .before .before .before .before .before .try-union .kept .1 .1 .1 .1 .1 .1 .1 .1 .0) (c .before .before .before .before .before .before .before .before .before .before .before .before .before .try-union .kept .1 .1 .1 .1 .1 .1 .1 .1 .1 .0)
+loop-again c = trying-more (c .before .before .before .before .before .before .before .before .before .before .before .before .before .before .before .before .before .before .before .before .before .before .before .before .before .before .before .before .before .before .before .before .before .before .before .pre) (c .before .before .before .before .before .before .before .before .before .before .before .before .before .before .before .before .before .before .before .before .before .before .before .before .before .loop .inv) (c .before .before .before .before .before .before .before .before .before .before .before .before .before .before .before .before .before .before .before .before .before .best .ensures) (c .before .before .before .before .before .before .before .before .before .before .before .before .before .before .before .before .before .before .before .before .if1 .left) (c .before .before .before .before .before .before .before .before .before .before .before .before .before .before .before .before .before .before .before .before .before .before .before .before .loop-test .taken) (c .before .before .before .before .before .before .before .before .before .before .before .before .before .try-union .ensures) (c .if2 .left) (c .before .before .before .before .before .before .before .before .before .before .before .before .before .try-union .kept .1 .1 .1 .1 .1 .1 .1 .1 .0) (c .before .before .before .before .before .before .before .before .before .before .before .before .before .try-union .kept .1 .1 .1 .1 .1 .1 .1 .1 .1 .0) (c .before .before .before .before .before .before .before .before .before .before .before .before .before .try-union .kept .1 .1 .1 .1 .1 .1 .1 .1 .1 .1 .0)
 
 same-length-13 : tie.Need-same-length-13 Inv-loop μ-loop
 same-length-13 c = search needs

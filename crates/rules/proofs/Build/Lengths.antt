@@ -11,7 +11,7 @@ use borrow.Author.Tests.{ltb-false}
 use Rattle.rules.specs.Lists.{padded, laidOver, upTo}
 use Rattle.rules.specs.Cells.{empty, wordLimit, rooms, stageSize}
 use Rattle.rules.specs.Graph.{Node}
-use Rattle.rules.specs.Traversal.{Setting, setting}
+use Rattle.rules.specs.Traversal.{WordRule, Setting, setting}
 use Rattle.rules.specs.Placing.{filledPlan}
 use Rattle.rules.specs.Ending.{stage, finish, ending, close, written, moreWords, lastStage, oneStage}
 use Rattle.rules.specs.Build.{Stage, refusal, whole, stages, cellsOf, wordsOf, countsOf, Areas, areasAfter}
@@ -45,22 +45,22 @@ abbrev pub Sized : ℕ → List Stage → Type 0
 Sized size [] = Unit {0}
 Sized size (s ∷ ss) = (length (s .plan) ≡ size) × Sized size ss
 
-module _ (K : ℕ) (g : List Node) (r : ℕ → ℕ) (G : Graph g r) (tall : 6 ≤ K) (small : length g ≤ empty) where
+module _ (rule : WordRule) (K : ℕ) (g : List Node) (r : ℕ → ℕ) (G : Graph g r) (tall : 6 ≤ K) (small : length g ≤ empty) where
   low : 1 ≤ K
   low = omega arith
 
-  module _ (done waiting : List ℕ) (R : Ready g r waiting) (room : ℕ) (plan2 words realised waiting2 : List ℕ) (e : oneStage K g done waiting room ≡ stage plan2 words realised waiting2) where
+  module _ (done waiting : List ℕ) (R : Ready g r waiting) (room : ℕ) (plan2 words realised waiting2 : List ℕ) (e : oneStage rule K g done waiting room ≡ stage plan2 words realised waiting2) where
     -- a stage has a number a position
     pub stage-length : length plan2 ≡ 2 ^ (K + 1)
     unfolding setting
     stage-length =
-        let X : Setting = setting K g done waiting in
-        let S : Sound X r (length g) = setting-sound K g r G done waiting (R .bounded) in
-        final X r (length g) S low (λ pl. Unit {0}) (λ pl h p n l i a. tt) tt plan2 (the-end K g r G low small done waiting (R .bounded) room plan2 words realised waiting2 e .rested) .0
+        let X : Setting = setting rule K g done waiting in
+        let S : Sound X r (length g) = setting-sound rule K g r G done waiting (R .bounded) in
+        final X r (length g) S low (λ pl. Unit {0}) (λ pl h p n l i a. tt) tt plan2 (the-end rule K g r G low small done waiting (R .bounded) room plan2 words realised waiting2 e .rested) .0
 
     pub stage-words : length words ≤ room
     unfolding oneStage
-    stage-words = words-fit (setting K g done waiting) room (filledPlan (setting K g done waiting)) plan2 words realised waiting2 e
+    stage-words = words-fit (setting rule K g done waiting) room (filledPlan (setting rule K g done waiting)) plan2 words realised waiting2 e
 
   -- a whole plan: a stage a room, and no more words than it may write
   pub record Sizes (rooms room : ℕ) (ss : List Stage) : Type 0 where
@@ -82,28 +82,28 @@ module _ (K : ℕ) (g : List Node) (r : ℕ → ℕ) (G : Graph g r) (tall : 6 �
     counts = ap suc (z .counts);
   }
 
-  pub sizes : (rooms k : ℕ) (done waiting : List ℕ) → Ready g r waiting → (room : ℕ) (ss : List Stage) → stages K g rooms k done waiting room ≡ whole ss → Sizes rooms room ss
+  pub sizes : (rooms k : ℕ) (done waiting : List ℕ) → Ready g r waiting → (room : ℕ) (ss : List Stage) → stages rule K g rooms k done waiting room ≡ whole ss → Sizes rooms room ss
   unfolding stages
   sizes zero k done [] R room ss e = none 0 room ss (cc)
   sizes zero k done (w ∷ ws) R room ss e = absurd (let z : _≡_ {A = ℕ} 0 1 = cc in omega arith)
   sizes (suc rooms) k done [] R room ss e = none (suc rooms) room ss (cc)
-  sizes (suc rooms) k done (w ∷ ws) R room ss e = stage-cases (oneStage K g done (w ∷ ws) room)
+  sizes (suc rooms) k done (w ∷ ws) R room ss e = stage-cases (oneStage rule K g done (w ∷ ws) room)
       (λ n d. absurd (let c : refusal n k ≡ whole ss = rw (d, stages) at e in let z : _≡_ {A = ℕ} 0 1 = cc in omega arith))
       (λ plan2 words realised waiting2 d.
-      let m = more-whole K g r G tall small (record { plan = plan2; words = words }) (stages K g rooms (suc k) (realised ++ done) waiting2 (room - length words)) ss (rw (d, stages) at e) in
+      let m = more-whole rule K g r G tall small (record { plan = plan2; words = words }) (stages rule K g rooms (suc k) (realised ++ done) waiting2 (room - length words)) ss (rw (d, stages) at e) in
       rw (m .2) (one-more rooms room (record { plan = plan2; words = words }) (m .0) (stage-length done (w ∷ ws) R room plan2 words realised waiting2 d) (stage-words done (w ∷ ws) R room plan2 words realised waiting2 d)
-      (sizes rooms (suc k) (realised ++ done) waiting2 (still-ready K g r G tall small done (w ∷ ws) R room plan2 words realised waiting2 d) (room - length words) (m .0) (m .1))))
+      (sizes rooms (suc k) (realised ++ done) waiting2 (still-ready rule K g r G tall small done (w ∷ ws) R room plan2 words realised waiting2 d) (room - length words) (m .0) (m .1))))
 
-  pub all-sized : (rooms k : ℕ) (done waiting : List ℕ) → Ready g r waiting → (room : ℕ) (ss : List Stage) → stages K g rooms k done waiting room ≡ whole ss → Sized (2 ^ (K + 1)) ss
+  pub all-sized : (rooms k : ℕ) (done waiting : List ℕ) → Ready g r waiting → (room : ℕ) (ss : List Stage) → stages rule K g rooms k done waiting room ≡ whole ss → Sized (2 ^ (K + 1)) ss
   unfolding stages
   all-sized zero k done [] R room ss e = let z : ss ≡ [] = cc in rw z tt
   all-sized zero k done (w ∷ ws) R room ss e = absurd (let z : _≡_ {A = ℕ} 0 1 = cc in omega arith)
   all-sized (suc rooms) k done [] R room ss e = let z : ss ≡ [] = cc in rw z tt
-  all-sized (suc rooms) k done (w ∷ ws) R room ss e = stage-cases (oneStage K g done (w ∷ ws) room)
+  all-sized (suc rooms) k done (w ∷ ws) R room ss e = stage-cases (oneStage rule K g done (w ∷ ws) room)
       (λ n d. absurd (let c : refusal n k ≡ whole ss = rw (d, stages) at e in let z : _≡_ {A = ℕ} 0 1 = cc in omega arith))
       (λ plan2 words realised waiting2 d.
-      let m = more-whole K g r G tall small (record { plan = plan2; words = words }) (stages K g rooms (suc k) (realised ++ done) waiting2 (room - length words)) ss (rw (d, stages) at e) in
-      rw (m .2) (stage-length done (w ∷ ws) R room plan2 words realised waiting2 d, all-sized rooms (suc k) (realised ++ done) waiting2 (still-ready K g r G tall small done (w ∷ ws) R room plan2 words realised waiting2 d) (room - length words) (m .0) (m .1)))
+      let m = more-whole rule K g r G tall small (record { plan = plan2; words = words }) (stages rule K g rooms (suc k) (realised ++ done) waiting2 (room - length words)) ss (rw (d, stages) at e) in
+      rw (m .2) (stage-length done (w ∷ ws) R room plan2 words realised waiting2 d, all-sized rooms (suc k) (realised ++ done) waiting2 (still-ready rule K g r G tall small done (w ∷ ws) R room plan2 words realised waiting2 d) (room - length words) (m .0) (m .1)))
 
 -- ---- the lent areas keep their lengths
 

@@ -26,16 +26,16 @@ unfolding ownBit
 own-take n bits zero h = refl
 own-take n bits (suc p) h = rw (getD-take n bits (suc p) 0 h)
 
-pub value-take : (g : List Node) → Valid g → (given bits : List ℕ) (n f p : ℕ) → p < n → value f g given (take n bits) p ≡ value f g given bits p
+pub value-take : (g : List Node) → Valid g → (given bits : List ℕ) (n : ℕ) → length g ≤ n → (f p : ℕ) → p < n → value f g given (take n bits) p ≡ value f g given bits p
 unfolding value
-value-take g ok given bits n zero p h = refl
-value-take g ok given bits n (suc f) p h = split (mem p given)
+value-take g ok given bits n w zero p h = refl
+value-take g ok given bits n w (suc f) p h = split (mem p given)
     (λ a. rw (a, value) (own-take n bits p h))
     (λ a. node (getD g p leaf)
     (λ c. rw (a, c, value) (own-take n bits p h))
     (λ x y c.
-    let l = ok .lower p x y c in
-    rw (a, c, value, value-take g ok given bits n f (pinOf x) (omega (arith, l .0)), value-take g ok given bits n f (pinOf y) (omega (arith, l .1)))))
+    let l = ok .inside p x y c in
+    rw (a, c, value, value-take g ok given bits n w f (pinOf x) (omega (arith, l .0)), value-take g ok given bits n w f (pinOf y) (omega (arith, l .1)))))
 
 -- ---- a cell of a stage stands in the flat plan, and its bit in the flat fold
 

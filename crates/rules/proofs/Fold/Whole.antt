@@ -11,7 +11,7 @@ use lib.ListN.{length, getD}
 use Rattle.rules.specs.Lists.{mem}
 use Rattle.rules.specs.Cells.{filled, empty, rowAt}
 use Rattle.rules.specs.Graph.{Node, leaf, gate, pinOf, operands, below, value}
-use Rattle.rules.specs.Traversal.{Setting, setting, levelAt}
+use Rattle.rules.specs.Traversal.{WordRule, Setting, setting, levelAt}
 use Rattle.rules.specs.Placing.{place}
 use Rattle.rules.specs.Ending.{stage, oneStage}
 use Rattle.rules.specs.Depth.{depth}
@@ -54,7 +54,7 @@ pub above-zero : (pl : List ℕ) (i n : ℕ) → filled (getD pl 0 empty) ≡ fa
 above-zero pl zero n z e k = true-false k (rw e at z)
 above-zero pl (suc i) n z e k = omega arith
 
-module _ (K : ℕ) (g : List Node) (r : ℕ → ℕ) (G : Graph g r) (tall : 6 ≤ K) (small : length g ≤ empty) (given bits : List ℕ) where
+module _ (rule : WordRule) (K : ℕ) (g : List Node) (r : ℕ → ℕ) (G : Graph g r) (tall : 6 ≤ K) (small : length g ≤ empty) (given bits : List ℕ) where
   low : 1 ≤ K
   low = omega arith
 
@@ -66,14 +66,14 @@ module _ (K : ℕ) (g : List Node) (r : ℕ → ℕ) (G : Graph g r) (tall : 6 �
     pub cells : (p : ℕ) → 1 ≤ p → p < 2 ^ (K + 1) → filled (getD plan2 p empty) ≡ true → bitAt K g plan2 load p ≡ graphValue (getD plan2 p empty)
     pub next : (n : ℕ) → In n realised → loadFrom K g plan2 load n ≡ graphValue n
 
-  pub folded : (done waiting : List ℕ) → Ready g r waiting → Sub given done → (room : ℕ) (plan2 words realised waiting2 : List ℕ) → oneStage K g done waiting room ≡ stage plan2 words realised waiting2 →
-      (load : ℕ → Bool) → ((n : ℕ) → In n (setting K g done waiting .seen) → levelAt (setting K g done waiting) n ≡ 0 → load n ≡ graphValue n) → Folded plan2 realised load
+  pub folded : (done waiting : List ℕ) → Ready g r waiting → Sub given done → (room : ℕ) (plan2 words realised waiting2 : List ℕ) → oneStage rule K g done waiting room ≡ stage plan2 words realised waiting2 →
+      (load : ℕ → Bool) → ((n : ℕ) → In n (setting rule K g done waiting .seen) → levelAt (setting rule K g done waiting) n ≡ 0 → load n ≡ graphValue n) → Folded plan2 realised load
   unfolding setting
   folded done waiting R some room plan2 words realised waiting2 e load right =
-      let X : Setting = setting K g done waiting in
-      let S : Sound X r (length g) = setting-sound K g r G done waiting (R .bounded) in
+      let X : Setting = setting rule K g done waiting in
+      let S : Sound X r (length g) = setting-sound rule K g r G done waiting (R .bounded) in
       let M : Marked X = mark g r G small in
-      let E : Ended X _ plan2 realised waiting2 = the-end K g r G low small done waiting (R .bounded) room plan2 words realised waiting2 e in
+      let E : Ended X _ plan2 realised waiting2 = the-end rule K g r G low small done waiting (R .bounded) room plan2 words realised waiting2 e in
       let fine = final X r (length g) S low (Fine X r (length g) S) (fine-kept X r (length g) S) (fine-first X r (length g) S (2 ^ (K + 1))) plan2 (E .rested) in
       let sane = final X r (length g) S low (Sane X (λ q. ⊥)) (sane-kept X r (length g) S M) (sane-first X r (length g) S M (2 ^ (K + 1))) plan2 (E .rested) in
       let zeroth = final X r (length g) S low (λ pl. filled (getD pl 0 empty) ≡ false) (zero-kept X) (blank-replicate (2 ^ (K + 1)) 0) plan2 (E .rested) in

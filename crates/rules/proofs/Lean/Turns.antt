@@ -7,7 +7,7 @@ use lib.ListN.{length, replicate}
 use Rattle.rules.specs.Lists.{mem, isNil, nothing, found}
 use Rattle.rules.specs.Cells.{empty, filled}
 use Rattle.rules.specs.Graph.{Node}
-use Rattle.rules.specs.Traversal.{Setting, setting}
+use Rattle.rules.specs.Traversal.{WordRule, Setting, setting}
 use Rattle.rules.specs.Placing.{tree, treeOf, reverseOf, cellAt, placed, filledPlan}
 use Rattle.rules.specs.Ending.{sparseRuns, putRuns, putRest, lastStage, written, rest, finish, oneStage}
 use Rattle.rules.specs.Lean.{blank, startLevels, candidates, wanted, roomFor, recount, Filling, sweep, lean, onward, leanPlan, lowWaiting, highWaiting}
@@ -93,7 +93,7 @@ module _ (X : Setting) (r : ℕ → ℕ) (f : ℕ) (S : Sound X r f) (M : Marked
   lean-rest = rw (lean-needed X r f S M small)
 
 -- a stage of a graph
-pub lean-stage : (K : ℕ) (g : List Node) (r : ℕ → ℕ) → Graph g r → length g ≤ empty → (done waiting : List ℕ) → ((x : ℕ) → In x waiting → (x < length g) × (r x < length g)) →
-    (room : ℕ) → oneStage K g done waiting room ≡ finish (setting K g done waiting) room (leanPlan (setting K g done waiting))
+pub lean-stage : (rule : WordRule) (K : ℕ) (g : List Node) (r : ℕ → ℕ) → Graph g r → length g ≤ empty → (done waiting : List ℕ) → ((x : ℕ) → In x waiting → (x < length g) × (r x < length g)) →
+    (room : ℕ) → oneStage rule K g done waiting room ≡ finish (setting rule K g done waiting) room (leanPlan (setting rule K g done waiting))
 unfolding oneStage setting
-lean-stage K g r G small done waiting bounded room = rw (lean-plan (setting K g done waiting) r (length g) (setting-sound K g r G done waiting bounded) (mark g r G small) small)
+lean-stage rule K g r G small done waiting bounded room = rw (lean-plan (setting rule K g done waiting) r (length g) (setting-sound rule K g r G done waiting bounded) (mark g r G small) small)

@@ -8,7 +8,7 @@ use lib.Dec.{ltb, lt→ltb, eqb}
 use lib.ListN.{length, getD}
 use Rattle.rules.specs.Lists.{mem, gather}
 use Rattle.rules.specs.Graph.{Node, below}
-use Rattle.rules.specs.Traversal.{traverse, Setting, setting, levelAt, reverseLevels}
+use Rattle.rules.specs.Traversal.{WordRule, traverse, Setting, setting, levelAt, reverseLevels}
 use Rattle.rules.specs.Placing.{asked, asks, needed, treeOf, reverseOf, neededOf}
 use Rattle.rules.specs.Depth.{depth}
 use Rattle.rules.proofs.Lists.Members.{In, Out, split, T→true, in-cons, in-nil, in-append-right, in-distinct, in-gather, in-reverse, reverse-in, keep-in, gather-in, distinct-in, eqb-true, and-true}
@@ -42,9 +42,9 @@ from-inside : (g : List Node) (r : ℕ → ℕ) → Graph g r → (stop ps : Lis
 from-inside g r G stop ps h (start {q = q} e) = h q e
 from-inside g r G stop ps h (step {q = q} {x = x} f e) = G .inside q x (below-sub g [] stop (nothing-in stop) q x e)
 
-pub setting-sound : (K : ℕ) (g : List Node) (r : ℕ → ℕ) → Graph g r → (done waiting : List ℕ) → ((x : ℕ) → In x waiting → (x < length g) × (r x < length g)) → Sound (setting K g done waiting) r (length g)
+pub setting-sound : (rule : WordRule) (K : ℕ) (g : List Node) (r : ℕ → ℕ) → Graph g r → (done waiting : List ℕ) → ((x : ℕ) → In x waiting → (x < length g) × (r x < length g)) → Sound (setting rule K g done waiting) r (length g)
 unfolding setting levelAt
-setting-sound K g r G done waiting h =
+setting-sound rule K g r G done waiting h =
     let k : Ranked g done r = falls-always g r G done in
     let v : Visited g done waiting [] (traverse (length g) g done waiting) = traverse-good g done r k (length g) waiting (λ p e. h p e .1) in
     let reach : (q : ℕ) → In q (traverse (length g) g done waiting) → From g done waiting q = λ q e. elim (v .new q e) [ inl d ↦ in-nil q d | inr d ↦ d ] in

@@ -9,7 +9,7 @@ use Rattle.rules.specs.Lists.{nothing, found, mem, keep, insert, insertA
 use Rattle.rules.specs.Cells.{empty, filled, rowAt, row, firstEmpty}
 use Rattle.rules.specs.Traversal.{Setting}
 use Rattle.rules.specs.Placing.{tree, place}
-use Rattle.rules.specs.Ending.{Sparse, Put, meet, fillIn, putCell, putCells, putRun, putRuns, full, plan, putRest, wordsIn, refused, close, inTree, lastStage, written, rest, moreWords, ending, finish}
+use Rattle.rules.specs.Ending.{Sparse, Put, meet, fillIn, putCell, putCells, putRun, goesOn, putRuns, full, plan, putRest, wordsIn, refused, close, inTree, lastStage, written, rest, moreWords, ending, finish}
 use Rattle.rules.proofs.Lists.Members.{In, Out}
 
 module _ (X : Setting) where
@@ -62,11 +62,11 @@ module _ (X : Setting) where
     runs-end = refl
 
     module _ (r : Sparse) (rs : List Sparse) where
-      pub runs-go : last || leb (32 - r .filled) (length (s .left)) ≡ true → putRuns X last (r ∷ rs) s ≡ putRuns X last rs (putRun X r s)
+      pub runs-go : goesOn (X .rule) last (r .filled) (length (s .left)) ≡ true → putRuns X last (r ∷ rs) s ≡ putRuns X last rs (putRun X r s)
       unfolding putRuns
       runs-go e = rw (e, putRuns) refl
 
-      pub runs-stop : last || leb (32 - r .filled) (length (s .left)) ≡ false → putRuns X last (r ∷ rs) s ≡ s
+      pub runs-stop : goesOn (X .rule) last (r .filled) (length (s .left)) ≡ false → putRuns X last (r ∷ rs) s ≡ s
       unfolding putRuns
       runs-stop e = rw (e, putRuns) refl
 

@@ -8,7 +8,7 @@ use lib.Dec.{eqb}
 use lib.ListN.{length}
 use Rattle.rules.specs.Cells.{empty, rowAt}
 use Rattle.rules.specs.Graph.{Node}
-use Rattle.rules.specs.Traversal.{setting}
+use Rattle.rules.specs.Traversal.{WordRule, setting}
 use Rattle.rules.specs.Placing.{filledPlan}
 use Rattle.rules.specs.Ending.{Stage?, refused, stage, oneStage}
 use Rattle.rules.specs.Build.{Stage, Answer, refusal, whole, more, stages}
@@ -39,25 +39,25 @@ pub record Ready (g : List Node) (r : ℕ → ℕ) (waiting : List ℕ) : Type 0
   pub once : Once waiting
   pub bounded : (x : ℕ) → In x waiting → (x < length g) × (r x < length g)
 
-module _ (K : ℕ) (g : List Node) (r : ℕ → ℕ) (G : Graph g r) (tall : 6 ≤ K) (small : length g ≤ empty) where
-  module _ (done waiting : List ℕ) (R : Ready g r waiting) (room : ℕ) (plan2 words realised waiting2 : List ℕ) (e : oneStage K g done waiting room ≡ stage plan2 words realised waiting2) where
+module _ (rule : WordRule) (K : ℕ) (g : List Node) (r : ℕ → ℕ) (G : Graph g r) (tall : 6 ≤ K) (small : length g ≤ empty) where
+  module _ (done waiting : List ℕ) (R : Ready g r waiting) (room : ℕ) (plan2 words realised waiting2 : List ℕ) (e : oneStage rule K g done waiting room ≡ stage plan2 words realised waiting2) where
     low : 1 ≤ K
     low = omega arith
 
     pub still-ready : Ready g r waiting2
     unfolding setting
     still-ready = record {
-      once = rw (the-end K g r G low small done waiting (R .bounded) room plan2 words realised waiting2 e .waits) (once-swapOutAll _ (R .once));
-      bounded = λ x i. R .bounded x (waits-less K g r G low small done waiting (R .bounded) room plan2 words realised waiting2 e x i);
+      once = rw (the-end rule K g r G low small done waiting (R .bounded) room plan2 words realised waiting2 e .waits) (once-swapOutAll _ (R .once));
+      bounded = λ x i. R .bounded x (waits-less rule K g r G low small done waiting (R .bounded) room plan2 words realised waiting2 e x i);
     }
 
     pub falls : remaining (length g) g (realised ++ done) waiting2 ≤ pred (remaining (length g) g done waiting)
-    falls = remaining-falls K g r G low small done waiting (R .bounded) room plan2 words realised waiting2 e
+    falls = remaining-falls rule K g r G low small done waiting (R .bounded) room plan2 words realised waiting2 e
 
     pub ends : remaining (length g) g done waiting ≡ 0 → waiting2 ≡ []
     unfolding setting
-    ends z = none-wait (setting K g done waiting) r (length g) (setting-sound K g r G done waiting (R .bounded)) (half-height K low) small (multiple K tall) (R .once)
-        (λ x i. omega (arith, remaining-above (length g) g done waiting x i)) plan2 realised waiting2 (the-end K g r G low small done waiting (R .bounded) room plan2 words realised waiting2 e)
+    ends z = none-wait (setting rule K g done waiting) r (length g) (setting-sound rule K g r G done waiting (R .bounded)) (half-height K low) small (multiple K tall) (R .once)
+        (λ x i. omega (arith, remaining-above (length g) g done waiting x i)) plan2 realised waiting2 (the-end rule K g r G low small done waiting (R .bounded) room plan2 words realised waiting2 e)
 
   -- what is left after s completed stages is s less deep
   pub record Shallow (s : ℕ) (done waiting done2 waiting2 : List ℕ) : Type 0 where
@@ -76,20 +76,20 @@ module _ (K : ℕ) (g : List Node) (r : ℕ → ℕ) (G : Graph g r) (tall : 6 �
   }
 
   -- where no pin waits no stage follows
-  none-after : (s : ℕ) (done waiting : List ℕ) (room : ℕ) {done2 waiting2 : List ℕ} {room2 : ℕ} → waiting ≡ [] → afterFrom K g s done waiting room ≡ state done2 waiting2 room2 → waiting2 ≡ []
+  none-after : (s : ℕ) (done waiting : List ℕ) (room : ℕ) {done2 waiting2 : List ℕ} {room2 : ℕ} → waiting ≡ [] → afterFrom rule K g s done waiting room ≡ state done2 waiting2 room2 → waiting2 ≡ []
   unfolding afterFrom
   none-after zero done waiting room {waiting2 = v} z e = let d : waiting ≡ v = cc in sym d ∙ z
   none-after (suc s) done [] room z e = absurd (let y : _≡_ {A = ℕ} 0 1 = cc in omega arith)
   none-after (suc s) done (w ∷ ws) room z e = absurd (let y : _≡_ {A = ℕ} 0 1 = cc in omega arith)
 
-  pub shallow : (s : ℕ) (done waiting : List ℕ) → Ready g r waiting → (room : ℕ) {done2 waiting2 : List ℕ} {room2 : ℕ} → afterFrom K g s done waiting room ≡ state done2 waiting2 room2 → Shallow s done waiting done2 waiting2
+  pub shallow : (s : ℕ) (done waiting : List ℕ) → Ready g r waiting → (room : ℕ) {done2 waiting2 : List ℕ} {room2 : ℕ} → afterFrom rule K g s done waiting room ≡ state done2 waiting2 room2 → Shallow s done waiting done2 waiting2
   unfolding afterFrom
   shallow zero done waiting R room {done2} {waiting2} e =
       let d : done ≡ done2 = cc in
       let w : waiting ≡ waiting2 = cc in
       rw (← d, ← w) (record { ready = R; depth = omega arith; few = λ n. zero-le })
   shallow (suc s) done [] R room e = absurd (let z : _≡_ {A = ℕ} 0 1 = cc in omega arith)
-  shallow (suc s) done (w ∷ ws) R room e = stage-cases (oneStage K g done (w ∷ ws) room)
+  shallow (suc s) done (w ∷ ws) R room e = stage-cases (oneStage rule K g done (w ∷ ws) room)
       (λ n d. absurd (let c = rw (d, afterFrom) at e in let z : _≡_ {A = ℕ} 0 1 = cc in omega arith))
       (λ plan2 words realised waiting2 d.
       let c = rw (d, afterFrom) at e in
@@ -98,15 +98,15 @@ module _ (K : ℕ) (g : List Node) (r : ℕ → ℕ) (G : Graph g r) (tall : 6 �
 
   -- with more rooms than the depth that is left, the rooms are enough
   pub rooms-suffice : (rooms k : ℕ) (done waiting : List ℕ) → Ready g r waiting → (room : ℕ) → (waiting ≡ []) ⊎ (remaining (length g) g done waiting < rooms) →
-      (n j : ℕ) → stages K g rooms k done waiting room ≡ refusal n j → (n ≡ 7) ⊎ (n ≡ 8)
+      (n j : ℕ) → stages rule K g rooms k done waiting room ≡ refusal n j → (n ≡ 7) ⊎ (n ≡ 8)
   unfolding stages oneStage
   rooms-suffice zero k done [] R room h n j e = absurd (let z : _≡_ {A = ℕ} 0 1 = cc in omega arith)
   rooms-suffice zero k done (w ∷ ws) R room (inl a) n j e = absurd (let z : _≡_ {A = ℕ} 0 1 = cc in omega arith)
   rooms-suffice zero k done (w ∷ ws) R room (inr a) n j e = absurd (omega arith)
   rooms-suffice (suc rooms) k done [] R room h n j e = absurd (let z : _≡_ {A = ℕ} 0 1 = cc in omega arith)
   rooms-suffice (suc rooms) k done (w ∷ ws) R room (inl a) n j e = absurd (let z : _≡_ {A = ℕ} 0 1 = cc in omega arith)
-  rooms-suffice (suc rooms) k done (w ∷ ws) R room (inr a) n j e = stage-cases (oneStage K g done (w ∷ ws) room)
-      (λ m d. let c : refusal m k ≡ refusal n j = rw (d, stages) at e in let b : n ≡ m = cc in rw b (seven-or-eight (setting K g done (w ∷ ws)) room (filledPlan (setting K g done (w ∷ ws))) (stage-over (setting K g done (w ∷ ws)) room (filledPlan (setting K g done (w ∷ ws))) m d)))
+  rooms-suffice (suc rooms) k done (w ∷ ws) R room (inr a) n j e = stage-cases (oneStage rule K g done (w ∷ ws) room)
+      (λ m d. let c : refusal m k ≡ refusal n j = rw (d, stages) at e in let b : n ≡ m = cc in rw b (seven-or-eight (setting rule K g done (w ∷ ws)) room (filledPlan (setting rule K g done (w ∷ ws))) (stage-over (setting rule K g done (w ∷ ws)) room (filledPlan (setting rule K g done (w ∷ ws))) m d)))
       (λ plan2 words realised waiting2 d.
       let f : remaining (length g) g (realised ++ done) waiting2 ≤ pred (remaining (length g) g done (w ∷ ws)) = falls done (w ∷ ws) R room plan2 words realised waiting2 d in
       rooms-suffice rooms (suc k) (realised ++ done) waiting2 (still-ready done (w ∷ ws) R room plan2 words realised waiting2 d) (room - length words)

@@ -10,8 +10,8 @@ use lib.ListN.{length, getD, take, drop, length-map}
 use lib.Seq.{getD-set-same, getD-set-other, getD-drop}
 use Rattle.rules.specs.Lists.{mem, count, init, lastOf, swapOut, swapOutAll}
 use Rattle.rules.specs.Cells.{filled, empty, rowAt}
-use Rattle.rules.specs.Traversal.{Setting}
-use Rattle.rules.specs.Ending.{Put, meet, fillIn, putCell, putCells, Sparse, putRun, putRuns, addSparse, sparseFrom, plan}
+use Rattle.rules.specs.Traversal.{WordRule, everyRun, neededRuns, Setting}
+use Rattle.rules.specs.Ending.{Put, meet, fillIn, putCell, putCells, Sparse, putRun, allows, goesOn, putRuns, addSparse, sparseFrom, plan}
 use Rattle.rules.proofs.Lists.Members.{In, Out, split, true-false, eqb-true, eqb-false, in-here, in-there, in-cons, in-nil, out-head, out-tail, in-insert, in-insert-old, in-insertAll-old, init-in, last-in, map-in}
 use Rattle.rules.proofs.Walk.Reverse.{Sub, out-sub}
 use Rattle.rules.proofs.Tree.Held.{place1-other}
@@ -135,9 +135,16 @@ module _ (X : Setting) (half : 2 ^ (X .K) ≡ rowAt (X .K) 1 + rowAt (X .K) 1) (
   pub runs-count : (last : Bool) (rs : List Sparse) (s : Put) → Counts ws s → Counts ws (putRuns X last rs s)
   unfolding putRuns putRun
   runs-count last [] s c = c
-  runs-count last (r ∷ rs) s c = split (last || leb (32 - r .filled) (length (s .left)))
+  runs-count last (r ∷ rs) s c = split (goesOn (X .rule) last (r .filled) (length (s .left)))
       (λ e. rw (e, putRuns) (runs-count last rs (putRun X r s) (λ x i. cells-count 32 (rowAt (X .K) 1 + r .start) s c x i)))
       (λ e. rw (e, putRuns) c)
+
+-- where nothing is untouched, a run is not written only if no pin is left
+pub run-idle : (rule : WordRule) (k : ℕ) (left : List ℕ) → goesOn rule true k (length left) ≡ false → left ≡ []
+unfolding goesOn allows
+run-idle everyRun k left e = true-false refl e
+run-idle neededRuns k [] e = refl
+run-idle neededRuns k (x ∷ xs) e = true-false refl e
 
 unfoldable pub starts : List Sparse → List ℕ
 starts [] = []
@@ -188,12 +195,15 @@ module _ (X : Setting) (half : 2 ^ (X .K) ≡ rowAt (X .K) 1 + rowAt (X .K) 1) (
   runs-stay none s k i h f = f
   runs-stay (more {r = r} {rs = rs} b q) s k i h f =
       let c : Keeps X half pl (putCells X 32 (rowAt (X .K) 1 + r .start) s) = cells-keep X half pl l 32 (rowAt (X .K) 1 + r .start) s (omega arith) (omega arith) k in
-      runs-stay q (putRun X r s) (record { len = c .len; grows = c .grows; real = c .real; fine = c .fine }) i h (cells-stay 32 (rowAt (X .K) 1 + r .start) s (omega arith) (omega arith) k i h f)
+      split (goesOn (X .rule) true (r .filled) (length (s .left)))
+      (λ e. rw (e, putRuns) (runs-stay q (putRun X r s) (record { len = c .len; grows = c .grows; real = c .real; fine = c .fine }) i h (cells-stay 32 (rowAt (X .K) 1 + r .start) s (omega arith) (omega arith) k i h f)))
+      (λ e. rw (e, putRuns) f)
 
   runs-nil : (rs : List Sparse) (s : Put) → s .left ≡ [] → putRuns X true rs s .left ≡ []
   unfolding putRuns putRun
   runs-nil [] s e = e
-  runs-nil (r ∷ rs) s e = runs-nil rs (putRun X r s) (rw (cells-idle X 32 (rowAt (X .K) 1 + r .start) s e) e)
+  runs-nil (r ∷ rs) s e = split (goesOn (X .rule) true (r .filled) (length (s .left)))
+      (λ b. rw (b, putRuns) (runs-nil rs (putRun X r s) (rw (cells-idle X 32 (rowAt (X .K) 1 + r .start) s e) e))) (λ b. rw (b, putRuns) e)
 
   pub runs-solid : {rs : List Sparse} → Runs (rowAt (X .K) 1) rs → (s : Put) → Keeps X half pl s →
       (putRuns X true rs s .left ≡ []) ⊎ ((a : ℕ) → In a (starts rs) → Solid (rowAt (X .K) 1 + a) 32 (putRuns X true rs s .plan))
@@ -203,7 +213,8 @@ module _ (X : Setting) (half : 2 ^ (X .K) ≡ rowAt (X .K) 1 + rowAt (X .K) 1) (
       let p : ℕ = rowAt (X .K) 1 + r .start in
       let c : Keeps X half pl (putCells X 32 p s) = cells-keep X half pl l 32 p s (omega arith) (omega arith) k in
       let d : Keeps X half pl (putRun X r s) = record { len = c .len; grows = c .grows; real = c .real; fine = c .fine } in
-      elim (cells-solid 32 p s (omega arith) (omega arith) k) [
+      split (goesOn (X .rule) true (r .filled) (length (s .left)))
+      (λ w. rw (w, putRuns) (elim (cells-solid 32 p s (omega arith) (omega arith) k) [
         | inl e ↦ inl (runs-nil rs (putRun X r s) e)
         | inr h ↦ elim (runs-solid q (putRun X r s) d) [
           | inl e ↦ inl e
@@ -212,7 +223,8 @@ module _ (X : Setting) (half : 2 ^ (X .K) ≡ rowAt (X .K) 1 + rowAt (X .K) 1) (
             | inr z ↦ t a z
           ])
         ]
-      ]
+      ]))
+      (λ w. rw (w, putRuns) (inl (run-idle (X .rule) (r .filled) (s .left) w)))
 
 -- in an empty plan every run is sparse
 abbrev pub Blank : List ℕ → Type 0

@@ -12,7 +12,7 @@ use Rattle.rules.specs.Lists.{mem, count, Found, nothing, found}
 use Rattle.rules.specs.Cells.{filled, empty, firstEmpty, rowAt, row}
 use Rattle.rules.specs.Traversal.{Setting}
 use Rattle.rules.specs.Placing.{place, tree}
-use Rattle.rules.specs.Ending.{Put, meet, fillIn, putCell, putCells, Sparse, putRun, putRuns, addSparse, sparseFrom, sparseRuns, Plan?, full, plan, putRest}
+use Rattle.rules.specs.Ending.{Put, meet, fillIn, putCell, putCells, Sparse, putRun, goesOn, putRuns, addSparse, sparseFrom, sparseRuns, Plan?, full, plan, putRest}
 use Rattle.rules.proofs.Lists.Members.{In, split, in-here, in-there, in-cons, in-nil, keep-in, insert-in, insertAll-in, or-true}
 use Rattle.rules.proofs.Walk.Reverse.{Sub}
 use Rattle.rules.proofs.Tree.Held.{in-tree, tree-grows, length-place1, place1-other, firstEmpty-found}
@@ -104,7 +104,7 @@ module _ (X : Setting) (half : 2 ^ (X .K) ≡ rowAt (X .K) 1 + rowAt (X .K) 1) w
     runs-keep last none s k = k
     runs-keep last (more {r = r} {rs = rs} h i) s k =
         let c : Keeps pl (putCells X 32 (rowAt (X .K) 1 + r .start) s) = cells-keep 32 (rowAt (X .K) 1 + r .start) s (omega arith) (omega arith) k in
-        split (last || leb (32 - r .filled) (length (s .left)))
+        split (goesOn (X .rule) last (r .filled) (length (s .left)))
         (λ e. rw (e, putRuns) (runs-keep last i (putRun X r s) (record { len = c .len; grows = c .grows; real = c .real; fine = c .fine })))
         (λ e. rw (e, putRuns) k)
 

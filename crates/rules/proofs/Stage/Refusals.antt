@@ -11,7 +11,7 @@ use Rattle.rules.specs.Cells.{wordLimit}
 use Rattle.rules.specs.Graph.{Node}
 use Rattle.rules.specs.Records.{Group, waitingOf}
 use Rattle.rules.specs.Reservation.{memories, duplicates, reserved, reservable}
-use Rattle.rules.specs.Traversal.{setting}
+use Rattle.rules.specs.Traversal.{WordRule, setting}
 use Rattle.rules.specs.Placing.{filledPlan}
 use Rattle.rules.specs.Ending.{stage, oneStage}
 use Rattle.rules.specs.Build.{Stage, Answer, refusal, more, before, stages, build}
@@ -25,19 +25,19 @@ use Rattle.rules.proofs.Stage.Depth.{stage-cases, more-refused}
 -- ---- the stages completed so far
 
 -- they stand in front of what the rules make of the state that they left
-pub record SoFar (K : ℕ) (g : List Node) (rooms k s : ℕ) (done waiting : List ℕ) (room : ℕ) (a : Answer) : Type 0 where
+pub record SoFar (rule : WordRule) (K : ℕ) (g : List Node) (rooms k s : ℕ) (done waiting : List ℕ) (room : ℕ) (a : Answer) : Type 0 where
   pub ss : List Stage
   pub count : length ss ≡ s
-  pub same : a ≡ before ss (stages K g (rooms - s) (k + s) done waiting room)
+  pub same : a ≡ before ss (stages rule K g (rooms - s) (k + s) done waiting room)
 
 pub before-refusal : (ss : List Stage) (n k : ℕ) → before ss (refusal n k) ≡ refusal n k
 unfolding before more
 before-refusal [] n k = refl
 before-refusal (s ∷ ss) n k = rw (before-refusal ss n k)
 
-module _ (K : ℕ) (g : List Node) where
-  pub stages-so-far : (s rooms k : ℕ) (done waiting : List ℕ) (room : ℕ) {done2 waiting2 : List ℕ} {room2 : ℕ} → s ≤ rooms → afterFrom K g s done waiting room ≡ state done2 waiting2 room2 →
-      SoFar K g rooms k s done2 waiting2 room2 (stages K g rooms k done waiting room)
+module _ (rule : WordRule) (K : ℕ) (g : List Node) where
+  pub stages-so-far : (s rooms k : ℕ) (done waiting : List ℕ) (room : ℕ) {done2 waiting2 : List ℕ} {room2 : ℕ} → s ≤ rooms → afterFrom rule K g s done waiting room ≡ state done2 waiting2 room2 →
+      SoFar rule K g rooms k s done2 waiting2 room2 (stages rule K g rooms k done waiting room)
   unfolding afterFrom stages before
   stages-so-far zero rooms k done waiting room {done2} {waiting2} {room2} h e =
       let d : done ≡ done2 = cc in
@@ -48,7 +48,7 @@ module _ (K : ℕ) (g : List Node) where
       record { ss = []; count = refl; same = rw (← d, ← w, ← r, z, y) refl }
   stages-so-far (suc s) zero k done waiting room h e = absurd (omega arith)
   stages-so-far (suc s) (suc rooms) k done [] room h e = absurd (let z : _≡_ {A = ℕ} 0 1 = cc in omega arith)
-  stages-so-far (suc s) (suc rooms) k done (w ∷ ws) room {done2} {waiting2} {room2} h e = stage-cases (oneStage K g done (w ∷ ws) room)
+  stages-so-far (suc s) (suc rooms) k done (w ∷ ws) room {done2} {waiting2} {room2} h e = stage-cases (oneStage rule K g done (w ∷ ws) room)
       (λ n d. absurd (let c = rw (d, afterFrom) at e in let z : _≡_ {A = ℕ} 0 1 = cc in omega arith))
       (λ plan words realised waiting3 d.
       let t = stages-so-far s rooms (suc k) (realised ++ done) waiting3 (room - length words) (omega arith) (rw (d, afterFrom) at e) in
@@ -63,27 +63,27 @@ module _ (K : ℕ) (g : List Node) where
     pub done2 : List ℕ
     pub waiting2 : List ℕ
     pub room2 : ℕ
-    pub completed : afterFrom K g s done waiting room ≡ state done2 waiting2 room2
+    pub completed : afterFrom rule K g s done waiting room ≡ state done2 waiting2 room2
     pub wait : waiting2 ≢ []
     pub stage : j ≡ k + s
-    pub stops : Stops K g rooms s done2 waiting2 room2 n
+    pub stops : Stops rule K g rooms s done2 waiting2 room2 n
 
   some : {w : ℕ} {ws : List ℕ} → w ∷ ws ≢ []
   some e = let z : _≡_ {A = ℕ} 0 1 = cc in omega arith
 
-  one-later : {rooms s n room : ℕ} {done waiting : List ℕ} → Stops K g rooms s done waiting room n → Stops K g (suc rooms) (suc s) done waiting room n
+  one-later : {rooms s n room : ℕ} {done waiting : List ℕ} → Stops rule K g rooms s done waiting room n → Stops rule K g (suc rooms) (suc s) done waiting room n
   one-later (nine e) = nine (ap suc e)
   one-later (over h c) = over (omega arith) c
 
-  within : {rooms s n room : ℕ} {done waiting : List ℕ} → Stops K g rooms s done waiting room n → s ≤ rooms
+  within : {rooms s n room : ℕ} {done waiting : List ℕ} → Stops rule K g rooms s done waiting room n → s ≤ rooms
   within (nine e) = omega arith
   within (over h c) = omega arith
 
-  from-zero : {rooms s n room : ℕ} {done waiting : List ℕ} → Stops K g rooms s done waiting room n → Stops K g (rooms - s) 0 done waiting room n
+  from-zero : {rooms s n room : ℕ} {done waiting : List ℕ} → Stops rule K g rooms s done waiting room n → Stops rule K g (rooms - s) 0 done waiting room n
   from-zero (nine e) = nine (omega arith)
   from-zero (over h c) = over (omega arith) c
 
-  pub stops-where : (rooms k : ℕ) (done waiting : List ℕ) (room n j : ℕ) → stages K g rooms k done waiting room ≡ refusal n j → StopsFrom rooms k done waiting room n j
+  pub stops-where : (rooms k : ℕ) (done waiting : List ℕ) (room n j : ℕ) → stages rule K g rooms k done waiting room ≡ refusal n j → StopsFrom rooms k done waiting room n j
   unfolding stages afterFrom oneStage
   stops-where zero k done [] room n j e = absurd (let z : _≡_ {A = ℕ} 0 1 = cc in omega arith)
   stops-where zero k done (w ∷ ws) room n j e =
@@ -91,7 +91,7 @@ module _ (K : ℕ) (g : List Node) where
       let b : k ≡ j = cc in
       rw (← a) (record { s = 0; done2 = done; waiting2 = w ∷ ws; room2 = room; completed = refl; wait = some; stage = omega arith; stops = nine refl })
   stops-where (suc rooms) k done [] room n j e = absurd (let z : _≡_ {A = ℕ} 0 1 = cc in omega arith)
-  stops-where (suc rooms) k done (w ∷ ws) room n j e = stage-cases (oneStage K g done (w ∷ ws) room)
+  stops-where (suc rooms) k done (w ∷ ws) room n j e = stage-cases (oneStage rule K g done (w ∷ ws) room)
       (λ m d.
       let c : refusal m k ≡ refusal n j = rw (d, stages) at e in
       let a : m ≡ n = cc in
@@ -104,22 +104,22 @@ module _ (K : ℕ) (g : List Node) where
         completed = refl;
         wait = some;
         stage = omega arith;
-        stops = over (omega arith) (stage-over (setting K g done (w ∷ ws)) room (filledPlan (setting K g done (w ∷ ws))) m d);
+        stops = over (omega arith) (stage-over (setting rule K g done (w ∷ ws)) room (filledPlan (setting rule K g done (w ∷ ws))) m d);
       }))
       (λ plan words realised waiting3 d.
       let t = stops-where rooms (suc k) (realised ++ done) waiting3 (room - length words) n j (more-refused _ _ n j (rw (d, stages) at e)) in
       record { s = suc (t .s); done2 = t .done2; waiting2 = t .waiting2; room2 = t .room2; completed = rw (d, afterFrom) (t .completed); wait = t .wait; stage = omega (arith, t .stage); stops = one-later (t .stops) })
 
   -- and what stops them refuses them
-  stop : (rooms k : ℕ) (done waiting : List ℕ) (room n : ℕ) → waiting ≢ [] → Stops K g rooms 0 done waiting room n → stages K g rooms k done waiting room ≡ refusal n k
+  stop : (rooms k : ℕ) (done waiting : List ℕ) (room n : ℕ) → waiting ≢ [] → Stops rule K g rooms 0 done waiting room n → stages rule K g rooms k done waiting room ≡ refusal n k
   unfolding stages oneStage
   stop rooms k done [] room n h c = absurd (h refl)
   stop zero k done (w ∷ ws) room n h (nine e) = refl
   stop zero k done (w ∷ ws) room n h (over l c) = absurd (omega arith)
   stop (suc rooms) k done (w ∷ ws) room n h (nine e) = absurd (omega arith)
-  stop (suc rooms) k done (w ∷ ws) room n h (over l c) = rw (over-refused (setting K g done (w ∷ ws)) room (filledPlan (setting K g done (w ∷ ws))) c, stages)
+  stop (suc rooms) k done (w ∷ ws) room n h (over l c) = rw (over-refused (setting rule K g done (w ∷ ws)) room (filledPlan (setting rule K g done (w ∷ ws))) c, stages)
 
-  pub stops-there : (rooms k : ℕ) (done waiting : List ℕ) (room n j : ℕ) → StopsFrom rooms k done waiting room n j → stages K g rooms k done waiting room ≡ refusal n j
+  pub stops-there : (rooms k : ℕ) (done waiting : List ℕ) (room n j : ℕ) → StopsFrom rooms k done waiting room n j → stages rule K g rooms k done waiting room ≡ refusal n j
   stops-there rooms k done waiting room n j t =
       let f = stages-so-far (t .s) rooms k done waiting room (within (t .stops)) (t .completed) in
       f .same ∙ rw (stop (rooms - t .s) (k + t .s) (t .done2) (t .waiting2) (t .room2) n (t .wait) (from-zero (t .stops)), ← t .stage) (before-refusal (f .ss) n j)
@@ -139,38 +139,38 @@ over-reservation K groups (over-limit h) = split (leb (4 * memories groups + dup
     (λ a. absurd (omega (arith, leb-true (4 * memories groups + duplicates groups) (wordLimit K) a)))
     (λ a. split (ltb (reserved groups) (wordLimit K)) (λ b. rw (a, b, reservable)) (λ b. rw (a, b, reservable)))
 
-stops-some : {K rooms s room n : ℕ} {g : List Node} {done waiting : List ℕ} → Stops K g rooms s done waiting room n → n ≢ 0
+stops-some : {rule : WordRule} {K rooms s room n : ℕ} {g : List Node} {done waiting : List ℕ} → Stops rule K g rooms s done waiting room n → n ≢ 0
 stops-some (nine h) z = omega arith
 stops-some (over h c) z = elim (seven-or-eight _ _ _ c) [ inl d ↦ omega arith | inr d ↦ omega arith ]
 
-module _ (K : ℕ) (g : List Node) (given : List ℕ) (groups : List Group) (rooms : ℕ) where
+module _ (rule : WordRule) (K : ℕ) (g : List Node) (given : List ℕ) (groups : List Group) (rooms : ℕ) where
   -- a refused build: the reservation is over, or a stage is
-  pub build-refused : (n k : ℕ) → build K g given groups rooms ≡ refusal n k → ((n ≡ 6) × (k ≡ 0) × ReservationOver K groups) ⊎ Refused K g given groups rooms n k
+  pub build-refused : (n k : ℕ) → build rule K g given groups rooms ≡ refusal n k → ((n ≡ 6) × (k ≡ 0) × ReservationOver K groups) ⊎ Refused rule K g given groups rooms n k
   unfolding build after
   build-refused n k e = split (reservable K groups)
       (λ c.
-      let t = stops-where K g rooms 1 given (waitingOf groups []) (wordLimit K - reserved groups) n k (rw (c, build) at e) in
+      let t = stops-where rule K g rooms 1 given (waitingOf groups []) (wordLimit K - reserved groups) n k (rw (c, build) at e) in
       inr (record { s = t .s; done = t .done2; waiting = t .waiting2; room = t .room2; completed = rw (c, after) (t .completed); wait = t .wait; stage = omega (arith, t .stage); stops = t .stops }))
       (λ c. let d : refusal 6 0 ≡ refusal n k = rw (c, build) at e in inl (cc, cc, reservation-over K groups c))
 
   -- no refusal has number 0
-  pub refused-some : (n k : ℕ) → build K g given groups rooms ≡ refusal n k → n ≢ 0
+  pub refused-some : (n k : ℕ) → build rule K g given groups rooms ≡ refusal n k → n ≢ 0
   refused-some n k e = elim (build-refused n k e) [ inl a ↦ λ z. omega (arith, a .0) | inr a ↦ stops-some (a .stops) ]
 
-  pub six-build : ReservationOver K groups → build K g given groups rooms ≡ refusal 6 0
+  pub six-build : ReservationOver K groups → build rule K g given groups rooms ≡ refusal 6 0
   unfolding build
   six-build h = rw (over-reservation K groups h, build)
 
-  pub refused-build : (n k : ℕ) → Refused K g given groups rooms n k → build K g given groups rooms ≡ refusal n k
+  pub refused-build : (n k : ℕ) → Refused rule K g given groups rooms n k → build rule K g given groups rooms ≡ refusal n k
   unfolding build after
   refused-build n k t = split (reservable K groups)
-      (λ c. rw (c, build) (stops-there K g rooms 1 given (waitingOf groups []) (wordLimit K - reserved groups) n k
+      (λ c. rw (c, build) (stops-there rule K g rooms 1 given (waitingOf groups []) (wordLimit K - reserved groups) n k
       (record { s = t .s; done2 = t .done; waiting2 = t .waiting; room2 = t .room; completed = rw (c, after) at (t .completed); wait = t .wait; stage = omega (arith, t .stage); stops = t .stops })))
       (λ c. absurd (let d = rw (c, after) at (t .completed) in let z : _≡_ {A = ℕ} 0 1 = cc in omega arith))
 
   -- the completed stages are the build's first
-  pub so-far : (s : ℕ) (done waiting : List ℕ) (room : ℕ) → s ≤ rooms → after K g given groups s ≡ state done waiting room → SoFar K g rooms 1 s done waiting room (build K g given groups rooms)
+  pub so-far : (s : ℕ) (done waiting : List ℕ) (room : ℕ) → s ≤ rooms → after rule K g given groups s ≡ state done waiting room → SoFar rule K g rooms 1 s done waiting room (build rule K g given groups rooms)
   unfolding build after
   so-far s done waiting room h e = split (reservable K groups)
-      (λ c. let f = stages-so-far K g s rooms 1 given (waitingOf groups []) (wordLimit K - reserved groups) h (rw (c, after) at e) in record { ss = f .ss; count = f .count; same = rw (c, build) (f .same) })
+      (λ c. let f = stages-so-far rule K g s rooms 1 given (waitingOf groups []) (wordLimit K - reserved groups) h (rw (c, after) at e) in record { ss = f .ss; count = f .count; same = rw (c, build) (f .same) })
       (λ c. absurd (let d = rw (c, after) at e in let z : _≡_ {A = ℕ} 0 1 = cc in omega arith))

@@ -11,7 +11,7 @@ use lib.ListN.{length, replicate, length-replicate}
 use Rattle.rules.specs.Lists.{mem, insertAll, swapOutAll, found}
 use Rattle.rules.specs.Cells.{filled, empty, firstEmpty, rowAt, row}
 use Rattle.rules.specs.Graph.{Node}
-use Rattle.rules.specs.Traversal.{Setting, setting, greatest, levelAt}
+use Rattle.rules.specs.Traversal.{WordRule, Setting, setting, greatest, levelAt}
 use Rattle.rules.specs.Placing.{tree, treeOf, neededOf, filledPlan}
 use Rattle.rules.specs.Ending.{Plan?, full, plan, refused, stage, inNeed, inTree, lastStage, written, rest, moreWords, ending, close, finish, oneStage}
 use Rattle.rules.specs.Depth.{depth, remaining}
@@ -106,28 +106,28 @@ remaining-above f g stop [] x e = in-nil x e
 remaining-above f g stop (w ∷ ws) x e = elim (in-cons x w ws e) [ inl d ↦ rw d (omega arith) | inr d ↦ omega (arith, remaining-above f g stop ws x d) ]
 
 -- what one stage does
-module _ (K : ℕ) (g : List Node) (r : ℕ → ℕ) (G : Graph g r) (tall : 1 ≤ K) (small : length g ≤ empty) (done waiting : List ℕ) (bounded : (x : ℕ) → In x waiting → (x < length g) × (r x < length g))
-    (room : ℕ) (plan2 words realised waiting2 : List ℕ) (e : oneStage K g done waiting room ≡ stage plan2 words realised waiting2) where
-  pub the-end : Ended (setting K g done waiting) (filledPlan (setting K g done waiting)) plan2 realised waiting2
+module _ (rule : WordRule) (K : ℕ) (g : List Node) (r : ℕ → ℕ) (G : Graph g r) (tall : 1 ≤ K) (small : length g ≤ empty) (done waiting : List ℕ) (bounded : (x : ℕ) → In x waiting → (x < length g) × (r x < length g))
+    (room : ℕ) (plan2 words realised waiting2 : List ℕ) (e : oneStage rule K g done waiting room ≡ stage plan2 words realised waiting2) where
+  pub the-end : Ended (setting rule K g done waiting) (filledPlan (setting rule K g done waiting)) plan2 realised waiting2
   unfolding oneStage
-  the-end = finished (setting K g done waiting) room (filledPlan (setting K g done waiting)) plan2 words realised waiting2 e
+  the-end = finished (setting rule K g done waiting) room (filledPlan (setting rule K g done waiting)) plan2 words realised waiting2 e
 
   pub waits-less : Sub waiting2 waiting
   unfolding setting
   waits-less q d = swapOutAll-in (the-end .real) q waiting (rw (the-end .waits) at d)
 
-  all-served : Served (setting K g done waiting) (filledPlan (setting K g done waiting)) plan2
+  all-served : Served (setting rule K g done waiting) (filledPlan (setting rule K g done waiting)) plan2
   unfolding setting
-  all-served = served (setting K g done waiting) r (length g) (setting-sound K g r G done waiting bounded) (half-height K tall) small (filledPlan (setting K g done waiting)) plan2
+  all-served = served (setting rule K g done waiting) r (length g) (setting-sound rule K g r G done waiting bounded) (half-height K tall) small (filledPlan (setting rule K g done waiting)) plan2
       (rw length-filledPlan (omega (arith, two-step K))) (the-end .rested)
 
   pub stage-lowers : (q : ℕ) → From g (realised ++ done) waiting2 q → depth (length g) g (realised ++ done) q ≤ pred (depth (length g) g done q)
   unfolding setting treeOf
-  stage-lowers q fr = rw (the-end .realises) (lowers (setting K g done waiting) r (length g) (setting-sound K g r G done waiting bounded) (filledPlan (setting K g done waiting)) plan2 all-served waiting2 waits-less q (rw (the-end .realises) at fr))
+  stage-lowers q fr = rw (the-end .realises) (lowers (setting rule K g done waiting) r (length g) (setting-sound rule K g r G done waiting bounded) (filledPlan (setting rule K g done waiting)) plan2 all-served waiting2 waits-less q (rw (the-end .realises) at fr))
 
   pub stage-holds : (q : ℕ) → From g (realised ++ done) waiting2 q → depth (length g) g (realised ++ done) q ≡ 0 → In q realised
   unfolding setting treeOf
-  stage-holds q fr z = rw (the-end .realises) (holds (setting K g done waiting) r (length g) (setting-sound K g r G done waiting bounded) (filledPlan (setting K g done waiting)) plan2 all-served waiting2 waits-less q (rw (the-end .realises) at fr) (rw (the-end .realises) at z))
+  stage-holds q fr z = rw (the-end .realises) (holds (setting rule K g done waiting) r (length g) (setting-sound rule K g r G done waiting bounded) (filledPlan (setting rule K g done waiting)) plan2 all-served waiting2 waits-less q (rw (the-end .realises) at fr) (rw (the-end .realises) at z))
 
   pub remaining-falls : remaining (length g) g (realised ++ done) waiting2 ≤ pred (remaining (length g) g done waiting)
   remaining-falls = remaining-least (length g) g (realised ++ done) waiting2 (pred (remaining (length g) g done waiting))

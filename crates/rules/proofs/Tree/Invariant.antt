@@ -12,7 +12,7 @@ use Rattle.rules.specs.Lists.{mem, gather, Found, nothing, found}
 use Rattle.rules.specs.Cells.{filled, empty, firstEmpty, rowAt, row}
 use Rattle.rules.specs.Traversal.{Setting, levelAt}
 use Rattle.rules.specs.Placing.{place, placed, tree, treeOf, reverseOf, neededOf, needed, asks, choose, cellAt, pinAt, roomy, fill, filledPlan}
-use Rattle.rules.specs.Ending.{Put, meet, fillIn, putCell, putCells, Sparse, putRun, putRuns, Plan?, full, plan, putRest, inNeed, lastStage, written, rest}
+use Rattle.rules.specs.Ending.{Put, meet, fillIn, putCell, putCells, Sparse, putRun, goesOn, putRuns, Plan?, full, plan, putRest, inNeed, lastStage, written, rest}
 use Rattle.rules.proofs.Lists.Members.{In, split, eqb-true, and-true, in-here, in-there, in-nil, keep-in, gather-in, distinct-in}
 use Rattle.rules.proofs.Needed.Needs.{Sound, need-listed, asked-low}
 use Rattle.rules.proofs.Tree.Held.{firstEmpty-found}
@@ -108,7 +108,7 @@ module _ (X : Setting) (r : ℕ → ℕ) (f : ℕ) (S : Sound X r f) (tall : 1 �
   runs-inv : (last : Bool) {rs : List Sparse} → Runs (rowAt (X .K) 1) rs → (s : Put) → Inv (s .plan) × Low (s .left) → Inv (putRuns X last rs s .plan)
   unfolding putRuns putRun
   runs-inv last none s k = k .0
-  runs-inv last (more {r = q} {rs = rs} h i) s k = split (last || leb (32 - q .filled) (length (s .left)))
+  runs-inv last (more {r = q} {rs = rs} h i) s k = split (goesOn (X .rule) last (q .filled) (length (s .left)))
       (λ e. rw (e, putRuns) (runs-inv last i (putRun X q s) (cells-inv 32 (rowAt (X .K) 1 + q .start) s (omega arith) (omega arith) k)))
       (λ e. rw (e, putRuns) (k .0))
 

@@ -12,7 +12,7 @@ use borrow.Author.Tests.{ltb-true, ltb-false}
 use Rattle.rules.specs.Lists.{mem}
 use Rattle.rules.specs.Cells.{filled, empty, rowAt}
 use Rattle.rules.specs.Graph.{Node, leaf, gate, pinOf, operands, below}
-use Rattle.rules.specs.Traversal.{over, Setting, setting, levelAt}
+use Rattle.rules.specs.Traversal.{WordRule, over, Setting, setting, levelAt}
 use Rattle.rules.specs.Placing.{place}
 use Rattle.rules.specs.Ending.{stage, oneStage}
 use Rattle.rules.specs.Depth.{depth}
@@ -107,27 +107,27 @@ module _ (X : Setting) (r : ℕ → ℕ) (f : ℕ) (S : Sound X r f) where
   fine-first m q e = true-false e (blank-replicate m q)
 
 -- each stage after the first loads only pins that the stage before holds above level 0
-module _ (K : ℕ) (g : List Node) (r : ℕ → ℕ) (G : Graph g r) (tall : 6 ≤ K) (small : length g ≤ empty)
-    (done waiting : List ℕ) (R : Ready g r waiting) (room : ℕ) (plan2 words realised waiting2 : List ℕ) (e : oneStage K g done waiting room ≡ stage plan2 words realised waiting2)
-    (room3 : ℕ) (plan3 words3 realised3 waiting3 : List ℕ) (d : oneStage K g (realised ++ done) waiting2 room3 ≡ stage plan3 words3 realised3 waiting3) where
+module _ (rule : WordRule) (K : ℕ) (g : List Node) (r : ℕ → ℕ) (G : Graph g r) (tall : 6 ≤ K) (small : length g ≤ empty)
+    (done waiting : List ℕ) (R : Ready g r waiting) (room : ℕ) (plan2 words realised waiting2 : List ℕ) (e : oneStage rule K g done waiting room ≡ stage plan2 words realised waiting2)
+    (room3 : ℕ) (plan3 words3 realised3 waiting3 : List ℕ) (d : oneStage rule K g (realised ++ done) waiting2 room3 ≡ stage plan3 words3 realised3 waiting3) where
   low : 1 ≤ K
   low = omega arith
 
   R2 : Ready g r waiting2
-  R2 = still-ready K g r G tall small done waiting R room plan2 words realised waiting2 e
+  R2 = still-ready rule K g r G tall small done waiting R room plan2 words realised waiting2 e
 
   abbrev W2 : Setting
-  W2 = setting K g (realised ++ done) waiting2
+  W2 = setting rule K g (realised ++ done) waiting2
 
   S2 : Sound W2 r (length g)
-  S2 = setting-sound K g r G (realised ++ done) waiting2 (R2 .bounded)
+  S2 = setting-sound rule K g r G (realised ++ done) waiting2 (R2 .bounded)
 
   pub loads : (q : ℕ) → 2 ^ K ≤ q → filled (getD plan3 q empty) ≡ true → In (getD plan3 q empty) realised
   unfolding setting
   loads q b h =
       let fine : Fine W2 r (length g) S2 plan3 =
       final W2 r (length g) S2 low (Fine W2 r (length g) S2) (fine-kept W2 r (length g) S2) (fine-first W2 r (length g) S2 (2 ^ (K + 1))) plan3
-      (the-end K g r G low small (realised ++ done) waiting2 (R2 .bounded) room3 plan3 words3 realised3 waiting3 d .rested) .1 in
+      (the-end rule K g r G low small (realised ++ done) waiting2 (R2 .bounded) room3 plan3 words3 realised3 waiting3 d .rested) .1 in
       let c = fine q h in
       let i : From g (realised ++ done) waiting2 (getD plan3 q empty) = elim (S2 .visited .new (getD plan3 q empty) (c .0)) [ inl a ↦ in-nil _ a | inr a ↦ a ] in
-      stage-holds K g r G low small done waiting (R .bounded) room plan2 words realised waiting2 e (getD plan3 q empty) i (sym (S2 .level (getD plan3 q empty) (c .0)) ∙ c .1 b)
+      stage-holds rule K g r G low small done waiting (R .bounded) room plan2 words realised waiting2 e (getD plan3 q empty) i (sym (S2 .level (getD plan3 q empty) (c .0)) ∙ c .1 b)

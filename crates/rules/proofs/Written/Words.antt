@@ -14,7 +14,7 @@ use Rattle.rules.specs.Lists.{mem, keep, insert, insertAll, count, init,
 use Rattle.rules.specs.Cells.{filled, empty, firstEmpty, rowAt, row}
 use Rattle.rules.specs.Traversal.{Setting}
 use Rattle.rules.specs.Placing.{place, tree}
-use Rattle.rules.specs.Ending.{Put, meet, fillIn, putCell, putCells, Sparse, putRun, putRuns, addSparse, sparseFrom, sparseRuns, Plan?, full, plan, putRest, inTree, lastStage, written, rest, wordsIn, wordsUp, moreWords, stage, ending, close, finish}
+use Rattle.rules.specs.Ending.{Put, meet, fillIn, putCell, putCells, Sparse, putRun, goesOn, putRuns, addSparse, sparseFrom, sparseRuns, Plan?, full, plan, putRest, inTree, lastStage, written, rest, wordsIn, wordsUp, moreWords, stage, ending, close, finish}
 use Rattle.rules.proofs.Lists.Members.{In, Out, split, true-false, eqb-true, in-here, in-there, in-cons, in-nil, in-append-left, in-append-right, out-append, eqb-same, out-head, out-tail, keep-in, insert-in, insertAll-in, in-insert, in-insert-old}
 use Rattle.rules.proofs.Walk.Reverse.{Sub}
 use Rattle.rules.proofs.Tree.Held.{length-place1, place1-other}
@@ -180,7 +180,7 @@ module _ (X : Setting) (half : 2 ^ (X .K) ≡ rowAt (X .K) 1 + rowAt (X .K) 1) (
   pub runs-show : rowAt (X .K) 1 % 32 ≡ 0 → (last : Bool) {rs : List Sparse} → Runs (rowAt (X .K) 1) rs → Aligned rs → (s : Put) → Keeps X half pl s → Shows X (s .words) s → Shows X (putRuns X last rs s .words) (putRuns X last rs s)
   unfolding putRuns
   runs-show z last none no-run s k c = c
-  runs-show z last (more {r = r} {rs = rs} h i) (a-run al j) s k c = split (last || leb (32 - r .filled) (length (s .left)))
+  runs-show z last (more {r = r} {rs = rs} h i) (a-run al j) s k c = split (goesOn (X .rule) last (r .filled) (length (s .left)))
       (λ e. rw (e, putRuns) (runs-show z last i j (putRun X r s) (run-keeps r h s k) (run-shows z r h al s k c)))
       (λ e. rw (e, putRuns) c)
 

@@ -9,7 +9,7 @@ use lib.ListN.{length, getD}
 use Rattle.rules.specs.Lists.{mem, keep, insertAll}
 use Rattle.rules.specs.Cells.{filled, empty, rowAt}
 use Rattle.rules.specs.Graph.{Node}
-use Rattle.rules.specs.Traversal.{Setting, setting}
+use Rattle.rules.specs.Traversal.{WordRule, Setting, setting}
 use Rattle.rules.specs.Placing.{treeOf, neededOf, filledPlan}
 use Rattle.rules.specs.Ending.{plan, inNeed, inTree, lastStage, written, rest, moreWords, stage, oneStage}
 use Rattle.rules.specs.Build.{Stage, Answer, refusal, whole, more, stages}
@@ -75,31 +75,31 @@ pub data Written (K q : ℕ) : List Stage → Type 0 where
   here : {s : Stage} {ss : List Stage} → Stands K (s .plan) (s .words) q → Written K q (s ∷ ss)
   there : {s : Stage} {ss : List Stage} → Written K q ss → Written K q (s ∷ ss)
 
-module _ (K : ℕ) (g : List Node) (r : ℕ → ℕ) (G : Graph g r) (tall : 6 ≤ K) (small : length g ≤ empty) where
+module _ (rule : WordRule) (K : ℕ) (g : List Node) (r : ℕ → ℕ) (G : Graph g r) (tall : 6 ≤ K) (small : length g ≤ empty) where
   low : 1 ≤ K
   low = omega arith
 
-  pub stage-leaves : (done waiting : List ℕ) → Ready g r waiting → (room : ℕ) (plan2 words realised waiting2 : List ℕ) → oneStage K g done waiting room ≡ stage plan2 words realised waiting2 → (q : ℕ) → In q waiting → Out q waiting2 → Stands K plan2 words q
+  pub stage-leaves : (done waiting : List ℕ) → Ready g r waiting → (room : ℕ) (plan2 words realised waiting2 : List ℕ) → oneStage rule K g done waiting room ≡ stage plan2 words realised waiting2 → (q : ℕ) → In q waiting → Out q waiting2 → Stands K plan2 words q
   unfolding oneStage setting
   stage-leaves done waiting R room plan2 words realised waiting2 e q i o =
-      let n : Finished (setting K g done waiting) (filledPlan (setting K g done waiting)) plan2 words waiting2 = finished-words (setting K g done waiting) room (filledPlan (setting K g done waiting)) plan2 words realised waiting2 e in
-      leaves (setting K g done waiting) r (length g) (setting-sound K g r G done waiting (R .bounded)) low (half-height K low) (omega (arith, multiple K tall)) small plan2 (n .rested) words waiting2 n q i o
+      let n : Finished (setting rule K g done waiting) (filledPlan (setting rule K g done waiting)) plan2 words waiting2 = finished-words (setting rule K g done waiting) room (filledPlan (setting rule K g done waiting)) plan2 words realised waiting2 e in
+      leaves (setting rule K g done waiting) r (length g) (setting-sound rule K g r G done waiting (R .bounded)) low (half-height K low) (omega (arith, multiple K tall)) small plan2 (n .rested) words waiting2 n q i o
 
   pub more-whole : (s : Stage) (a : Answer) (ss : List Stage) → more s a ≡ whole ss → (ts : List Stage) × (a ≡ whole ts) × (ss ≡ s ∷ ts)
   unfolding more
   more-whole s (refusal m j) ss e = absurd (let z : _≡_ {A = ℕ} 0 1 = cc in omega arith)
   more-whole s (whole ts) ss e = (ts, refl, cc)
 
-  pub all-written : (rooms k : ℕ) (done waiting : List ℕ) → Ready g r waiting → (room : ℕ) (ss : List Stage) → stages K g rooms k done waiting room ≡ whole ss → (q : ℕ) → In q waiting → Written K q ss
+  pub all-written : (rooms k : ℕ) (done waiting : List ℕ) → Ready g r waiting → (room : ℕ) (ss : List Stage) → stages rule K g rooms k done waiting room ≡ whole ss → (q : ℕ) → In q waiting → Written K q ss
   unfolding stages
   all-written zero k done [] R room ss e q i = in-nil q i
   all-written zero k done (w ∷ ws) R room ss e q i = absurd (let z : _≡_ {A = ℕ} 0 1 = cc in omega arith)
   all-written (suc rooms) k done [] R room ss e q i = in-nil q i
-  all-written (suc rooms) k done (w ∷ ws) R room ss e q i = stage-cases (oneStage K g done (w ∷ ws) room)
+  all-written (suc rooms) k done (w ∷ ws) R room ss e q i = stage-cases (oneStage rule K g done (w ∷ ws) room)
       (λ n d. absurd (let c : refusal n k ≡ whole ss = rw (d, stages) at e in let z : _≡_ {A = ℕ} 0 1 = cc in omega arith))
       (λ plan2 words realised waiting2 d.
       let s : Stage = record { plan = plan2; words = words } in
-      let m = more-whole s (stages K g rooms (suc k) (realised ++ done) waiting2 (room - length words)) ss (rw (d, stages) at e) in
+      let m = more-whole s (stages rule K g rooms (suc k) (realised ++ done) waiting2 (room - length words)) ss (rw (d, stages) at e) in
       rw (m .2) (split (mem q waiting2)
-      (λ a. there (all-written rooms (suc k) (realised ++ done) waiting2 (still-ready K g r G tall small done (w ∷ ws) R room plan2 words realised waiting2 d) (room - length words) (m .0) (m .1) q a))
+      (λ a. there (all-written rooms (suc k) (realised ++ done) waiting2 (still-ready rule K g r G tall small done (w ∷ ws) R room plan2 words realised waiting2 d) (room - length words) (m .0) (m .1) q a))
       (λ a. here (stage-leaves done (w ∷ ws) R room plan2 words realised waiting2 d q i a))))

@@ -32,6 +32,7 @@ use Rattle.walk.specs.Stands.{Context}
 use Rattle.walk.proofs.Contexts.{low-mark}
 use Rattle.tree.specs.Bits.{Standing}
 use Rattle.tree.proofs.Bits.Standing.{stands-frame}
+use Rattle.runs.specs.declared.WordRule.{WordRule}
 use Rattle.runs.specs.declared.puts.Puts.{Puts}
 use Rattle.runs.specs.declared.puts.Written.{Written}
 use Rattle.sparse.specs.declared.Runs.{Runs}
@@ -99,7 +100,7 @@ module _ {C : Context} {m h : ℕ} {gates pl w : List ℕ} (A : Standing C m h g
   unfolding isUntouched
   untouched-is = rw (uncounted, level-is) refl
 
-module _ {C : Context} {m K half n at room : ℕ} {gates pl w words : List ℕ} (A : EndAt C m K half n at room gates pl w words) where
+module _ {C : Context} {m K half n : ℕ} {rule : WordRule} {at room : ℕ} {gates pl w words : List ℕ} (A : EndAt C m K half n rule at room gates pl w words) where
   abbrev low : List ℕ
   low = lowWaiting (C .X) pl
 
@@ -146,7 +147,7 @@ module _ {C : Context} {m K half n at room : ℕ} {gates pl w words : List ℕ} 
           let t = keep-in (λ p. not (mem p (treeOf (C .X) pl)) && leb (levelAt (C .X) p) 1) x (C .X .waiting) i in
           (t .0, leb-true (levelAt (C .X) x) 1 (and-true (not (mem x (treeOf (C .X) pl))) (leb (levelAt (C .X) x) 1) (t .1) .1))
 
-      pub write-at : WriteAt C m half k at room R gates pl w1 words
+      pub write-at : WriteAt C m half k rule at room R gates pl w1 words
       write-at = record {
         now = record {
           stands = stands-frame (S .frame) refl refl refl (A .stands);
@@ -161,6 +162,7 @@ module _ {C : Context} {m K half n at room : ℕ} {gates pl w words : List ℕ} 
         size = Q .size;
         few = Q .few;
         inside = rw (Q .now, A .row) (runs-fit K pl);
+        ruled = A .ruled;
         fits = A .fits;
       }
 

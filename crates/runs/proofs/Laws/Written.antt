@@ -1,5 +1,6 @@
 -- Rule 8 record by record, with the words. Assumes nothing.
 use mathlib.Core.Path.{_≡_, refl, sym, ap, _∙_}
+use mathlib.Core.Logic.{_≢_}
 use mathlib.Core.Bool.{Bool, true, false, _||_}
 use mathlib.Core.List.{List, [], _∷_, _++_}
 use Prim.Native.Nat.{ℕ, zero, suc, _+_, _-_, _/_, _<_, _≤_}
@@ -18,11 +19,14 @@ use Rattle.columns.specs.Fields.{PHASE}
 use Rattle.columns.specs.Lists.{span}
 use Rattle.columns.proofs.Lists.Entries.{length-list}
 use Rattle.walk.specs.Stands.{Context}
+use Rattle.runs.specs.declared.WordRule.{WordRule}
+use Rattle.runs.specs.declared.WordRule.the-variants.{EveryRun, NeededRuns}
 use Rattle.runs.specs.declared.puts.Puts.{Puts}
 use Rattle.sparse.specs.declared.Sparse.{Sparse}
 use Rattle.sparse.specs.declared.Runs.{Runs}
 use Rattle.sparse.specs.Runs.{known, listed}
 use Rattle.runs.specs.Puts.{putOf, RunAt, Noted, RecordAt, PutRecord, wordsOf, WriteAt, Writing, Wrote}
+use Rattle.runs.specs.Rule.{ruleOf}
 use Rattle.runs.specs.Laid.{noted}
 use Rattle.sparse.proofs.Laws.Runs.{map-append, listed-length, listed-next, listed-take}
 use Rattle.runs.proofs.Laws.Plain.{row-high}
@@ -30,6 +34,19 @@ use Rattle.runs.proofs.Laws.Laid.{laid-none, laid-length, laid-more}
 use Rattle.runs.proofs.Laws.Puts.{moved-none, moved-then}
 
 -- ---- the test
+
+pub goes-every : (rule : WordRule) (last : Bool) (f left : ℕ) → rule ≡ EveryRun → (last || leb (32 - f) left) ≡ rules.goesOn (ruleOf rule) last f left
+unfolding ruleOf rules.goesOn rules.allows
+goes-every rule last f left e = rw e
+
+pub goes-none : (rule : WordRule) (last : Bool) (f left : ℕ) → rule ≡ NeededRuns → left ≡ 0 → false ≡ rules.goesOn (ruleOf rule) last f left
+unfolding ruleOf rules.goesOn rules.allows
+goes-none rule last f left e z = rw (e, z)
+
+pub goes-some : (rule : WordRule) (last : Bool) (f left : ℕ) → rule ≡ NeededRuns → left ≢ 0 → (last || leb (32 - f) left) ≡ rules.goesOn (ruleOf rule) last f left
+unfolding ruleOf rules.goesOn rules.allows
+goes-some rule last f zero e n = absurd (n refl)
+goes-some rule last f (suc k) e n = rw e
 
 pub enough-rest : (last : Bool) (f left w : ℕ) → last ≡ false → w ≡ f → leb 32 (left + w) ≡ (last || leb (32 - f) left)
 enough-rest last f left w e d = rw e (same-truth (leb 32 (left + w)) (leb (32 - f) left) (λ t. true-leb (32 - f) left (omega (arith, leb-true 32 (left + w) t))) (λ t. true-leb 32 (left + w) (omega (arith, leb-true (32 - f) left t))))
@@ -75,7 +92,7 @@ length-left : (m k next : ℕ) (w : List ℕ) → k ≤ m → length (span PHASE
 unfolding span
 length-left m k next w h = rw (length-drop, length-list PHASE m k w h) refl
 
-module _ {C : Context} {m half k at room : ℕ} {R : Runs} {gates pl w words : List ℕ} (A : WriteAt C m half k at room R gates pl w words) (last : Bool) where
+module _ {C : Context} {m half k : ℕ} {rule : WordRule} {at room : ℕ} {R : Runs} {gates pl w words : List ℕ} (A : WriteAt C m half k rule at room R gates pl w words) (last : Bool) where
   abbrev rs : List rules.Sparse
   rs = listed R
 
@@ -105,14 +122,14 @@ module _ {C : Context} {m half k at room : ℕ} {R : Runs} {gates pl w words : L
       left-is : length (span PHASE m (t .next) k w1) ≡ k - t .next
       left-is = length-left m k (t .next) w1 (B .now .needed .few)
 
-      pub writing-stop : {b : Bool} → b ≡ (last || leb (32 - r .filled) (k - t .next)) → b ≡ false → Wrote C m half k last at room R gates pl w words (record { next = t .next; real = t .real; words = j }) pl1 w1 words1
+      pub writing-stop : {b : Bool} → b ≡ rules.goesOn (ruleOf rule) last (r .filled) (k - t .next) → b ≡ false → Wrote C m half k last at room R gates pl w words (record { next = t .next; real = t .real; words = j }) pl1 w1 words1
       unfolding putOf
       writing-stop e f = record {
         upto = B .upto;
         now = B .now;
         moved = B .moved;
         size = B .size;
-        is = B .same ∙ rw next-is (runs-stop (C .X) last (putOf m k t pl1 w1 (wordsOf half (take j rs))) (known r) (drop (j + 1) rs) (rw left-is (sym e ∙ f)));
+        is = B .same ∙ rw next-is (runs-stop (C .X) last (putOf m k t pl1 w1 (wordsOf half (take j rs))) (known r) (drop (j + 1) rs) (rw (left-is, A .ruled) (sym e ∙ f)));
         wrote = B .wrote;
       }
 
@@ -142,7 +159,7 @@ module _ {C : Context} {m half k at room : ℕ} {R : Runs} {gates pl w words : L
             let e : rules.putCells (C .X) 32 (rowAt (C .X .K) 1 + r .start) (putOf m k t pl1 w1 (wordsOf half (take j rs))) ≡ putOf m k t2 pl2 w2 (wordsOf half (take j rs)) = rw (← A .row, ← is-start) (D .put .is (wordsOf half (take j rs))) in
             rw (e, words-more, A .row) refl
 
-        pub writing-more : {b : Bool} → b ≡ (last || leb (32 - r .filled) (k - t .next)) → b ≡ true → Writing C m half k last at room R gates pl w words t2 (j + 1) pl2 w2 words2
+        pub writing-more : {b : Bool} → b ≡ rules.goesOn (ruleOf rule) last (r .filled) (k - t .next) → b ≡ true → Writing C m half k last at room R gates pl w words t2 (j + 1) pl2 w2 words2
         unfolding putOf
         writing-more e f =
             let z : (half + start) / 32 ≡ word = rw is-start (let y : half + r .start ≡ r .start + half = omega arith in rw y refl) in
@@ -151,6 +168,6 @@ module _ {C : Context} {m half k at room : ℕ} {R : Runs} {gates pl w words : L
               now = D .put .now;
               moved = moved-then (B .moved) (D .put .moved);
               size = D .put .size ∙ B .size;
-              same = B .same ∙ rw next-is (runs-go (C .X) last (putOf m k t pl1 w1 (wordsOf half (take j rs))) (known r) (drop (j + 1) rs) (rw left-is (sym e ∙ f)) ∙ ap (rules.putRuns (C .X) last (drop (j + 1) rs)) run-is);
+              same = B .same ∙ rw next-is (runs-go (C .X) last (putOf m k t pl1 w1 (wordsOf half (take j rs))) (known r) (drop (j + 1) rs) (rw (left-is, A .ruled) (sym e ∙ f)) ∙ ap (rules.putRuns (C .X) last (drop (j + 1) rs)) run-is);
               wrote = rw (words-more, ← z) (noted-more at words room j ((half + start) / 32) (wordsOf half (take j rs)) words1 words2 words-count (A .fits) (B .wrote) (D .note));
             }

@@ -20,6 +20,7 @@ use Rattle.columns.proofs.Area.Frames.{frame-then, frame-more, frame-room}
 use Rattle.columns.proofs.Lists.Entries.{holds-self, holds-frame}
 use Rattle.columns.proofs.Lists.Marks.{marks-frame, marked-frame}
 use Rattle.columns.proofs.Lists.Places.{placed-frame}
+use Rattle.runs.specs.declared.WordRule.{WordRule as Asked}
 use Rattle.walk.specs.Stands.{Context}
 use Rattle.runs.specs.declared.Spent.{Spent}
 use Rattle.runs.specs.Laid.{noted}
@@ -115,13 +116,13 @@ module _ {C : Context} {pl : List ℕ} {m K half o n q at room : ℕ} {s : Spent
 
 -- ---- rule 8 and test 7
 
-module _ {C : Context} {m K half o n q at room : ℕ} {gates pl w words : List ℕ} (A : FinishAt C m K half o n q at room gates pl w words) where
+module _ {C : Context} {m K half o n q : ℕ} {asked : Asked} {at room : ℕ} {gates pl w words : List ℕ} (A : FinishAt C m K half o n q asked at room gates pl w words) where
   -- the same, where the room has another name
-  pub room-as : {r : ℕ} → r ≡ room → FinishAt C m K half o n q at r gates pl w words
+  pub room-as : {r : ℕ} → r ≡ room → FinishAt C m K half o n q asked at r gates pl w words
   room-as e = rw e A
 
-  pub end-at : EndAt C m K half n at room gates pl w words
-  end-at = record { stands = A .stands; begun = A .set .begun; height = A .height; row = A .row; marks = A .marks .zero; spare = A .spare .zero; fits = A .fits }
+  pub end-at : EndAt C m K half n asked at room gates pl w words
+  end-at = record { stands = A .stands; begun = A .set .begun; height = A .height; row = A .row; ruled = A .ruled; marks = A .marks .zero; spare = A .spare .zero; fits = A .fits }
 
   low-needed : (x : ℕ) → In x (neededOf (C .X) pl) → In x (C .X .seen) × (levelAt (C .X) x ≤ 1)
   low-needed x i = (need-listed (C .X) (C .r) (length (C .X .g)) (C .S) pl x i, wanted-low (C .X) pl x (rw (same-needed (C .X) (C .r) (length (C .X .g)) (C .S) (C .M) (A .stands .fair)) at i))

@@ -11,6 +11,7 @@ use Rattle.columns.proofs.Area.Frames.{frame-then, frame-more}
 use Rattle.columns.proofs.Lists.Marks.{marks-frame}
 use Rattle.columns.proofs.Lists.Places.{placed-frame}
 use Rattle.columns.proofs.Lists.Clears.{clear-frame}
+use Rattle.runs.specs.declared.WordRule.{WordRule as Asked}
 use Rattle.walk.specs.Stands.{Context}
 use Rattle.prepare.specs.Prepared.{PrepareAt, Prepared, ForgetAt, Forgot}
 use Rattle.prepare.proofs.Forgets.{forget-at, forget-frame}
@@ -25,7 +26,7 @@ built-is : (C : Context) (room : ℕ) → finish (C .X) room (filledPlan (C .X))
 unfolding built oneStage
 built-is C room = ap (λ (X : Setting). finish X room (filledPlan X)) (C .is)
 
-module _ {C : Context} {m K half n at room : ℕ} {gates pl w words : List ℕ} (A : StageAt C m K half n at room gates pl w words) where
+module _ {C : Context} {m K half n : ℕ} {asked : Asked} {at room : ℕ} {gates pl w words : List ℕ} (A : StageAt C m K half n asked at room gates pl w words) where
   pub stage-prepare : PrepareAt C m n gates w
   stage-prepare = record { begun = A .begun; fresh = A .fresh }
 
@@ -47,11 +48,12 @@ module _ {C : Context} {m K half n at room : ℕ} {gates pl w words : List ℕ} 
     }
 
     module _ {q : ℕ} {pl₁ w₂ : List ℕ} (F : FilledTree C m gates pl w₁ q pl₁ w₂) where
-      pub stage-finish : FinishAt C m K half k n q at room gates pl₁ w₂ words
+      pub stage-finish : FinishAt C m K half k n q asked at room gates pl₁ w₂ words
       stage-finish = record {
         stands = F .stands;
         set = set-kept (F .kept) (P .set);
         needed = F .needed;
+        ruled = A .ruled;
         marks = clear-frame (clear-frame (A .marks) (P .frame) refl (omega arith)) (F .kept .frame) refl (omega arith);
         spare = clear-frame (clear-frame (A .fresh .spare) (P .frame) refl (omega arith)) (F .kept .frame) refl (omega arith);
         tail = λ j h. F .kept .rest (16 * m + j) (omega arith) (λ e. omega arith) (λ e. omega arith) ∙ tail-prepared j ∙ A .tail j (omega arith);

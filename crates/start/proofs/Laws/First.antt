@@ -2,7 +2,7 @@
 use mathlib.Core.Path.{_≡_, refl, ap, _∙_}
 use mathlib.Core.Bool.{Bool, true, false, _&&_}
 use mathlib.Core.List.{List, []}
-use Prim.Native.Nat.{ℕ, _≤_}
+use Prim.Native.Nat.{ℕ, _≤_, _<_}
 use native.Mathlib.Omega.{arith}
 use borrow.Author.Tests.{leb-true}
 use lib.Dec.{leb}
@@ -13,9 +13,10 @@ use Rattle.rules.specs.Graph.{graphOf, pinCount}
 use Rattle.rules.specs.Records.{Group, waitingOf}
 use Rattle.rules.specs.Reservation.{reserved, reservable}
 use Rattle.rules.specs.Checks.{planSized, workSize, areasSized, refusalOf}
-use Rattle.rules.specs.Traversal.{setting}
+use Rattle.rules.specs.Traversal.{neededRuns, setting}
 use Rattle.rules.proofs.Lists.Members.{split, and-true}
-use Rattle.rules.proofs.Demand.{graph}
+use Rattle.rules.proofs.Loops.{rank}
+use Rattle.rules.proofs.Demand.{graph, graph-few}
 use Rattle.rules.proofs.Stage.Depth as depth
 use Rattle.checks.proofs.Laws.Passed.{Passed, passed}
 use Rattle.columns.proofs.Area.Lent.{length-laid, at-laid}
@@ -63,8 +64,8 @@ checked-begin K gates given records plan words counts v e ew =
 -- ---- after it
 
 module _ {K : ℕ} {sized : Bool} {gates given records : List ℕ} (P : Passed K sized gates given records) {n : ℕ} {gs : List Group} {w : List ℕ} (F : First (pinCount gates) n given gs w) where
-  pub first-ready : depth.Ready (graphOf gates) (λ p. p) (waitingOf gs [])
-  first-ready = record { once = F .waiting .once; bounded = λ x i. let h = holds-below (F .waiting .held) x i in (rw (P .pins) h, rw (P .pins) h) }
+  pub first-ready : depth.Ready (graphOf gates) (rank (graphOf gates)) (waitingOf gs [])
+  first-ready = record { once = F .waiting .once; bounded = λ x i. let h : x < length (graphOf gates) = rw (P .pins) (holds-below (F .waiting .held) x i) in (h, graph-few (graphOf gates) (P .valid) x h) }
 
   pub first-low : 6 ≤ K
   unfolding isHeight
@@ -75,9 +76,9 @@ module _ {K : ℕ} {sized : Bool} {gates given records : List ℕ} (P : Passed K
   first-high = leb-true K 13 (and-true (leb 6 K) (leb K 13) (P .height) .1)
 
   unfoldable pub firstContext : Context
-  firstContext = context K (graphOf gates) (λ p. p) (graph (graphOf gates) (P .valid)) first-low first-high (rw (P .pins) (P .few)) given (waitingOf gs []) first-ready
+  firstContext = context neededRuns K (graphOf gates) (rank (graphOf gates)) (graph (graphOf gates) (P .valid)) first-low first-high (rw (P .pins) (P .few)) given (waitingOf gs []) first-ready
 
-  pub first-setting : firstContext .X ≡ setting K (graphOf gates) given (waitingOf gs [])
+  pub first-setting : firstContext .X ≡ setting neededRuns K (graphOf gates) given (waitingOf gs [])
   unfolding firstContext context
   first-setting = refl
 

@@ -12,7 +12,7 @@ use Rattle.rules.specs.Cells.{wordLimit}
 use Rattle.rules.specs.Graph.{Node}
 use Rattle.rules.specs.Records.{Group, waitingOf}
 use Rattle.rules.specs.Reservation.{reserved, reservable}
-use Rattle.rules.specs.Traversal.{setting}
+use Rattle.rules.specs.Traversal.{WordRule, setting}
 use Rattle.rules.specs.Placing.{filledPlan}
 use Rattle.rules.specs.Ending.{oneStage}
 use Rattle.rules.specs.Build.{Stage, Answer, refusal, whole, more, stages, build, wordsOf, refuse, reply}
@@ -40,22 +40,22 @@ unfolding more
 more-is s (refusal n k) ss e = absurd (let z : _≡_ {A = ℕ} 0 1 = cc in omega arith)
 more-is s (whole ts) ss e = (ts, refl, cc)
 
-stages-words : (K : ℕ) (g : List Node) (rooms k : ℕ) (done waiting : List ℕ) (room : ℕ) (ss : List Stage) → stages K g rooms k done waiting room ≡ whole ss → length (wordsOf ss) ≤ room
+stages-words : (rule : WordRule) (K : ℕ) (g : List Node) (rooms k : ℕ) (done waiting : List ℕ) (room : ℕ) (ss : List Stage) → stages rule K g rooms k done waiting room ≡ whole ss → length (wordsOf ss) ≤ room
 unfolding stages wordsOf oneStage
-stages-words K g zero k done [] room ss e = let z : ss ≡ [] = cc in rw z (omega arith)
-stages-words K g zero k done (w ∷ ws) room ss e = absurd (let z : _≡_ {A = ℕ} 0 1 = cc in omega arith)
-stages-words K g (suc r) k done [] room ss e = let z : ss ≡ [] = cc in rw z (omega arith)
-stages-words K g (suc r) k done (w ∷ ws) room ss e = stage-cases (oneStage K g done (w ∷ ws) room)
+stages-words rule K g zero k done [] room ss e = let z : ss ≡ [] = cc in rw z (omega arith)
+stages-words rule K g zero k done (w ∷ ws) room ss e = absurd (let z : _≡_ {A = ℕ} 0 1 = cc in omega arith)
+stages-words rule K g (suc r) k done [] room ss e = let z : ss ≡ [] = cc in rw z (omega arith)
+stages-words rule K g (suc r) k done (w ∷ ws) room ss e = stage-cases (oneStage rule K g done (w ∷ ws) room)
     (λ n d. absurd (let c : refusal n k ≡ whole ss = rw (d, stages) at e in let z : _≡_ {A = ℕ} 0 1 = cc in omega arith))
     (λ plan words realised waiting d.
-    let t = more-is (record { plan = plan; words = words }) (stages K g r (suc k) (realised ++ done) waiting (room - length words)) ss (rw (d, stages) at e) in
-    let f = words-fit (setting K g done (w ∷ ws)) room (filledPlan (setting K g done (w ∷ ws))) plan words realised waiting d in
-    rw (t .2, length-append words (wordsOf (t .0))) (omega (arith, f, stages-words K g r (suc k) (realised ++ done) waiting (room - length words) (t .0) (t .1))))
+    let t = more-is (record { plan = plan; words = words }) (stages rule K g r (suc k) (realised ++ done) waiting (room - length words)) ss (rw (d, stages) at e) in
+    let f = words-fit (setting rule K g done (w ∷ ws)) room (filledPlan (setting rule K g done (w ∷ ws))) plan words realised waiting d in
+    rw (t .2, length-append words (wordsOf (t .0))) (omega (arith, f, stages-words rule K g r (suc k) (realised ++ done) waiting (room - length words) (t .0) (t .1))))
 
-build-words : (K : ℕ) (g : List Node) (given : List ℕ) (gs : List Group) (rooms : ℕ) (ss : List Stage) → build K g given gs rooms ≡ whole ss → length (wordsOf ss) ≤ wordLimit K
+build-words : (rule : WordRule) (K : ℕ) (g : List Node) (given : List ℕ) (gs : List Group) (rooms : ℕ) (ss : List Stage) → build rule K g given gs rooms ≡ whole ss → length (wordsOf ss) ≤ wordLimit K
 unfolding build
-build-words K g given gs rooms ss e = split (reservable K gs)
-    (λ t. let h = stages-words K g rooms 1 given (waitingOf gs []) (wordLimit K - reserved gs) ss (rw (t, build) at e) in omega (arith, h))
+build-words rule K g given gs rooms ss e = split (reservable K gs)
+    (λ t. let h = stages-words rule K g rooms 1 given (waitingOf gs []) (wordLimit K - reserved gs) ss (rw (t, build) at e) in omega (arith, h))
     (λ t. absurd (let c : refusal 6 0 ≡ whole ss = rw (t, build) at e in let z : _≡_ {A = ℕ} 0 1 = cc in omega arith))
 
 words-of : (a : Answer) (l : ℕ) → ((ss : List Stage) → a ≡ whole ss → length (wordsOf ss) ≤ l) → reply a .words ≤ l
@@ -63,6 +63,6 @@ unfolding reply refuse
 words-of (refusal n k) l h = omega arith
 words-of (whole ss) l h = h ss refl
 
-pub words-few : (K : ℕ) → K ≤ 13 → (g : List Node) (given : List ℕ) (gs : List Group) (rooms : ℕ) → reply (build K g given gs rooms) .words ≤ 256
+pub words-few : (rule : WordRule) (K : ℕ) → K ≤ 13 → (g : List Node) (given : List ℕ) (gs : List Group) (rooms : ℕ) → reply (build rule K g given gs rooms) .words ≤ 256
 unfolding wordLimit
-words-few K h g given gs rooms = omega (arith, words-of (build K g given gs rooms) (wordLimit K) (build-words K g given gs rooms), limit-small K h)
+words-few rule K h g given gs rooms = omega (arith, words-of (build rule K g given gs rooms) (wordLimit K) (build-words rule K g given gs rooms), limit-small K h)

@@ -13,6 +13,7 @@ use Rattle.rules.specs.Records.{groupsOf}
 use Rattle.rules.specs.Merge.{splitBy}
 use Rattle.rules.proofs.Lists.Members.{In, every-in, in-nil, in-append-left, in-append-right}
 use Rattle.start.specs.Opening.{Idle}
+use Rattle.rules.specs.Traversal.{WordRule}
 use Rattle.placer.specs.declared.Answer.{Answer}
 use Rattle.unions.specs.Unions.{UnionAt, Leaves, Measured, Built}
 use Rattle.unions.proofs.Laws.Table.{located-same}
@@ -127,5 +128,5 @@ module _ {K m table base i s : ℕ} {gates given records xs ls w : List ℕ} (S 
   pub pair-measured : {r : ℕ} {w′ : List ℕ} → Measured m table gates given records (take (b - a) (drop a xs)) (take (d - c) (drop c xs)) w r w′ → Measured m table gates given records (groupsAt ls xs i) (groupsAt ls xs s) w r w′
   pair-measured M = rw (first-is, second-is) at M
 
-  pub pair-built : {pl ws cs : List ℕ} {r : Answer} {pl′ ws′ cs′ w′ : List ℕ} → Built K m table gates given records (take (b - a) (drop a xs)) (take (d - c) (drop c xs)) pl ws cs w r pl′ ws′ cs′ w′ → Built K m table gates given records (groupsAt ls xs i) (groupsAt ls xs s) pl ws cs w r pl′ ws′ cs′ w′
+  pub pair-built : {rule : WordRule} {pl ws cs : List ℕ} {r : Answer} {pl′ ws′ cs′ w′ : List ℕ} → Built rule K m table gates given records (take (b - a) (drop a xs)) (take (d - c) (drop c xs)) pl ws cs w r pl′ ws′ cs′ w′ → Built rule K m table gates given records (groupsAt ls xs i) (groupsAt ls xs s) pl ws cs w r pl′ ws′ cs′ w′
   pair-built B = rw (first-is, second-is) at B

@@ -12,6 +12,7 @@ use borrow.Author.Tests.{leb-true}
 use Rattle.rules.specs.Cells.{isHeight, rooms, empty}
 use Rattle.rules.specs.Graph.{graphOf}
 use Rattle.rules.specs.Records.{groupsOf}
+use Rattle.rules.specs.Traversal.{WordRule}
 use Rattle.rules.specs.Build as rules
 use Rattle.rules.specs.Merge.{Common, builtOf, named, accepted}
 use Rattle.rules.proofs.Lists.Members.{and-true, true-false}
@@ -76,7 +77,7 @@ module _ {K m table base i j cap : ℕ} {gates given records xs ls pl ws cs w : 
   abbrev both : List ℕ
   both = groupsAt ls xs i ++ groupsAt ls xs j
 
-  module _ {a : Answer} {pl₁ ws₁ cs₁ w₁ : List ℕ} (B : Built K m table gates given records (groupsAt ls xs i) (groupsAt ls xs j) pl ws cs w a pl₁ ws₁ cs₁ w₁) where
+  module _ {rule : WordRule} {a : Answer} {pl₁ ws₁ cs₁ w₁ : List ℕ} (B : Built rule K m table gates given records (groupsAt ls xs i) (groupsAt ls xs j) pl ws cs w a pl₁ ws₁ cs₁ w₁) where
     now : Stands K m table base gates given records xs ls w₁
     now = stands-stays (A .at) (stays-leaves (A .at) (B .leaves))
 
@@ -102,10 +103,10 @@ module _ {K m table base i j cap : ℕ} {gates given records xs ls pl ws cs w : 
 
     -- a merge of these groups
     abbrev J₀ : Common
-    J₀ = record { K = K; g = graphOf gates; given = given; groups = groupsOf records; rooms = rooms K (length pl); cap = cap; ranks = 0 }
+    J₀ = record { rule = rule; K = K; g = graphOf gates; given = given; groups = groupsOf records; rooms = rooms K (length pl); cap = cap; ranks = 0 }
 
-    P₀ : Places K (length pl) gates given records J₀
-    P₀ = record { shares = record { graph = refl; given-same = refl; groups-same = refl }; height = refl; rooms-same = refl }
+    P₀ : Places rule K (length pl) gates given records J₀
+    P₀ = record { shares = record { graph = refl; given-same = refl; groups-same = refl }; rule-same = refl; height = refl; rooms-same = refl }
 
     high : K ≤ 13
     unfolding isHeight
@@ -113,17 +114,17 @@ module _ {K m table base i j cap : ℕ} {gates given records xs ls pl ws cs w : 
 
     words-fit : a .words ≤ 256
     unfolding told builtOf
-    words-fit = let e : a .words ≡ rules.reply (builtOf J₀ both) .words = ap (λ (r : rules.Reply). r .words) (B .reply J₀ P₀) in omega (arith, words-few K high (graphOf gates) given (named J₀ both) (rooms K (length pl)))
+    words-fit = let e : a .words ≡ rules.reply (builtOf J₀ both) .words = ap (λ (r : rules.Reply). r .words) (B .reply J₀ P₀) in omega (arith, words-few rule K high (graphOf gates) given (named J₀ both) (rooms K (length pl)))
 
     -- the test says what the rules say
     module _ {t : Bool} (et : t ≡ (eqb (a .number) 0 && leb (a .stages) cap)) where
-      decides : (J : Common) → Places K (length pl) gates given records J → J .cap ≡ cap → t ≡ accepted (J .cap) (builtOf J both)
+      decides : (J : Common) → Places rule K (length pl) gates given records J → J .cap ≡ cap → t ≡ accepted (J .cap) (builtOf J both)
       unfolding told builtOf named
       decides J S c =
           let e = B .reply J S in
           let x : a .number ≡ rules.reply (builtOf J both) .number = ap (λ (r : rules.Reply). r .number) e in
           let y : a .stages ≡ rules.reply (builtOf J both) .stages = ap (λ (r : rules.Reply). r .stages) e in
-          et ∙ rw (x, y, c) (accepts-is (builtOf J both) (refused-some (J .K) (J .g) (J .given) (named J both) (J .rooms)) cap)
+          et ∙ rw (x, y, c) (accepts-is (builtOf J both) (refused-some (J .rule) (J .K) (J .g) (J .given) (named J both) (J .rooms)) cap)
 
       module _ (yes : t ≡ true) where
         pub try-join : JoinAt m table base i j (a .stages) (a .words) xs ls w₁
@@ -143,7 +144,7 @@ module _ {K m table base i j cap : ℕ} {gates given records xs ls pl ws cs w : 
               words-fit = omega (arith, words-fit);
             }
 
-        pub tried-yes : {xs′ ls′ w₂ : List ℕ} → Joins m table base i j (a .stages) (a .words) xs ls w₁ xs′ ls′ w₂ → Tried K m table base i j cap gates given records xs ls pl w true xs′ ls′ pl₁ ws₁ cs₁ w₂
+        pub tried-yes : {xs′ ls′ w₂ : List ℕ} → Joins m table base i j (a .stages) (a .words) xs ls w₁ xs′ ls′ w₂ → Tried rule K m table base i j cap gates given records xs ls pl w true xs′ ls′ pl₁ ws₁ cs₁ w₂
         unfolding told
         tried-yes {xs′} {ls′} {w₂} U =
             let T = U .taken in
@@ -179,7 +180,7 @@ module _ {K m table base i j cap : ℕ} {gates given records xs ls pl ws cs w : 
       pub try-place : base + (3 * length ls + j) < length w₁
       try-place = omega (arith, now .room, A .second)
 
-      pub tried-no : t ≡ false → Tried K m table base i j cap gates given records xs ls pl w false xs ls pl₁ ws₁ cs₁ (set w₁ (base + (3 * length ls + j)) 1)
+      pub tried-no : t ≡ false → Tried rule K m table base i j cap gates given records xs ls pl w false xs ls pl₁ ws₁ cs₁ (set w₁ (base + (3 * length ls + j)) 1)
       tried-no failed =
           let at : ℕ = base + (3 * length ls + j) in
           let l : length (set w₁ at 1) ≡ length w₁ = length-set w₁ at 1 in

@@ -8,6 +8,7 @@ use lib.Seq.{length-take-le, length-front, getD-take, getD-drop, getD-append-add
 use Rattle.rules.specs.Cells.{empty, isHeight, levelOneSize, rooms}
 use Rattle.rules.specs.Graph.{graphOf}
 use Rattle.rules.specs.Records.{Group, groupsOf}
+use Rattle.rules.specs.Traversal.{WordRule}
 use Rattle.rules.specs.Build as rules
 use Rattle.rules.specs.Merge.{Common, builtOf}
 use Rattle.cells.specs.Answers.{orZero}
@@ -16,6 +17,8 @@ use Rattle.start.specs.declared.Opening.{Opening}
 use Rattle.start.specs.declared.Opening.the-variants.{Over, Ready}
 use Rattle.start.specs.Opening.{First, Begins}
 use Rattle.start.proofs.Laws.Opening.{zeros-idle}
+use Rattle.runs.specs.declared.WordRule.{WordRule as Asked}
+use Rattle.runs.specs.Rule.{ruleOf}
 use Rattle.placer.specs.declared.Answer.{Answer}
 use Rattle.placer.specs.Stages.{Course, StagesAt, Ran}
 use Rattle.placer.specs.Build.{Emptied}
@@ -37,7 +40,7 @@ front-past n xs ys e h j b =
 -- ---- the stages
 
 -- what a merge builds
-built-of : (J : Common) (is : List ℕ) {K size : ℕ} {gates given records : List ℕ} → Places K size gates given records J → builtOf J is ≡ rules.build K (graphOf gates) given (picked (groupsOf records) is) (rooms K size)
+built-of : (J : Common) (is : List ℕ) {rule : WordRule} {K size : ℕ} {gates given records : List ℕ} → Places rule K size gates given records J → builtOf J is ≡ rules.build rule K (graphOf gates) given (picked (groupsOf records) is) (rooms K size)
 unfolding builtOf
 built-of J is S = cc (named-picked J is (S .shares .groups-same))
 
@@ -45,13 +48,13 @@ module _ {K m table : ℕ} {gates given records first second pl ws cs w : List �
   abbrev gs : List Group
   gs = picked (groupsOf records) (first ++ second)
 
-  module _ {limit : ℕ} (lim : limit ≡ length ws) {r : Opening} {w₁ : List ℕ} (B : Begins m limit table given gs w r w₁) where
-    pub try-over : r ≡ Over → Tried K m table gates given records first second pl ws cs w (record { number = 6; stages = 0; words = 0; stage = 0 }) pl ws cs w₁
-    try-over e = let T = build.built-over (A .union .passed) (A .blank) (A .union .pins) lim B e in record { kept = T .kept; past = B .past; reply = T .reply }
+  module _ {limit : ℕ} (lim : limit ≡ length ws) {r : Opening} {w₁ : List ℕ} (B : Begins m limit table given gs w r w₁) (asked : Asked) where
+    pub try-over : r ≡ Over → Tried (ruleOf asked) K m table gates given records first second pl ws cs w (record { number = 6; stages = 0; words = 0; stage = 0; pin = 0 }) pl ws cs w₁
+    try-over e = let T = build.built-over (A .union .passed) (A .blank) (A .union .pins) lim B asked e in record { kept = T .kept; past = B .past; reply = T .reply }
 
     module _ {res n : ℕ} (ready : r ≡ Ready res n) where
       pub try-room : res ≤ limit
-      try-room = build.built-room (A .union .passed) (A .blank) (A .union .pins) lim B ready
+      try-room = build.built-room (A .union .passed) (A .blank) (A .union .pins) lim B asked ready
 
       pub try-part : 16 * m + 512 ≤ length w₁
       try-part = omega (arith, A .union .idle .area .room, B .frame .len)
@@ -65,14 +68,14 @@ module _ {K m table : ℕ} {gates given records first second pl ws cs w : List �
           first-part w₁ part (λ j h. getD-take (16 * m + 512 - 0) w₁ j 0 (omega arith)) (record { small = A .union .idle .area .small; room = omega arith }) (B .first res n ready)
 
       abbrev pub course : Course
-      course = build.course (A .union .passed) (A .blank) (A .union .pins) lim B ready try-first
+      course = build.course (A .union .passed) (A .blank) (A .union .pins) lim B asked ready try-first
 
-      pub try-stages : {h half rms room : ℕ} → h ≡ K → half ≡ orZero (isHeight K) (levelOneSize K) → rms ≡ length cs → room ≡ limit - res → length cs < 2 ^ 63 → StagesAt course m h half rms 0 0 n room gates pl ws cs part
-      try-stages height row all left short = build.built-stages (A .union .passed) (A .blank) (A .union .pins) lim B ready try-first height row all left short
+      pub try-stages : {h half rms room : ℕ} → h ≡ K → half ≡ orZero (isHeight K) (levelOneSize K) → rms ≡ length cs → room ≡ limit - res → length cs < 2 ^ 63 → StagesAt course m h half asked rms 0 0 n room gates pl ws cs part
+      try-stages height row all left short = build.built-stages (A .union .passed) (A .blank) (A .union .pins) lim B asked ready try-first height row all left short
 
-      pub try-ran : {a : Answer} {pl′ ws′ cs′ v′ : List ℕ} → Ran course pl ws cs part a pl′ ws′ cs′ v′ → Tried K m table gates given records first second pl ws cs w a pl′ ws′ cs′ (v′ ++ drop (16 * m + 512 - 0) w₁)
+      pub try-ran : {a : Answer} {pl′ ws′ cs′ v′ : List ℕ} → Ran course pl ws cs part a pl′ ws′ cs′ v′ → Tried (ruleOf asked) K m table gates given records first second pl ws cs w a pl′ ws′ cs′ (v′ ++ drop (16 * m + 512 - 0) w₁)
       try-ran {v′ = v′} R =
-          let T = build.built-ran (A .union .passed) (A .blank) (A .union .pins) lim B ready try-first R in
+          let T = build.built-ran (A .union .passed) (A .blank) (A .union .pins) lim B asked ready try-first R in
           record {
             kept = record { plan = T .kept .plan; words = T .kept .words; counts = T .kept .counts; work = length-front w₁ v′ (16 * m + 512 - 0) (T .kept .work) ∙ B .frame .len };
             past = λ j h. front-past (16 * m + 512 - 0) w₁ v′ (T .kept .work) (omega (arith, try-part)) j (omega (arith, A .union .room)) ∙ B .past j h;
@@ -81,7 +84,7 @@ module _ {K m table : ℕ} {gates given records first second pl ws cs w : List �
 
   -- ---- everything is emptied again
 
-  module _ {a : Answer} {pl₁ ws₁ cs₁ w₁ : List ℕ} (T : Tried K m table gates given records first second pl ws cs w a pl₁ ws₁ cs₁ w₁) where
+  module _ {rule : WordRule} {a : Answer} {pl₁ ws₁ cs₁ w₁ : List ℕ} (T : Tried rule K m table gates given records first second pl ws cs w a pl₁ ws₁ cs₁ w₁) where
     pub built-part : 16 * m + 512 ≤ length w₁
     built-part = omega (arith, A .union .idle .area .room, T .kept .work)
 
@@ -101,7 +104,7 @@ module _ {K m table : ℕ} {gates given records first second pl ws cs w : List �
       zero : (j : ℕ) → j < 16 * m + RECORDS → getD w₂ j 0 ≡ 0
       zero j h = List·getD-append v₂ (drop (16 * m + 512 - 0) w₁) 0 j (omega (arith, front, front-same)) ∙ (rw (E .work) (getD-replicate (length (take (16 * m + 512 - 0) w₁)) j 0 0 (omega (arith, front))))
 
-      pub built : Built K m table gates given records first second pl ws cs w a pl₂ ws₂ cs₂ w₂
+      pub built : Built rule K m table gates given records first second pl ws cs w a pl₂ ws₂ cs₂ w₂
       built = record {
         leaves = record {
           len = len;

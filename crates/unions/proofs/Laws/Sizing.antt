@@ -13,7 +13,7 @@ use lib.Seq.{drop-cons}
 use Rattle.rules.specs.Lists.{mem}
 use Rattle.rules.specs.Graph.{graphOf, pinCount}
 use Rattle.rules.specs.Records.{Group, groupsOf, waitingOf}
-use Rattle.rules.specs.Traversal.{Setting, setting, traverse}
+use Rattle.rules.specs.Traversal.{neededRuns, Setting, setting, traverse}
 use Rattle.rules.specs.Merge.{Common, sizeFor}
 use Rattle.rules.proofs.Lists.Members.{Out, eqb-same, in-getD}
 use Rattle.columns.specs.Fields.{ORDER, DONE, WAITING, LISTED, STACK, PHASE, PLACE}
@@ -163,7 +163,7 @@ module _ {m table : ℕ} {gates given records first second w : List ℕ} (A : Si
       abbrev pub unionContext : Context
       unionContext = firstContext (A .at .passed) size-first
 
-      set-is : unionContext .X ≡ setting (A .K) (graphOf gates) given (waitingOf gs [])
+      set-is : unionContext .X ≡ setting neededRuns (A .K) (graphOf gates) given (waitingOf gs [])
       set-is = first-setting (A .at .passed) size-first
 
       done-is : unionContext .X .done ≡ given

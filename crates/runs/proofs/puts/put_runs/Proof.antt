@@ -9,10 +9,10 @@ use Rattle.runs.proofs.puts.put_runs.Statement.{statement}
 use Rattle.runs.proofs.puts.put_runs.Tie as tie
 
 abbrev Inv-loop : tie.InvT-loop
-Inv-loop gates stage₀ work₀ words₀ m half k last at room runs n t₀ j₀ stage work words t j = Every (λ C. WriteAt C m half k at room runs gates stage₀ work₀ words₀) (λ C. Writing C m half k last at room runs gates stage₀ work₀ words₀ t j stage work words)
+Inv-loop gates stage₀ work₀ words₀ m half k every last at room runs n t₀ j₀ stage work words t j = Every (λ C. WriteAt C m half k every at room runs gates stage₀ work₀ words₀) (λ C. Writing C m half k last at room runs gates stage₀ work₀ words₀ t j stage work words)
 
 abbrev μ-loop : tie.MeasureT-loop
-μ-loop gates stage₀ work₀ words₀ m half k last at room runs n t₀ j₀ stage work words t j = n - j
+μ-loop gates stage₀ work₀ words₀ m half k every last at room runs n t₀ j₀ stage work words t j = n - j
 
 loop-holds : tie.Need-loop-holds Inv-loop μ-loop
 loop-holds c = record { all = λ C A. writing-none A _ }
@@ -23,11 +23,11 @@ mul-r c = omega (arith, c .before .before .before .before .before .before .pre .
 element-copy-out-r : tie.Need-element-copy-out-r Inv-loop μ-loop
 element-copy-out-r c = omega (arith, c .before .before .before .before .before .before .pre .at .few)
 
-sub-enough : tie.Need-sub-enough Inv-loop μ-loop
-sub-enough c = c .before .before .before .loop .inv .all _ (c .before .before .before .before .before .before .before .before .pre .at) .now .upto
+sub-goes-on : tie.Need-sub-goes-on Inv-loop μ-loop
+sub-goes-on c = c .before .before .before .loop .inv .all _ (c .before .before .before .before .before .before .before .before .pre .at) .now .upto
 
-enough-requires : tie.Need-enough-requires Inv-loop μ-loop
-enough-requires c κs = let B = c .before .before .before .loop .inv .all _ (c .before .before .before .before .before .before .before .before .pre .at) in omega (arith, B .now .needed .few, B .now .stands .base .area .small)
+goes-on-requires : tie.Need-goes-on-requires Inv-loop μ-loop
+goes-on-requires c κs = let B = c .before .before .before .loop .inv .all _ (c .before .before .before .before .before .before .before .before .pre .at) in omega (arith, B .now .needed .few, B .now .stands .base .area .small)
 
 wide-requires : tie.Need-wide-requires Inv-loop μ-loop
 wide-requires c κs = search needs
@@ -42,7 +42,7 @@ loop-less : tie.Need-loop-less Inv-loop μ-loop
 loop-less c = search needs
 
 loop-again : tie.Need-loop-again Inv-loop μ-loop
-loop-again c = record { all = λ C A. writing-more A _ (c .before .before .before .before .before .before .before .before .before .before .before .before .before .before .before .before .loop .inv .all C A) (c .before .before .before .before .before .before .before .before .before .before .before .before .before .before .before .loop-test .taken) _ (c .before .before .before .before .before .before .before .wide .ensures) (c .before .before .before .before .before .before .put-record .ensures .all C (writing-record A _ (c .before .before .before .before .before .before .before .before .before .before .before .before .before .before .before .before .loop .inv .all C A) (c .before .before .before .before .before .before .before .before .before .before .before .before .before .before .before .loop-test .taken) _ (c .before .before .before .before .before .before .before .wide .ensures))) (c .before .before .before .before .before .before .before .before .before .before .before .before .enough .ensures) (c .before .before .before .before .before .before .before .before .before .before .before .if1 .taken) }
+loop-again c = record { all = λ C A. writing-more A _ (c .before .before .before .before .before .before .before .before .before .before .before .before .before .before .before .before .loop .inv .all C A) (c .before .before .before .before .before .before .before .before .before .before .before .before .before .before .before .loop-test .taken) _ (c .before .before .before .before .before .before .before .wide .ensures) (c .before .before .before .before .before .before .put-record .ensures .all C (writing-record A _ (c .before .before .before .before .before .before .before .before .before .before .before .before .before .before .before .before .loop .inv .all C A) (c .before .before .before .before .before .before .before .before .before .before .before .before .before .before .before .loop-test .taken) _ (c .before .before .before .before .before .before .before .wide .ensures))) (c .before .before .before .before .before .before .before .before .before .before .before .before .goes-on .ensures) (c .before .before .before .before .before .before .before .before .before .before .before .if1 .taken) }
 
 same-length : tie.Need-same-length Inv-loop μ-loop
 same-length c = c .before .before .before .before .before .loop .inv .all _ (c .before .before .before .before .before .before .before .before .before .before .pre .at) .size
@@ -54,7 +54,7 @@ same-length-3 : tie.Need-same-length-3 Inv-loop μ-loop
 same-length-3 c = writing-length (c .before .before .before .before .before .before .before .before .before .before .pre .at) _ (c .before .before .before .before .before .loop .inv .all _ (c .before .before .before .before .before .before .before .before .before .before .pre .at))
 
 returns : tie.Need-returns Inv-loop μ-loop
-returns c = record { all = λ C A. writing-stop A _ (c .before .before .before .before .before .loop .inv .all C A) (c .before .before .before .before .loop-test .taken) _ (c .before .enough .ensures) (c .if1 .left) }
+returns c = record { all = λ C A. writing-stop A _ (c .before .before .before .before .before .loop .inv .all C A) (c .before .before .before .before .loop-test .taken) _ (c .before .goes-on .ensures) (c .if1 .left) }
 
 same-length-4 : tie.Need-same-length-4 Inv-loop μ-loop
 same-length-4 c = c .before .loop .inv .all _ (c .before .before .before .before .before .before .pre .at) .size
@@ -77,8 +77,8 @@ put-runs-spec =
     loop-holds
     mul-r
     element-copy-out-r
-    sub-enough
-    enough-requires
+    sub-goes-on
+    goes-on-requires
     wide-requires
     put-record-requires
     add-j
