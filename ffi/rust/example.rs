@@ -1,5 +1,6 @@
 //! Two of the scope document's bench examples at height 6. A build: pins 1 to 4 are leaves, 5 = (2, 4), 6 = (6, 9), 7 = (10, 12), output 14,
 //! under each word rule. A merge: the leaf outputs 2 and 4, a partition each, no extra stages.
+#[allow(dead_code)] // not all of it is shown
 #[path = "placer.rs"]
 mod placer;
 

@@ -99,8 +99,8 @@ impl Case {
         lent
     }
 
-    /// In the form of PROTOCOL.md, with what it has no words for as remarks.
-    pub fn text(&self, name: &str, stages: usize) -> String {
+    /// In the form of PROTOCOL.md, up to what is asked for.
+    pub fn lines(&self, name: &str) -> String {
         let mut out = format!("case {name} {}\npins {}\n", self.height, self.pins());
         for (pin, gate) in self.gates.chunks(2).enumerate() {
             if gate.iter().any(|&literal| literal != EMPTY) {
@@ -113,9 +113,14 @@ impl Case {
         for record in self.split() {
             out += &format!("rec {}\n", joined(&record));
         }
+        out
+    }
+
+    /// In the form of PROTOCOL.md, with what it has no words for as remarks.
+    pub fn text(&self, name: &str, stages: usize) -> String {
         let [plan, words, counts, work] = self.sizes(stages);
-        out + &format!("build\n# lent: plan {plan} words {words} counts {counts} work {work}; gates {} numbers, old {}\nend\n",
-                       self.gates.len(), self.old)
+        self.lines(name) + &format!("build\n# lent: plan {plan} words {words} counts {counts} work {work}; gates {} numbers, old {}\nend\n",
+                                    self.gates.len(), self.old)
     }
 }
 

@@ -85,6 +85,12 @@ fn library(rule: WordRule, merge: &Merge, before: &Lent) -> (Merged, Lent) {
     (answer, after)
 }
 
+/// The library's answer to a merge in so many rooms, with the indices, lengths and stages that it leaves.
+pub fn merged(rule: WordRule, merge: &Merge, rooms: usize) -> (Merged, [Vec<u32>; 3]) {
+    let (answer, mut after) = library(rule, merge, &filled(merge, merge.sizes(rooms)));
+    (answer, [0, 1, 2].map(|area| inner(&mut after[area]).to_vec()))
+}
+
 /// The list and the areas with random numbers in and around them.
 fn filled(merge: &Merge, lent: Sizes) -> Lent {
     let mut r = Random::new(merge.case.old);

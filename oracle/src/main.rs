@@ -13,6 +13,7 @@ mod placer;
 mod published;
 mod random;
 mod record;
+mod record_needed;
 mod rules;
 mod run;
 mod shrink;

@@ -282,10 +282,8 @@ impl Merge {
 
     /// In the form of PROTOCOL.md, with the areas as a remark, and a list that the partitions don't give.
     pub fn text(&self, name: &str, lent: Option<Sizes>) -> String {
-        let build = self.case.text(name, 1);
-        let lines = build[..build.find("build\n").unwrap()].to_string();
         let line = |part: &Vec<u32>| format!("part {}", joined(part)).trim_end().to_string() + "\n";
-        let mut out = lines + &format!("merge {}\n", self.extra) + &self.parts.iter().map(line).collect::<String>();
+        let mut out = self.case.lines(name) + &format!("merge {}\n", self.extra) + &self.parts.iter().map(line).collect::<String>();
         if let Some([plan, words, counts, work]) = lent {
             let (indices, lengths, stages) = self.list();
             out += &format!("# lent: plan {plan} words {words} counts {counts} work {work}; gates {} numbers, old {}\n# list: {} indices, lengths {}, {stages} stage numbers\n",

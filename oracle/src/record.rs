@@ -5,6 +5,7 @@ use crate::merge::{self, Answer, Merge, Ruled};
 use crate::placer::WordRule;
 use crate::published::{self, Outcome, Part, Stage};
 use crate::random::{self, Random};
+use crate::record_needed;
 use std::collections::HashMap;
 use std::{fs, io, path::Path};
 
@@ -296,5 +297,6 @@ fn write(folder: &Path, texts: &Path) -> io::Result<()> {
 
 pub fn record(vectors: &str, texts: &str) -> bool {
     write(Path::new(vectors), Path::new(texts)).expect(vectors);
+    record_needed::write(Path::new(texts)).expect(texts);
     true
 }

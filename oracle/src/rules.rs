@@ -11,14 +11,14 @@ use std::time::Duration;
 const SHRINKING: Duration = Duration::from_secs(120);
 
 /// A build's answer and what it wrote.
-struct Built {
-    answer: Answer,
-    plan: Vec<u32>,
-    words: Vec<u32>,
-    counts: Vec<u32>,
+pub struct Built {
+    pub answer: Answer,
+    pub plan: Vec<u32>,
+    pub words: Vec<u32>,
+    pub counts: Vec<u32>,
 }
 
-fn built(rule: WordRule, case: &Case, rooms: usize) -> Built {
+pub fn built(rule: WordRule, case: &Case, rooms: usize) -> Built {
     let (mut plan, mut words, mut counts) = (vec![1; rooms * case.stage_size()], vec![1; case.word_limit()], vec![1; rooms]);
     let mut work = vec![1; case.work_size()];
     let areas = Areas { plan: &mut plan, words: &mut words, counts: &mut counts, work: &mut work };
