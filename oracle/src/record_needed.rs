@@ -24,21 +24,28 @@ const MOST_NUMBERS: usize = 320;
 const MERGE_PINS: usize = 80;
 const MERGE_RECORDS: usize = 24;
 
-/// What builds are recorded for, and how many of each height. Half of them have their pins shuffled.
-const BUILDS: [(&str, usize); 8] = [
-    ("refused with 6", 4), ("refused with 7", 6), ("refused with 8", 4), ("one stage", 4), ("several stages", 6),
-    ("other words by the old rule", 6), ("more stages by the old rule", 4), ("refused by the old rule alone", 6),
+/// How many builds of each height are recorded for what. Half of each have their pins shuffled.
+const BUILDS: [usize; 8] = [
+    4, 6, 4, // refused with 6, 7 and 8
+    4, 6, // one stage and several, the same by both rules
+    6, // other words or cells by the old rule, in as many stages
+    4, // more stages by the old rule
+    6, // refused by the old rule alone
 ];
 
 /// The same of merges.
-const MERGES: [(&str, usize); 4] = [("refused with 6", 2), ("refused with 7 or 8", 2), ("unions that fail", 2), ("another answer by the old rule", 4)];
+const MERGES: [usize; 4] = [
+    2, 2, // refused with 6, and with 7 or 8
+    2, // unions that fail
+    4, // another answer by the old rule
+];
 
 /// How many are still to come of each height and kind, in order and shuffled.
 struct Wanted<const N: usize>([[[usize; 2]; N]; HEIGHTS.len()]);
 
 impl<const N: usize> Wanted<N> {
-    fn new(kinds: [(&str, usize); N]) -> Self {
-        Wanted([kinds.map(|(_, many)| [many / 2; 2]); HEIGHTS.len()])
+    fn new(kinds: [usize; N]) -> Self {
+        Wanted([kinds.map(|many| [many / 2; 2]); HEIGHTS.len()])
     }
 
     /// Whether one of this kind is taken at a turn; then fewer are to come.
