@@ -1,4 +1,4 @@
-//! Recorded answers of the Rust for crates/vectors, as numbers of 16 bits: builds, then merges; these in the text of PROTOCOL.md too.
+//! Recorded answers of the Rust for crates/try_vectors, as numbers of 16 bits: builds, then merges; these in the text of PROTOCOL.md too.
 use crate::case::{Case, EMPTY};
 use crate::check;
 use crate::merge::{self, Answer, Merge, Ruled};
@@ -11,7 +11,7 @@ use std::{fs, io, path::Path};
 
 const SEED: u64 = 2026;
 
-/// What crates/vectors has room for.
+/// What crates/try_vectors has room for.
 const MOST_PINS: usize = 1023;
 const MOST_RECORDS: usize = 1024;
 const MOST_GIVEN: usize = 256;
@@ -39,7 +39,7 @@ const KIND: u16 = 16; // times 1, 2, 4, 8 for the record kinds 1 to 4
 const MARKS: [&str; 8] = ["pins taken back", "a word twice in a stage", "several stages", "given pins",
                           "with outputs", "with flip-flops", "with memories", "with staged pins"];
 
-/// A build or a merge as crates/vectors reads it.
+/// A build or a merge as crates/try_vectors reads it.
 struct Recorded {
     height: u32,
     number: u32,
@@ -180,7 +180,7 @@ fn merge_marks(merge: &Merge, ruled: &Ruled) -> u16 {
     has.iter().enumerate().map(|(bit, &on)| (on as u16) << bit).sum()
 }
 
-/// A merge in the form that crates/vectors reads; it has room for all that are recorded.
+/// A merge in the form that crates/try_vectors reads; it has room for all that are recorded.
 fn recorded(merge: &Merge, ruled: &Ruled) -> Recorded {
     let (case, rooms) = (&merge.case, ruled.deepest);
     let (indices, lengths, _) = merge.list();

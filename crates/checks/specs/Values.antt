@@ -7,7 +7,7 @@ use lib.Dec.{leb, eqb}
 use lib.ListN.{length, drop}
 use Rattle.rules.specs.Graph.{gate, graphOf, pinCount}
 use Rattle.rules.specs.Checks.{nodesRight, graphRight, loopsRight, pinShown}
-use Rattle.loops.specs.Marks.{Lower}
+use Rattle.graph_loops.specs.Marks.{Lower}
 use Rattle.checks.specs.declared.Verdict.{Verdict}
 
 -- may literal l be an operand among n pins: is a gate of l alone right there

@@ -6,7 +6,7 @@ use graph::node_of;
 use graph::pin_count;
 use graph::pin_of;
 use graph::wide;
-use loops::loop_pin;
+use graph_loops::loop_pin;
 use records::endpoint;
 use records::size_at;
 use sizes::areas_sized;

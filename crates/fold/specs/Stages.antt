@@ -9,8 +9,8 @@ use Rattle.rules.specs.Cells.{isHeight}
 use Rattle.rules.specs.Graph.{Node, pinCount}
 use Rattle.rules.specs.Fold.{stageBits, lowest, loadFrom, foldBits}
 use Rattle.rules.proofs.Lists.Members.{In}
-use Rattle.folding.specs.Bits.{StageAt}
-use Rattle.folding.specs.Loads.{held, AreaAt, FirstIn}
+use Rattle.fold_stage.specs.Bits.{StageAt}
+use Rattle.fold_stage.specs.Loads.{held, AreaAt, FirstIn}
 
 -- the numbers behind the bits are 0 but for pins that stand above level 0 of some cells
 pub record Only (K : ℕ) (cells : List ℕ) (L m : ℕ) (w : List ℕ) : Type 0 where

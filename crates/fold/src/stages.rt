@@ -1,11 +1,11 @@
 // Stage after stage. From `looks` on, behind the bits, stands what the stage at hand loads: a number a pin.
 use cells::Height;
-use folding::bits::fold_up;
-use folding::loads::first_loads;
-use folding::loads::forget;
-use folding::loads::load_row;
-use folding::loads::no_loads;
-use folding::loads::remember;
+use fold_stage::bits::fold_up;
+use fold_stage::loads::first_loads;
+use fold_stage::loads::forget;
+use fold_stage::loads::load_row;
+use fold_stage::loads::no_loads;
+use fold_stage::loads::remember;
 use graph::pin_count;
 ghost use mathlib.Core.Path.{_≡_};
 ghost use mathlib.Core.List.{_++_};
@@ -14,7 +14,7 @@ ghost use lib.ListN.{length, take, replicate};
 ghost use Rattle.rules.specs.Lists.{laidOver};
 ghost use Rattle.rules.specs.Graph.{graphOf, pinCount};
 ghost use Rattle.rules.specs.Fold.{firstLoad, foldBits};
-ghost use Rattle.folding.specs.Loads.{held, AreaAt, StageFolds};
+ghost use Rattle.fold_stage.specs.Loads.{held, AreaAt, StageFolds};
 ghost use Rattle.fold.specs.Stages.{OneAt, NextAt, Folds, PlanAt, InputAt, StepAt, stageFrom, AllFold};
 
 // The bits of the stage at `at`.

@@ -7,7 +7,7 @@ use lib.ListN.{length, take, drop, getD}
 use Rattle.rules.specs.Lists.{laidOver, sum}
 use Rattle.rules.specs.Cells.{isHeight, stageSize, rooms}
 use Rattle.rules.specs.Listing.{listing, refusedLine}
-use Rattle.lines.specs.Stages.{stagesIn}
+use Rattle.listing_lines.specs.Stages.{stagesIn}
 
 -- what is answered, and the area for the text
 pub record Outcome : Type 0 where

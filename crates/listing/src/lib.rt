@@ -2,9 +2,9 @@
 // first where it changes nothing, which tells its length, so that an area too short for it stays as it is.
 use cells::Height;
 use cells::is_height;
-use lines::refused_line;
-use lines::whole;
-use lines::wide;
+use listing_lines::refused_line;
+use listing_lines::whole;
+use listing_lines::wide;
 ghost use mathlib.Core.Path.{_≡_};
 ghost use mathlib.Core.Bool.{true};
 ghost use Prim.Native.Nat.{_≤_};
@@ -13,7 +13,7 @@ ghost use lib.ListN.{length, take};
 ghost use Rattle.rules.specs.Lists.{sum};
 ghost use Rattle.rules.specs.Cells.{isHeight};
 ghost use Rattle.rules.specs.Listing.{listing, refusedLine};
-ghost use Rattle.lines.specs.Stages.{stagesIn, Holds};
+ghost use Rattle.listing_lines.specs.Stages.{stagesIn, Holds};
 ghost use Rattle.listing.specs.Listing.{outcome, written, hold, listed, answered};
 
 // 0 and the length of the text; 1 for a bad height, 2 for an area of the wrong size, with length 0.

@@ -9,8 +9,8 @@ use Rattle.rules.specs.Lists.{laidOver}
 use Rattle.rules.specs.Traversal.{WordRule}
 use Rattle.rules.specs.Build.{Areas}
 use Rattle.rules.specs.Merge.{MergeReply, GroupList, refuseMerge, merger}
-use Rattle.runs.specs.Rule.{Rule?, unknown, named}
-use Rattle.mergechecks.specs.Values.{groupList, areas}
+use Rattle.stage_runs.specs.Rule.{Rule?, unknown, named}
+use Rattle.merge_checks.specs.Values.{groupList, areas}
 
 pub record Entry : Type 0 where
   pub number : ℕ

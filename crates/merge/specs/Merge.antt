@@ -10,8 +10,8 @@ use Rattle.rules.specs.Traversal.{WordRule}
 use Rattle.rules.specs.Merge.{MergeReply, MergeOutcome, mergeReply, groupListAfter, mergeAnswerOf, mergeWorkSize, mergeable}
 use Rattle.checks.proofs.Laws.Passed.{Passed}
 use Rattle.placer.specs.Build.{Blank}
-use Rattle.mergechecks.specs.Values.{groupList, areas}
-use Rattle.trials.specs.Ranks.{Stands}
+use Rattle.merge_checks.specs.Values.{groupList, areas}
+use Rattle.merge_trials.specs.Ranks.{Stands}
 use Rattle.merge.specs.declared.Answer.{Answer}
 
 -- an answer as the scope document has it

@@ -2,15 +2,15 @@
 use crate::Answer;
 use crate::merge_by;
 use columns::wide;
-use runs::MaybeRule;
-use runs::WordRule;
-use runs::rule_named;
+use stage_runs::MaybeRule;
+use stage_runs::WordRule;
+use stage_runs::rule_named;
 ghost use mathlib.Core.Path.{_≡_};
 ghost use Prim.Native.Nat.{_≤_};
 ghost use lib.ListN.{length};
 ghost use Rattle.rules.specs.Traversal.{neededRuns};
-ghost use Rattle.runs.specs.Rule.{ruleOf, ruleFor};
-ghost use Rattle.mergechecks.specs.Values.{groupList, areas};
+ghost use Rattle.stage_runs.specs.Rule.{ruleOf, ruleFor};
+ghost use Rattle.merge_checks.specs.Values.{groupList, areas};
 ghost use Rattle.merge.specs.Merge.{told};
 ghost use Rattle.merge.specs.Entry.{entry, written, entered, NoRule, enteredBy};
 

@@ -1,20 +1,20 @@
 // Partitions merged while their stages stay few: `process_partitions`, with every area lent.
 use cells::Height;
 use graph::pin_count;
-use layout::lay_out;
-use mergechecks::merge_refusal;
-use originals::Originals;
-use originals::build_originals;
+use merge_checks::merge_refusal;
+use merge_layout::lay_out;
+use merge_originals::Originals;
+use merge_originals::build_originals;
+use merge_rounds::merge_slots;
+use merge_slots::begun;
+use merge_unions::table::locate;
 use placer::areas::empty_all;
-use rounds::merge_slots;
-use runs::WordRule;
-use slots::begun;
-use unions::table::locate;
+use stage_runs::WordRule;
 ghost use mathlib.Core.Path.{_≡_};
 ghost use Rattle.rules.specs.Traversal.{neededRuns};
 ghost use Rattle.rules.specs.Merge.{merger};
-ghost use Rattle.runs.specs.Rule.{ruleOf};
-ghost use Rattle.mergechecks.specs.Values.{groupList, areas};
+ghost use Rattle.stage_runs.specs.Rule.{ruleOf};
+ghost use Rattle.merge_checks.specs.Values.{groupList, areas};
 ghost use Rattle.merge.specs.Merge.{JoinAt, Joined, PlaceAt, Placed, refusedFor, outcome};
 
 mod entry;

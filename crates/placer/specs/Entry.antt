@@ -8,7 +8,7 @@ use lib.ListN.{length}
 use Rattle.rules.specs.Lists.{laidOver}
 use Rattle.rules.specs.Traversal.{WordRule}
 use Rattle.rules.specs.Build as rules
-use Rattle.runs.specs.Rule.{Rule?, unknown, named}
+use Rattle.stage_runs.specs.Rule.{Rule?, unknown, named}
 use Rattle.placer.specs.Answers.{areas}
 
 pub record Entry : Type 0 where

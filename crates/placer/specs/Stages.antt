@@ -14,9 +14,9 @@ use Rattle.rules.proofs.Stage.Depth.{Ready}
 use Rattle.columns.specs.Fields.{DONE, WAITING, CELLS, PLACE, MARK}
 use Rattle.columns.specs.Area.{Room}
 use Rattle.columns.specs.Lists.{Marks, Clear, Placed}
-use Rattle.runs.specs.declared.WordRule.{WordRule as Asked}
-use Rattle.runs.specs.Rule.{ruleOf}
-use Rattle.walk.specs.Stands.{Fresh}
+use Rattle.stage_runs.specs.declared.WordRule.{WordRule as Asked}
+use Rattle.stage_runs.specs.Rule.{ruleOf}
+use Rattle.stage_walk.specs.Stands.{Fresh}
 use Rattle.placer.specs.declared.Answer.{Answer}
 use Rattle.placer.specs.Answers.{told}
 

@@ -2,14 +2,14 @@
 use crate::Answer;
 use crate::build_by;
 use columns::wide;
-use runs::MaybeRule;
-use runs::WordRule;
-use runs::rule_named;
+use stage_runs::MaybeRule;
+use stage_runs::WordRule;
+use stage_runs::rule_named;
 ghost use mathlib.Core.Path.{_≡_};
 ghost use Prim.Native.Nat.{_≤_};
 ghost use lib.ListN.{length};
 ghost use Rattle.rules.specs.Traversal.{neededRuns};
-ghost use Rattle.runs.specs.Rule.{ruleOf, ruleFor};
+ghost use Rattle.stage_runs.specs.Rule.{ruleOf, ruleFor};
 ghost use Rattle.placer.specs.Answers.{told, areas};
 ghost use Rattle.placer.specs.Entry.{entry, written, entered, NoRule, enteredBy};
 

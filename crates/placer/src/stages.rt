@@ -1,11 +1,11 @@
 // Stage after stage, until no pin waits or one is refused.
 use crate::Answer;
-use runs::WordRule;
 use stage::Outcome;
 use stage::build_one_stage;
-use tally::Tally;
-use tally::spend;
-ghost use Rattle.tally.specs.Spending.{room, Counted};
+use stage_runs::WordRule;
+use stage_tally::Tally;
+use stage_tally::spend;
+ghost use Rattle.stage_tally.specs.Spending.{room, Counted};
 ghost use Rattle.placer.specs.Stages.{Some, Every, OneAt, One, StagesAt, Ran};
 
 // Stage k + 1, in its own part of the plan, for n waiting pins and the words that the tally leaves.

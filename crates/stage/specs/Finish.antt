@@ -13,12 +13,12 @@ use Rattle.rules.proofs.Tree.Fair.{Fair}
 use Rattle.columns.specs.Fields.{ORDER, DONE, WAITING, CELLS, NEEDED, STACK, PHASE, PLACE, MARK, SPARE, TAIL}
 use Rattle.columns.specs.Area.{Room, Frame}
 use Rattle.columns.specs.Lists.{Holds, Marks, Clear, Marked, Placed}
-use Rattle.runs.specs.declared.WordRule.{WordRule as Asked}
-use Rattle.walk.specs.Stands.{Context, Set, Tally}
-use Rattle.tree.specs.Bits.{Standing}
-use Rattle.runs.specs.Rule.{ruleOf}
-use Rattle.runs.specs.declared.Spent.{Spent}
-use Rattle.ending.specs.declared.last.Kept.{Kept}
+use Rattle.stage_runs.specs.declared.WordRule.{WordRule as Asked}
+use Rattle.stage_walk.specs.Stands.{Context, Set, Tally}
+use Rattle.stage_tree.specs.Bits.{Standing}
+use Rattle.stage_runs.specs.Rule.{ruleOf}
+use Rattle.stage_runs.specs.declared.Spent.{Spent}
+use Rattle.stage_ending.specs.declared.last.Kept.{Kept}
 use Rattle.stage.specs.declared.finish.Outcome.{Outcome}
 
 -- the plan of rules 2 to 7 stands; o pins are listed, n wait, q are needed

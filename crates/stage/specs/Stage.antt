@@ -8,9 +8,9 @@ use Rattle.rules.specs.Lean as lean
 use Rattle.rules.specs.Ending.{Stage?, refused, oneStage}
 use Rattle.columns.specs.Fields.{ORDER, DONE, LEVEL, WAITING, CELLS, RANKED, STARTS, ENDS, REVERSE, NEEDED, LISTED, STACK, PHASE, PLACE, MARK, SPARE, TAIL}
 use Rattle.columns.specs.Lists.{Clear}
-use Rattle.runs.specs.declared.WordRule.{WordRule as Asked}
-use Rattle.walk.specs.Stands.{Context, Begun, Fresh}
-use Rattle.runs.specs.Rule.{ruleOf}
+use Rattle.stage_runs.specs.declared.WordRule.{WordRule as Asked}
+use Rattle.stage_walk.specs.Stands.{Context, Begun, Fresh}
+use Rattle.stage_runs.specs.Rule.{ruleOf}
 use Rattle.stage.specs.declared.finish.Outcome.{Outcome}
 use Rattle.stage.specs.Finish.{Changed, Whole}
 

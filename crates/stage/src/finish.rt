@@ -1,19 +1,19 @@
 // Rules 8 to 11 in order after the loop of rules 2 to 7, with tests 7 and 8. m = N + 1; level 1 of the height has `half` cells; o pins are
 // listed, n wait, q are needed; the words go behind `at`, where there is `room` for so many.
-use ending::close::close_stage;
-use ending::last::Kept;
-use ending::last::last_words;
-use ending::rest::fill_rest;
-use runs::Spent;
-use runs::WordRule;
-use runs::write_runs;
-use tally::Tally;
-use tally::is_over;
-use tally::left;
-use tally::spend;
-ghost use Rattle.tally.specs.Spending.{room, Counted};
+use stage_ending::close::close_stage;
+use stage_ending::last::Kept;
+use stage_ending::last::last_words;
+use stage_ending::rest::fill_rest;
+use stage_runs::Spent;
+use stage_runs::WordRule;
+use stage_runs::write_runs;
+use stage_tally::Tally;
+use stage_tally::is_over;
+use stage_tally::left;
+use stage_tally::spend;
+ghost use Rattle.stage_tally.specs.Spending.{room, Counted};
 ghost use Rattle.rules.specs.Ending as rules;
-ghost use Rattle.walk.specs.Stands.{Some, Every, SomePlan, EveryPlan};
+ghost use Rattle.stage_walk.specs.Stands.{Some, Every, SomePlan, EveryPlan};
 ghost use Rattle.stage.specs.Finish.{FinishAt, Finished, RestingAt, LastingAt, Lasting, Ends};
 
 // 0, or the number that refuses the stage; for 0 how many words it has and how many pins wait then.

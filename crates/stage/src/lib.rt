@@ -1,12 +1,12 @@
 // One stage: rules 1 to 11.
 use finish::finish;
-use lean::filling::fill_tree;
-use prepare::forget;
-use prepare::prepare;
-use runs::WordRule;
-use tally::Tally;
-ghost use Rattle.tally.specs.Spending.{room, Counted};
-ghost use Rattle.walk.specs.Stands.{Some, Every};
+use stage_loop::filling::fill_tree;
+use stage_prepare::forget;
+use stage_prepare::prepare;
+use stage_runs::WordRule;
+use stage_tally::Tally;
+ghost use Rattle.stage_tally.specs.Spending.{room, Counted};
+ghost use Rattle.stage_walk.specs.Stands.{Some, Every};
 ghost use Rattle.stage.specs.Stage.{StageAt, Staged};
 
 mod finish;

@@ -20,8 +20,8 @@ use Rattle.rules.proofs.Loops.{Loop, Answered, none, least, loop-answered}
 use Rattle.rules.proofs.Demand.{Valid, Ends, first, later}
 use Rattle.records.specs.Values.{sizeAt, endpointAt}
 use Rattle.graph.proofs.Gates.{graph-length}
-use Rattle.loops.specs.Marks.{Inside}
-use Rattle.loops.proofs.Laws.{loop-user}
+use Rattle.graph_loops.specs.Marks.{Inside}
+use Rattle.graph_loops.proofs.Laws.{loop-user}
 use Rattle.records.proofs.Reading.{read-step, read-end, read-cut, size-endpoints, endpoint-is}
 use Rattle.checks.proofs.Laws.Refusing.{refusal-1, refusal-2, refusal-3, refusal-23, refusal-4, refusal-5}
 

@@ -13,8 +13,8 @@ use Rattle.rules.specs.Checks.{nodesRight, graphRight, loopsRight}
 use Rattle.rules.proofs.Bools.{yes}
 use Rattle.rules.proofs.Walk.Reverse.{below-in}
 use Rattle.graph.proofs.Gates.{graph-at}
-use Rattle.loops.specs.Marks.{Lower}
-use Rattle.loops.proofs.Laws.{lower-loopless}
+use Rattle.graph_loops.specs.Marks.{Lower}
+use Rattle.graph_loops.proofs.Laws.{lower-loopless}
 use Rattle.checks.specs.Values.{graphSized, Rising}
 use Rattle.checks.proofs.Laws.Gates.{nodes-end}
 use Rattle.checks.proofs.Laws.Turns.{NodesLeft, nodes-begin, nodes-more, pins-are}

@@ -19,12 +19,12 @@ use Rattle.rules.proofs.Stage.Puts.{cell}
 use Rattle.rules.proofs.Fold.Bits.{lowest-stands, load-none, load-found, load-past, getD-stageBits, folded, folded-step, folded-none}
 use Rattle.cells.specs.Answers.{orZero}
 use Rattle.cells.proofs.Heights.{orZero-true}
-use Rattle.folding.specs.Bits.{StageAt}
-use Rattle.folding.specs.Loads.{held, seen, AreaAt, Spread, FirstHeld, Zeroed, StageFolds}
+use Rattle.fold_stage.specs.Bits.{StageAt}
+use Rattle.fold_stage.specs.Loads.{held, seen, AreaAt, Spread, FirstHeld, Zeroed, StageFolds}
 use Rattle.fold.specs.Stages.{Only, Folds, OneAt, NextAt, PlanAt, InputAt, stageFrom, StepAt, AllFold}
-use Rattle.folding.proofs.Laws.Cells.{bit-number}
-use Rattle.folding.proofs.Laws.Loads.{held-past}
-use Rattle.folding.proofs.Laws.Parts.{take-same, drop-same, part-same}
+use Rattle.fold_stage.proofs.Laws.Cells.{bit-number}
+use Rattle.fold_stage.proofs.Laws.Loads.{held-past}
+use Rattle.fold_stage.proofs.Laws.Parts.{take-same, drop-same, part-same}
 
 -- an area of the same length serves as well
 pub area-kept : (K : ℕ) (cells : List ℕ) (at L m : ℕ) (w u : List ℕ) → length u ≡ length w → AreaAt K cells at L m w → AreaAt K cells at L m u

@@ -13,9 +13,9 @@ use Rattle.rules.specs.Cells.{isHeight, stageSize, rooms}
 use Rattle.rules.specs.Listing.{listing, refusedLine}
 use Rattle.rules.proofs.Lists.Members.{and-true}
 use Rattle.cells.specs.Answers.{orZero}
-use Rattle.lines.specs.Stages.{stagesIn, Holds}
+use Rattle.listing_lines.specs.Stages.{stagesIn, Holds}
 use Rattle.listing.specs.Listing.{outcome, written, hold, listed, answered}
-use Rattle.lines.proofs.Laws.Lines.{sum-next, sum-less, sum-add}
+use Rattle.listing_lines.proofs.Laws.Lines.{sum-next, sum-less, sum-add}
 
 -- a height's number is itself
 pub at-height : (K x : ℕ) {r : ℕ} → r ≡ orZero (isHeight K) x → isHeight K ≡ true → r ≡ x

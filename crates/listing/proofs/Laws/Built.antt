@@ -20,7 +20,7 @@ use Rattle.rules.specs.Listing.{answerText}
 use Rattle.rules.proofs.Demand as demand
 use Rattle.rules.proofs.Stage.Refusals.{refused-some}
 use Rattle.rules.proofs.Build.Lengths.{Sized, length-padded}
-use Rattle.lines.specs.Stages.{stagesIn}
+use Rattle.listing_lines.specs.Stages.{stagesIn}
 use Rattle.listing.specs.Listing.{written, hold, answered}
 use Rattle.listing.proofs.Laws.Answered.{listed-all, answered-no, answered-yes}
 

@@ -10,8 +10,8 @@ use lib.Seq.{sets, sets-eq, take-suc, take-all}
 use borrow.Author.Tests.{ltb-true, ltb-false, leb-true, leb-false, lt-ltb, le-ltb, le-leb}
 use Rattle.rules.specs.Lists.{laidOver}
 use Rattle.rules.proofs.Lists.Members.{split}
-use Rattle.lines.specs.Laid.{step, along, over, Laid}
-use Rattle.lines.proofs.Laws.Laid.{step-in, step-out}
+use Rattle.listing_lines.specs.Laid.{step, along, over, Laid}
+use Rattle.listing_lines.proofs.Laws.Laid.{step-in, step-out}
 use Rattle.listing.specs.Listing.{Outcome, outcome, written}
 
 along-in : (limit at : ℕ) (xs : List ℕ) → at + length xs ≤ limit → along limit at xs ≡ at + length xs

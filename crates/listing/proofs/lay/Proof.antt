@@ -2,7 +2,7 @@
 use mathlib.Core.Path.{refl, sym}
 use native.Mathlib.Omega.{arith}
 use Rattle.rules.specs.Listing.{listing}
-use Rattle.lines.specs.Stages.{stagesIn}
+use Rattle.listing_lines.specs.Stages.{stagesIn}
 use Rattle.listing.proofs.Laws.Written.{written-not, written-all}
 use borrow.Author.Needs.{needs}
 use Rattle.listing.proofs.lay.Statement.{statement}

@@ -8,12 +8,12 @@ use borrow.Author.Tests.{lt-ltb, le-ltb}
 use Rattle.rules.specs.Lists.{laidOver}
 use Rattle.rules.specs.Traversal.{WordRule}
 use Rattle.rules.specs.Merge.{refuseMerge, merger}
-use Rattle.runs.specs.declared.MaybeRule.{MaybeRule}
-use Rattle.runs.specs.declared.MaybeRule.the-variants.{Named, Unknown}
-use Rattle.runs.specs.declared.WordRule.{WordRule as Asked}
-use Rattle.runs.specs.Rule.{Rule?, ruleOf, ruleBy}
+use Rattle.stage_runs.specs.declared.MaybeRule.{MaybeRule}
+use Rattle.stage_runs.specs.declared.MaybeRule.the-variants.{Named, Unknown}
+use Rattle.stage_runs.specs.declared.WordRule.{WordRule as Asked}
+use Rattle.stage_runs.specs.Rule.{Rule?, ruleOf, ruleBy}
 use Rattle.placer.proofs.Laws.Entry.{stores}
-use Rattle.mergechecks.specs.Values.{groupList, areas}
+use Rattle.merge_checks.specs.Values.{groupList, areas}
 use Rattle.merge.specs.declared.Answer.{Answer}
 use Rattle.merge.specs.Merge.{told, outcome}
 use Rattle.merge.specs.Entry.{entry, written, entered, unnamed, NoRule, enteredBy}

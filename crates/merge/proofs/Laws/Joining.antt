@@ -16,20 +16,20 @@ use Rattle.rules.specs.Records.{groupsOf}
 use Rattle.rules.specs.Traversal.{WordRule}
 use Rattle.rules.specs.Merge.{Common, Part, Result, MergeAnswer, turned, merged, merge, merging, original, mostStages, occupied, begun, splitBy, addPart, mergeAnswerOf, mergeReply, refuseMerge, groupListAfter}
 use Rattle.rules.proofs.Lists.Members.{In, split, in-cons, in-nil, true-false}
-use Rattle.unions.specs.Unions.{Places}
-use Rattle.slots.specs.Slots.{gathered, listed, own, full}
-use Rattle.slots.specs.Moves.{Begins}
-use Rattle.layout.specs.declared.Totals.{Totals}
-use Rattle.layout.specs.Layout.{owned, LayAt, sorted, Laid}
-use Rattle.originals.specs.declared.Originals.{Originals}
-use Rattle.originals.specs.declared.Originals.the-variants.{Refused, Built}
-use Rattle.originals.specs.Originals.{OriginalsAt, allHeld, partsFor, Given}
-use Rattle.originals.proofs.Laws.Parts.{all-occupied, all-count}
-use Rattle.trials.specs.Ranks.{Stands}
-use Rattle.trials.proofs.Laws.Standing.{stands-stays}
-use Rattle.mergechecks.specs.Values.{groupList}
+use Rattle.merge_unions.specs.Unions.{Places}
+use Rattle.merge_slots.specs.Slots.{gathered, listed, own, full}
+use Rattle.merge_slots.specs.Moves.{Begins}
+use Rattle.merge_layout.specs.declared.Totals.{Totals}
+use Rattle.merge_layout.specs.Layout.{owned, LayAt, sorted, Laid}
+use Rattle.merge_originals.specs.declared.Originals.{Originals}
+use Rattle.merge_originals.specs.declared.Originals.the-variants.{Refused, Built}
+use Rattle.merge_originals.specs.Originals.{OriginalsAt, allHeld, partsFor, Given}
+use Rattle.merge_originals.proofs.Laws.Parts.{all-occupied, all-count}
+use Rattle.merge_trials.specs.Ranks.{Stands}
+use Rattle.merge_trials.proofs.Laws.Standing.{stands-stays}
+use Rattle.merge_checks.specs.Values.{groupList}
 use Rattle.merge.specs.declared.Answer.{Answer}
-use Rattle.rounds.specs.Rounds.{partsIn, Tries, SlotsAt, Slotted}
+use Rattle.merge_rounds.specs.Rounds.{partsIn, Tries, SlotsAt, Slotted}
 use Rattle.merge.specs.Merge.{told, refusedFor, JoinAt, Joined}
 
 every-in : (f : ℕ → Bool) (q : ℕ) (xs : List ℕ) → every f xs ≡ true → In q xs → f q ≡ true

@@ -24,7 +24,7 @@ use Rattle.checks.specs.declared.Verdict.{Verdict}
 use Rattle.checks.specs.Values.{Says}
 use Rattle.checks.proofs.Laws.Passed.{Passed, passed}
 use Rattle.placer.proofs.Laws.Laying.{padded-none}
-use Rattle.mergechecks.specs.Values.{groupList, areas}
+use Rattle.merge_checks.specs.Values.{groupList, areas}
 use Rattle.merge.specs.declared.Answer.{Answer}
 use Rattle.merge.specs.Merge.{told, outcome, PlaceAt, Placed}
 use Rattle.merge.proofs.Laws.Placing.{Able, able}

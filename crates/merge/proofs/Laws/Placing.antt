@@ -15,11 +15,11 @@ use Rattle.rules.specs.Checks.{workSize}
 use Rattle.rules.specs.Traversal.{WordRule}
 use Rattle.rules.specs.Merge.{mergeWorkSize, mergeable}
 use Rattle.rules.proofs.Lists.Members.{and-true}
-use Rattle.start.specs.Opening.{Idle}
-use Rattle.start.proofs.Laws.Opening.{zeros-idle}
+use Rattle.placer_start.specs.Opening.{Idle}
+use Rattle.placer_start.proofs.Laws.Opening.{zeros-idle}
 use Rattle.placer.specs.Build.{Emptied}
-use Rattle.unions.specs.Table.{LocateAt, Locates}
-use Rattle.mergechecks.specs.Values.{groupList}
+use Rattle.merge_unions.specs.Table.{LocateAt, Locates}
+use Rattle.merge_checks.specs.Values.{groupList}
 use Rattle.merge.specs.declared.Answer.{Answer}
 use Rattle.merge.specs.Merge.{JoinAt, Joined, PlaceAt, Placed}
 

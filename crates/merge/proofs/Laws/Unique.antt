@@ -3,7 +3,7 @@ use Prim.Native.Nat.{ℕ}
 use mathlib.Core.List.{List}
 use mathlib.Core.Path.{_≡_, sym, ap, _∙_}
 use Rattle.rules.specs.Merge.{MergeOutcome}
-use Rattle.mergechecks.specs.Values.{groupList, areas}
+use Rattle.merge_checks.specs.Values.{groupList, areas}
 use Rattle.merge.specs.declared.Answer.{Answer}
 use Rattle.merge.specs.Merge.{told, outcome}
 

@@ -19,14 +19,14 @@ use Rattle.rules.proofs.Lists.Members.{split, and-true}
 use Rattle.cells.specs.Answers.{orZero}
 use Rattle.cells.proofs.Heights.{orZero-true}
 use Rattle.checks.proofs.Laws.Passed.{Passed}
-use Rattle.start.specs.declared.Opening.{Opening}
-use Rattle.start.specs.declared.Opening.the-variants.{Over, Ready}
-use Rattle.start.specs.declared.reservation.Reservation.the-variants as reservation
-use Rattle.start.specs.Reservation.{reservationOf}
-use Rattle.start.specs.Opening.{BeginAt, First, Begins, reservationFor}
-use Rattle.start.proofs.Laws.First.{begin-at, first-ready, first-low, first-high}
-use Rattle.runs.specs.declared.WordRule.{WordRule as Asked}
-use Rattle.runs.specs.Rule.{ruleOf}
+use Rattle.placer_start.specs.declared.Opening.{Opening}
+use Rattle.placer_start.specs.declared.Opening.the-variants.{Over, Ready}
+use Rattle.placer_start.specs.declared.reservation.Reservation.the-variants as reservation
+use Rattle.placer_start.specs.Reservation.{reservationOf}
+use Rattle.placer_start.specs.Opening.{BeginAt, First, Begins, reservationFor}
+use Rattle.placer_start.proofs.Laws.First.{begin-at, first-ready, first-low, first-high}
+use Rattle.stage_runs.specs.declared.WordRule.{WordRule as Asked}
+use Rattle.stage_runs.specs.Rule.{ruleOf}
 use Rattle.placer.specs.declared.Answer.{Answer}
 use Rattle.placer.specs.Answers.{told}
 use Rattle.placer.specs.Stages.{Course, answer, StagesAt, Ran, Underway}

@@ -14,7 +14,7 @@ use Rattle.rules.specs.Cells.{empty, wordLimit}
 use Rattle.rules.specs.Build.{Stage, Answer, refusal, whole, more, before, stages, cellsOf, wordsOf, countsOf, refuse, reply, stagesOf}
 use Rattle.rules.proofs.Stage.Refusals.{before-refusal}
 use Rattle.rules.proofs.Build.Lengths.{length-padded}
-use Rattle.runs.specs.declared.WordRule.{WordRule as Asked}
+use Rattle.stage_runs.specs.declared.WordRule.{WordRule as Asked}
 use Rattle.placer.specs.Answers.{told}
 use Rattle.placer.specs.Stages.{Course, answer, OneAt, One, StagesAt, Whole}
 

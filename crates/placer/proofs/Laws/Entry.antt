@@ -9,10 +9,10 @@ use borrow.Author.Tests.{lt-ltb, le-ltb}
 use Rattle.rules.specs.Lists.{laidOver}
 use Rattle.rules.specs.Traversal.{WordRule}
 use Rattle.rules.specs.Build as rules
-use Rattle.runs.specs.declared.MaybeRule.{MaybeRule}
-use Rattle.runs.specs.declared.MaybeRule.the-variants.{Named, Unknown}
-use Rattle.runs.specs.declared.WordRule.{WordRule as Asked}
-use Rattle.runs.specs.Rule.{Rule?, unknown, named, ruleOf, ruleBy}
+use Rattle.stage_runs.specs.declared.MaybeRule.{MaybeRule}
+use Rattle.stage_runs.specs.declared.MaybeRule.the-variants.{Named, Unknown}
+use Rattle.stage_runs.specs.declared.WordRule.{WordRule as Asked}
+use Rattle.stage_runs.specs.Rule.{Rule?, unknown, named, ruleOf, ruleBy}
 use Rattle.placer.specs.declared.Answer.{Answer}
 use Rattle.placer.specs.Answers.{told, areas, outcome}
 use Rattle.placer.specs.Entry.{entry, written, entered, unnamed, NoRule, enteredBy}

@@ -21,13 +21,13 @@ use Rattle.rules.proofs.Build.Lengths.{length-padded}
 use Rattle.columns.specs.Fields.{DONE}
 use Rattle.columns.specs.Lists.{Marks}
 use Rattle.columns.proofs.Area.Frames.{frame-room}
-use Rattle.runs.specs.declared.WordRule.{WordRule as Asked}
-use Rattle.walk.specs.Stands.{Context}
-use Rattle.walk.proofs.Contexts.{context, unfold-empty}
+use Rattle.stage_runs.specs.declared.WordRule.{WordRule as Asked}
+use Rattle.stage_walk.specs.Stands.{Context}
+use Rattle.stage_walk.proofs.Contexts.{context, unfold-empty}
 use Rattle.stage.specs.declared.finish.Outcome.{Outcome}
 use Rattle.stage.specs.Finish.{Whole}
 use Rattle.stage.specs.Stage.{StageAt, built, Staged}
-use Rattle.runs.proofs.Laws.Laid.{laid-none, laid-more, laid-length}
+use Rattle.stage_runs.proofs.Laws.Laid.{laid-none, laid-more, laid-length}
 use Rattle.rules.proofs.Stage.Refusals.{before-refusal}
 use Rattle.placer.specs.Stages.{Course, Underway, OneAt, One, answer}
 use Rattle.placer.proofs.Laws.Laying.{laid-next, blank-part, part-inside}

@@ -15,13 +15,13 @@ use Rattle.columns.proofs.Area.Frames.{frame-then, frame-more, frame-room}
 use Rattle.columns.proofs.Lists.Entries.{holds-self, holds-frame}
 use Rattle.columns.proofs.Lists.Marks.{marks-frame, marked-self}
 use Rattle.columns.proofs.Lists.Places.{placed-frame, placed-self}
-use Rattle.walk.specs.Stands.{Context}
-use Rattle.runs.specs.declared.Spent.{Spent}
-use Rattle.runs.proofs.Laws.Laid.{laid-length, laid-below, laid-past}
-use Rattle.ending.specs.declared.last.Kept.{Kept}
-use Rattle.ending.specs.Close.{either, CloseAt, Closed}
-use Rattle.ending.proofs.Laws.Close.{mem-append}
-use Rattle.ending.proofs.Laws.Closed.{within-frame}
+use Rattle.stage_walk.specs.Stands.{Context}
+use Rattle.stage_runs.specs.declared.Spent.{Spent}
+use Rattle.stage_runs.proofs.Laws.Laid.{laid-length, laid-below, laid-past}
+use Rattle.stage_ending.specs.declared.last.Kept.{Kept}
+use Rattle.stage_ending.specs.Close.{either, CloseAt, Closed}
+use Rattle.stage_ending.proofs.Laws.Close.{mem-append}
+use Rattle.stage_ending.proofs.Laws.Closed.{within-frame}
 use Rattle.stage.specs.Finish.{Changed, touched, Midway, LastingAt, Lasting, Ends}
 use Rattle.stage.proofs.Laws.Midway.{within-marks, tree-listed, waiting-order, counts, cells-within, need-waits}
 

@@ -20,13 +20,13 @@ use Rattle.columns.proofs.Area.Frames.{frame-then, frame-more, frame-room}
 use Rattle.columns.proofs.Lists.Entries.{holds-self, holds-frame}
 use Rattle.columns.proofs.Lists.Marks.{marks-frame, marked-frame}
 use Rattle.columns.proofs.Lists.Places.{placed-frame}
-use Rattle.runs.specs.declared.WordRule.{WordRule as Asked}
-use Rattle.walk.specs.Stands.{Context}
-use Rattle.runs.specs.declared.Spent.{Spent}
-use Rattle.runs.specs.Laid.{noted}
-use Rattle.runs.specs.Ran.{EndAt, Ran}
-use Rattle.runs.proofs.Laws.Laid.{laid-length, laid-below, laid-past, laid-over}
-use Rattle.ending.specs.Rest.{RestAt, Filled}
+use Rattle.stage_runs.specs.declared.WordRule.{WordRule as Asked}
+use Rattle.stage_walk.specs.Stands.{Context}
+use Rattle.stage_runs.specs.declared.Spent.{Spent}
+use Rattle.stage_runs.specs.Laid.{noted}
+use Rattle.stage_runs.specs.Ran.{EndAt, Ran}
+use Rattle.stage_runs.proofs.Laws.Laid.{laid-length, laid-below, laid-past, laid-over}
+use Rattle.stage_ending.specs.Rest.{RestAt, Filled}
 use Rattle.stage.specs.declared.finish.Outcome.{Outcome}
 use Rattle.stage.specs.Finish.{FinishAt, Changed, touched, Finished, Midway, RestingAt, LastingAt, Ends}
 use Rattle.rules.specs.Traversal.{levelAt}

@@ -18,11 +18,11 @@ use Rattle.columns.specs.Lists.{list, Marked}
 use Rattle.columns.proofs.Area.Frames.{frame-none}
 use Rattle.columns.proofs.Lists.Entries.{holds-self}
 use Rattle.columns.proofs.Lists.Marks.{marked-self}
-use Rattle.walk.specs.Stands.{Context}
-use Rattle.runs.specs.declared.Spent.{Spent}
-use Rattle.runs.proofs.Laws.Laid.{laid-then}
-use Rattle.ending.specs.declared.last.Kept.{Kept}
-use Rattle.ending.specs.Last.{LastAt, endWords, Lasted}
+use Rattle.stage_walk.specs.Stands.{Context}
+use Rattle.stage_runs.specs.declared.Spent.{Spent}
+use Rattle.stage_runs.proofs.Laws.Laid.{laid-then}
+use Rattle.stage_ending.specs.declared.last.Kept.{Kept}
+use Rattle.stage_ending.specs.Last.{LastAt, endWords, Lasted}
 use Rattle.stage.specs.Finish.{Midway, LastingAt, Lasting}
 use Rattle.stage.proofs.Laws.Midway.{cells-pins, end-words, tree-ends}
 use borrow.Author.Tests.{leb-false}

@@ -24,17 +24,17 @@ use Rattle.columns.specs.Lists.{list, Marks}
 use Rattle.columns.proofs.Lists.Entries.{holds-below}
 use Rattle.columns.proofs.Lists.Marks.{marks-test}
 use Rattle.columns.proofs.Lists.Places.{placed-test}
-use Rattle.walk.specs.Stands.{Context}
-use Rattle.walk.proofs.Contexts.{low-mark}
-use Rattle.tree.proofs.Bits.Cells.{getD-any}
-use Rattle.runs.specs.declared.Spent.{Spent}
-use Rattle.runs.proofs.Laws.Plain.{not-not, not-zero}
-use Rattle.ending.specs.Close.{Within, isTree}
-use Rattle.ending.specs.Words.{isEnd, Pins}
-use Rattle.ending.specs.Last.{endWords}
-use Rattle.ending.proofs.Laws.Ends.{words-up}
+use Rattle.stage_walk.specs.Stands.{Context}
+use Rattle.stage_walk.proofs.Contexts.{low-mark}
+use Rattle.stage_tree.proofs.Bits.Cells.{getD-any}
+use Rattle.stage_runs.specs.declared.Spent.{Spent}
+use Rattle.stage_runs.proofs.Laws.Plain.{not-not, not-zero}
+use Rattle.stage_ending.specs.Close.{Within, isTree}
+use Rattle.stage_ending.specs.Words.{isEnd, Pins}
+use Rattle.stage_ending.specs.Last.{endWords}
+use Rattle.stage_ending.proofs.Laws.Ends.{words-up}
 use Rattle.stage.specs.Finish.{Midway}
-use Rattle.lean.proofs.Laws.Loop.{marked-none}
+use Rattle.stage_loop.proofs.Laws.Loop.{marked-none}
 
 -- ---- lists
 

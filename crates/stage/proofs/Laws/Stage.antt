@@ -11,15 +11,15 @@ use Rattle.columns.proofs.Area.Frames.{frame-then, frame-more}
 use Rattle.columns.proofs.Lists.Marks.{marks-frame}
 use Rattle.columns.proofs.Lists.Places.{placed-frame}
 use Rattle.columns.proofs.Lists.Clears.{clear-frame}
-use Rattle.runs.specs.declared.WordRule.{WordRule as Asked}
-use Rattle.walk.specs.Stands.{Context}
-use Rattle.prepare.specs.Prepared.{PrepareAt, Prepared, ForgetAt, Forgot}
-use Rattle.prepare.proofs.Forgets.{forget-at, forget-frame}
+use Rattle.stage_runs.specs.declared.WordRule.{WordRule as Asked}
+use Rattle.stage_walk.specs.Stands.{Context}
+use Rattle.stage_prepare.specs.Prepared.{PrepareAt, Prepared, ForgetAt, Forgot}
+use Rattle.stage_prepare.proofs.Forgets.{forget-at, forget-frame}
 use Rattle.stage.specs.declared.finish.Outcome.{Outcome}
-use Rattle.lean.specs.Filling.{FillAt, FilledTree}
+use Rattle.stage_loop.specs.Filling.{FillAt, FilledTree}
 use Rattle.stage.specs.Finish.{FinishAt, Changed, Whole, Finished}
 use Rattle.stage.specs.Stage.{StageAt, columns, built, Staged}
-use Rattle.lean.proofs.Laws.Loop.{set-kept}
+use Rattle.stage_loop.proofs.Laws.Loop.{set-kept}
 
 -- the stage of a context is what rules 8 to 11 make of rules 2 to 7's plan
 built-is : (C : Context) (room : ℕ) → finish (C .X) room (filledPlan (C .X)) ≡ built C room

@@ -2,7 +2,7 @@
 use mathlib.Core.Path.{refl}
 use denote.Ref.{now}
 use Rattle.rules.specs.Graph.{graphOf}
-use Rattle.folding.proofs.Laws.Parts.{stage-up, stage-folds}
+use Rattle.fold_stage.proofs.Laws.Parts.{stage-up, stage-folds}
 use borrow.Author.Needs.{needs}
 use Rattle.fold.proofs.stages.fold_stage.Statement.{statement}
 use Rattle.fold.proofs.stages.fold_stage.Tie as tie

@@ -1,5 +1,5 @@
 -- `merge::entry::merge_partitions` meets its contract. Assumes nothing.
-use Rattle.runs.specs.Rule.{ruleOf}
+use Rattle.stage_runs.specs.Rule.{ruleOf}
 use borrow.Author.Needs.{needs}
 use Rattle.merge.proofs.entry.merge_partitions.Statement.{statement}
 use Rattle.merge.proofs.entry.merge_partitions.Tie as tie

@@ -1,6 +1,6 @@
 -- `placer::stages::stages` meets its contract: one stage more, its words spent, until no pin waits or one is refused. Assumes nothing.
-use Rattle.tally.proofs.Laws.Tests.{counted-more, bound-same, spent-more}
-use Rattle.tally.specs.Spending.{bound, Counted}
+use Rattle.stage_tally.proofs.Laws.Tests.{counted-more, bound-same, spent-more}
+use Rattle.stage_tally.specs.Spending.{bound, Counted}
 use Rattle.placer.proofs.Laws.Course.{still-rooms, next-at, spent-within, room-small, room-within, rooms-nine, one-on, refused-told, whole-told, whole-stands}
 use Rattle.placer.specs.Stages.{Every, StagesAt}
 use lib.ListN.{length}

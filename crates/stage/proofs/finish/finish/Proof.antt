@@ -1,6 +1,6 @@
 -- `stage::finish::finish` meets its contract: where the runs' words are over the tally the stage is refused, else the other rules follow. Assumes nothing.
 use Rattle.stage.proofs.Laws.Finish.{room-as, finished-as, fits-as}
-use Rattle.tally.proofs.Laws.Tests.{within-still, over-room, fits-room}
+use Rattle.stage_tally.proofs.Laws.Tests.{within-still, over-room, fits-room}
 use native.Mathlib.Omega.{arith}
 use Rattle.stage.proofs.Laws.Finish.{end-at, finished-seven, resting-at, finished}
 use borrow.Author.Needs.{needs}
@@ -8,11 +8,11 @@ use Rattle.stage.proofs.finish.finish.Statement.{statement}
 use Rattle.stage.proofs.finish.finish.Tie as tie
 use Rattle.stage.proofs.finish.finish.Reads as reads
 use Rattle.stage.proofs.finish.finish.Lts as lts
-use Rattle.runs.proofs.write_runs.Reads as write-runs-reads
+use Rattle.stage_runs.proofs.write_runs.Reads as write-runs-reads
 use Rattle.stage.proofs.finish.finish_rest.Reads as finish-rest-reads
-use Rattle.tally.proofs.is_over.Reads as is-over-reads
-use Rattle.tally.proofs.left.Reads as left-reads
-use Rattle.tally.proofs.spend.Reads as spend-reads
+use Rattle.stage_tally.proofs.is_over.Reads as is-over-reads
+use Rattle.stage_tally.proofs.left.Reads as left-reads
+use Rattle.stage_tally.proofs.spend.Reads as spend-reads
 
 left-requires : tie.Need-left-requires
 left-requires c κs = c .before .before .before .before .pre .0

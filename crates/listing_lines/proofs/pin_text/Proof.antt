@@ -1,0 +1,50 @@
+-- `listing_lines::pin_text` meets its contract. Assumes nothing.
+use Rattle.rules.specs.Listing.{text}
+use Rattle.listing_lines.proofs.Laws.Laid.{laid-as, laid-more}
+use Rattle.listing_lines.proofs.Laws.Lines.{pin-none, pin-some}
+use borrow.Author.Needs.{needs}
+use Rattle.listing_lines.proofs.pin_text.Statement.{statement}
+use Rattle.listing_lines.proofs.pin_text.Tie as tie
+
+slice-aggregate-put-text : tie.Need-slice-aggregate-put-text
+slice-aggregate-put-text c = search needs
+
+put-text-requires : tie.Need-put-text-requires
+put-text-requires c κs = search needs
+
+same-length : tie.Need-same-length
+same-length c = search needs
+
+returns : tie.Need-returns
+unfolding text
+returns c = laid-as (c .before .before .put-text .ensures) (pin-none _ (c .before .before .before .before .before .if1 .taken))
+
+slice-aggregate-put-text-2 : tie.Need-slice-aggregate-put-text-2
+slice-aggregate-put-text-2 c = search needs
+
+put-text-requires-2 : tie.Need-put-text-requires-2
+put-text-requires-2 c κs = search needs
+
+put-decimal-requires : tie.Need-put-decimal-requires
+put-decimal-requires c κs = search needs
+
+same-length-2 : tie.Need-same-length-2
+same-length-2 c = search needs
+
+returns-2 : tie.Need-returns-2
+unfolding text
+returns-2 c = laid-as (laid-more (c .before .before .before .before .before .before .put-text2 .ensures) (c .before .before .put-decimal .ensures)) (pin-some _ (c .before .before .before .before .before .before .before .before .before .if1 .left))
+
+pub pin-text-spec : {M : Type 1} → statement M
+pin-text-spec =
+    tie.close
+    (tie.spec
+    slice-aggregate-put-text
+    put-text-requires
+    same-length
+    returns
+    slice-aggregate-put-text-2
+    put-text-requires-2
+    put-decimal-requires
+    same-length-2
+    returns-2)

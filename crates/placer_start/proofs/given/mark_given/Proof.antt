@@ -1,0 +1,60 @@
+-- `placer_start::given::mark_given` meets its contract: it marks the pins one after the other. Assumes nothing.
+use Prim.Native.Nat.{_-_}
+use lib.ListN.{length}
+use Rattle.placer_start.proofs.Laws.Given.{Marking, marking-none, given-pin, marking-more, marking-done}
+use borrow.Author.Needs.{needs}
+use Rattle.placer_start.proofs.given.mark_given.Statement.{statement}
+use Rattle.placer_start.proofs.given.mark_given.Tie as tie
+
+abbrev Inv-loop : tie.InvT-loop
+Inv-loop given work₀ m i₀ work i = Marking m i given work₀ work
+
+abbrev μ-loop : tie.MeasureT-loop
+μ-loop given work₀ m i₀ work i = length given - i
+
+loop-holds : tie.Need-loop-holds Inv-loop μ-loop
+loop-holds c = marking-none (c .before .before .pre)
+
+mul-wide : tie.Need-mul-wide Inv-loop μ-loop
+mul-wide c = search needs
+
+shared-slice-read-wide : tie.Need-shared-slice-read-wide Inv-loop μ-loop
+shared-slice-read-wide c = search needs
+
+wide-requires : tie.Need-wide-requires Inv-loop μ-loop
+wide-requires c κs = search needs
+
+set-field-requires : tie.Need-set-field-requires Inv-loop μ-loop
+set-field-requires c κs = given-pin (c .before .before .before .before .before .before .before .pre) (c .before .before .before .before .loop .inv) _ (c .before .before .before .loop-test .taken) (c .wide .ensures) .1
+
+add-i : tie.Need-add-i Inv-loop μ-loop
+add-i c = search needs
+
+loop-less : tie.Need-loop-less Inv-loop μ-loop
+loop-less c = search needs
+
+loop-again : tie.Need-loop-again Inv-loop μ-loop
+loop-again c = marking-more (c .before .before .before .before .before .before .before .before .before .before .pre) (c .before .before .before .before .before .before .before .loop .inv) _ (c .before .before .before .before .before .before .loop-test .taken) (c .before .before .before .wide .ensures) (c .before .before .set-field .ensures)
+
+same-length : tie.Need-same-length Inv-loop μ-loop
+same-length c = c .before .loop .inv .frame .len
+
+returns : tie.Need-returns Inv-loop μ-loop
+returns c = marking-done (c .before .before .before .before .pre) (c .before .loop .inv) (c .loop-test .left)
+
+pub mark-given-spec : {M : Type 1} → statement M
+mark-given-spec =
+    tie.close
+    (tie.spec
+    Inv-loop
+    μ-loop
+    loop-holds
+    mul-wide
+    shared-slice-read-wide
+    wide-requires
+    set-field-requires
+    add-i
+    loop-less
+    loop-again
+    same-length
+    returns)

@@ -1,0 +1,43 @@
+-- `placer_start::reservation::flip_flop` meets its contract: two 32-bit numbers have room in a sum of 64 bits. Assumes nothing.
+use mathlib.Core.Path.{_∙_}
+use Rattle.placer_start.proofs.Laws.Counts.{adds-flip-flop}
+use borrow.Author.Needs.{needs}
+use Rattle.placer_start.proofs.reservation.flip_flop.Statement.{statement}
+use Rattle.placer_start.proofs.reservation.flip_flop.Tie as tie
+
+pin-of-requires : tie.Need-pin-of-requires
+pin-of-requires c κs = search needs
+
+wide-requires : tie.Need-wide-requires
+wide-requires c κs = search needs
+
+wide-requires-2 : tie.Need-wide-requires-2
+wide-requires-2 c κs = search needs
+
+mul-t6 : tie.Need-mul-t6
+mul-t6 c = search needs
+
+inversion-of-requires : tie.Need-inversion-of-requires
+inversion-of-requires c κs = search needs
+
+wide-requires-3 : tie.Need-wide-requires-3
+wide-requires-3 c κs = search needs
+
+add-t9 : tie.Need-add-t9
+add-t9 c = search needs
+
+returns : tie.Need-returns
+returns c = adds-flip-flop _ _ _ _ _ (c .before .before .before .wide .ensures ∙ c .before .before .before .before .pin-of .ensures) (c .before .before .wide2 .ensures) (c .wide3 .ensures ∙ c .before .inversion-of .ensures)
+
+pub flip-flop-spec : {M : Type 1} → statement M
+flip-flop-spec =
+    tie.close
+    (tie.spec
+    pin-of-requires
+    wide-requires
+    wide-requires-2
+    mul-t6
+    inversion-of-requires
+    wide-requires-3
+    add-t9
+    returns)

@@ -1,0 +1,108 @@
+// Rule 10: the distinct words of the cells that hold an unrealised tree endpoint, levels 1 upward, cells rising. While they are
+// collected, number j of the tail is one more than word j's place among them, 0 for none.
+use columns::MARK;
+use columns::PLACE;
+use columns::SPARE;
+use columns::is_in;
+use columns::tail_get;
+use columns::tail_set;
+use columns::wide;
+ghost use mathlib.Core.Path.{_≡_};
+ghost use Prim.Native.Nat.{_+_, _*_, _<_, _≤_};
+ghost use Rattle.stage_ending.specs.Words.{isEnd, SomeWords, EveryWords, WordAt, Worded, CellAt, Celled, RowAt, Rowed, UpAt, Upped, OneAt, One, WriteAt, Written};
+
+// Does pin c wait, neither realised nor needed?
+fn is_end(work: &[u32], m: usize, c: usize) -> bool
+    requires { do ⌜ (c < m) × (16 * m ≤ (← ⟦work.len()⟧)) ⌝ }
+    ensures { λ r. ⌜ r ≡ isEnd m (now (work .entry)) c ⌝ }
+{
+    if is_in(work, m, c, MARK) {
+        return false;
+    }
+    if is_in(work, m, c, SPARE) {
+        return false;
+    }
+    is_in(work, m, c, PLACE)
+}
+
+// Word j behind the n collected ones, unless it is there. Returns how many there are.
+fn word(work: &mut [u32], m: usize, n: usize, j: usize) -> usize
+    requires { ⌜ SomeWords (λ ws. WordAt m n j ws (now work)) ⌝ }
+    ensures { λ r. ⌜ EveryWords (λ ws. WordAt m n j ws (now (work .entry))) (λ ws. Worded m j ws (now (work .entry)) (now (work .exit)) r) ⌝ }
+{
+    if tail_get(work, m, j) != 0 {
+        return n;
+    }
+    tail_set(work, m, j, (n + 1) as u32);
+    n + 1
+}
+
+// The word of the cell at position p, if an endpoint stands there.
+fn cell(stage: &[u32], work: &mut [u32], m: usize, n: usize, p: usize) -> usize
+    requires { ⌜ SomeWords (λ ws. CellAt m n p ws (now stage) (now work)) ⌝ }
+    ensures { λ r. ⌜ EveryWords (λ ws. CellAt m n p ws (now (stage .entry)) (now (work .entry))) (λ ws. Celled m p ws (now (stage .entry)) (now (work .entry)) (now (work .exit)) r) ⌝ }
+{
+    let c = wide(stage[p]);
+    if c == 4294967295 {
+        return n;
+    }
+    if is_end(work, m, c) {
+        return word(work, m, n, p / 32);
+    }
+    n
+}
+
+// The words of the cells from a to e.
+fn row(stage: &[u32], work: &mut [u32], m: usize, n: usize, a: usize, e: usize) -> usize
+    requires { ⌜ SomeWords (λ ws. RowAt m n a e ws (now stage) (now work)) ⌝ }
+    ensures { λ r. ⌜ EveryWords (λ ws. RowAt m n a e ws (now (stage .entry)) (now (work .entry))) (λ ws. Rowed m a e ws (now (stage .entry)) (now (work .entry)) (now (work .exit)) r) ⌝ }
+{
+    let mut k = n;
+    let mut p = a;
+    while p < e {
+        k = cell(stage, work, m, k, p);
+        p += 1;
+    }
+    k
+}
+
+// All levels from 1 upward; `half` is the size of level 1, and each row above it has half the cells. Returns how many words there are.
+pub fn collect(stage: &[u32], work: &mut [u32], m: usize, height: usize, half: usize) -> usize
+    requires { ⌜ UpAt m height half (now stage) (now work) ⌝ }
+    ensures { λ r. ⌜ Upped m height (now (stage .entry)) (now (work .entry)) (now (work .exit)) r ⌝ }
+{
+    let mut n = 0;
+    let mut w = half;
+    let mut h = 1;
+    while h <= height {
+        n = row(stage, work, m, n, w, 2 * w);
+        w = w / 2;
+        h += 1;
+    }
+    n
+}
+
+// Word j, if it is collected, goes to its place behind `at`.
+fn write_one(words: &mut [u32], work: &mut [u32], m: usize, at: usize, j: usize)
+    requires { ⌜ OneAt m at j (now words) (now work) ⌝ }
+    ensures { λ _. ⌜ One m at j (now (words .entry)) (now (work .entry)) (now (words .exit)) (now (work .exit)) ⌝ }
+{
+    let k = tail_get(work, m, j);
+    if k == 0 {
+        return;
+    }
+    words[at + k - 1] = j as u32;
+    tail_set(work, m, j, 0);
+}
+
+// The n collected words go behind `at`, and are collected no more.
+pub fn write(words: &mut [u32], work: &mut [u32], m: usize, at: usize, n: usize)
+    requires { ⌜ SomeWords (λ ws. WriteAt m at n ws (now words) (now work)) ⌝ }
+    ensures { λ _. ⌜ EveryWords (λ ws. WriteAt m at n ws (now (words .entry)) (now (work .entry))) (λ ws. Written m at ws (now (words .entry)) (now (work .entry)) (now (words .exit)) (now (work .exit))) ⌝ }
+{
+    let mut j = 0;
+    while j < 256 {
+        write_one(words, work, m, at, j);
+        j += 1;
+    }
+}

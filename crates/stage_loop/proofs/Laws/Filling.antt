@@ -1,0 +1,159 @@
+-- Rules 2 to 7 on an empty stage: where the loop starts, and what it comes to. Assumes nothing.
+use Prim.Native.Nat.{ℕ, zero, suc, _-_, _≤_, _<_, max, min}
+use mathlib.Core.Path.{_≡_, refl, sym, _∙_}
+use mathlib.Core.List.{List, [], _∷_, map}
+use native.Mathlib.Omega.{arith}
+use lib.ListN.{length}
+use borrow.Author.Tests.{le-leb}
+use Rattle.rules.specs.Lists.{mem}
+use Rattle.rules.specs.Cells.{rowAt}
+use Rattle.rules.specs.Traversal.{Setting, levelAt, greatest}
+use Rattle.rules.specs.Placing.{neededOf, filledPlan}
+use Rattle.rules.specs.Lean.{blank, wanted, lean, leanPlan}
+use Rattle.rules.proofs.Lists.Members.{In, in-here, in-there}
+use Rattle.rules.proofs.Needed.Lacks.{same-needed}
+use Rattle.rules.proofs.Tree.Fair.{Fair}
+use Rattle.rules.proofs.Lean.Lean.{lean-plan, lean-tidy}
+use Rattle.cells.specs.Answers.{orZero, hasLevel}
+use Rattle.cells.proofs.Heights.{orZero-true, not-above, level-tested}
+use Rattle.columns.specs.Fields.{MARK}
+use Rattle.columns.specs.Lists.{Marks, Clear}
+use Rattle.stage_walk.specs.Stands.{Context, Set, Tally}
+use Rattle.stage_needed.specs.Needed.{NeededAt, Needed}
+use Rattle.stage_walk.proofs.Contexts.{low-mark, level-below}
+use Rattle.stage_tree.specs.Bits.{Standing}
+use Rattle.stage_tree.proofs.Bits.Standing.{first-stands}
+use Rattle.stage_loop.specs.Loop.{Kept, Counted, SettleAt, LeanAt, Leaned}
+use Rattle.stage_loop.specs.Filling.{RowAt, GrowAt, Grown, FillAt, FilledTree}
+use Rattle.stage_loop.proofs.Laws.Loop.{kept-none, kept-then, set-kept, clear-kept, needed-at, counted}
+
+-- a row's start, from what a height answers
+pub row-there : {K h r : ℕ} → RowAt K h → r ≡ orZero (hasLevel K h) (rowAt K h) → r ≡ rowAt K h
+row-there {K} {h} {r} A e =
+    let t = not-above K (A .least) ∙ le-leb K 13 (A .most) in
+    e ∙ rw (level-tested K h t, le-leb h K (A .level)) (orZero-true (rowAt K h))
+
+-- a clear column marks no pin
+pub clear-marks : {g m : ℕ} {w : List ℕ} → Clear g m w → Marks g m [] w
+unfolding mem
+clear-marks c = record { mark = λ p b. c .zero p b }
+
+-- the greatest of some numbers is no greater than what none of them exceeds
+greatest-most : (f : ℕ → ℕ) (n a : ℕ) (xs : List ℕ) → a ≤ n → ((x : ℕ) → In x xs → f x ≤ n) → greatest (map f xs) a ≤ n
+unfolding greatest
+greatest-most f n a [] b h = b
+greatest-most f n a (x ∷ xs) b h = greatest-most f n (max (f x) a) xs (omega (arith, h x (in-here x xs))) (λ y e. h y (in-there y x xs e))
+
+lean-low : (X : Setting) (h b : ℕ) (pl : List ℕ) → h < 2 → lean X h b pl ≡ pl
+unfolding lean
+lean-low X zero b pl l = refl
+lean-low X (suc zero) b pl l = refl
+lean-low X (suc (suc h)) b pl l = absurd (omega arith)
+
+-- the needed pins can be counted
+settle-at : {C : Context} {m n k K half : ℕ} {gates pl w : List ℕ} → Set C m n k gates w → Marks MARK m [] w → Tally C m pl w → K ≡ C .X .K → half ≡ rowAt K 1 → SettleAt C m n k half 0 gates pl w
+unfolding rowAt
+settle-at S c t e d = record { set = S; clear = c; tally = t; cap = rw e at d; few = omega arith }
+
+-- ---- from the level to start at
+
+module _ {C : Context} {m n k h K half : ℕ} {gates pl w : List ℕ} (A : GrowAt C m n k h K half gates pl w) where
+  abbrev b₀ : ℕ
+  b₀ = length (wanted (C .X) (blank (C .X)))
+
+  plan-is : leanPlan (C .X) ≡ lean (C .X) h b₀ pl
+  unfolding leanPlan
+  plan-is = rw (A .level, A .first)
+
+  pub row-at : RowAt K h
+  row-at = record { least = omega (arith, A .height, C .low); most = omega (arith, A .height, C .high); level = omega (arith, A .level, A .height) }
+
+  deep : 2 ≤ h → h < m
+  deep l = omega (
+    arith,
+    A .level,
+    A .plan .set .begun .base .size,
+    greatest-most (levelAt (C .X)) (m - 1) 0 (C .X .order) (omega arith) (λ x i. omega (arith, level-below C x (C .S .listed x i), A .plan .set .begun .base .size)),
+  )
+
+  settle : SettleAt C m n k half 0 gates pl w
+  settle = settle-at (A .plan .set) (A .plan .clear) (A .plan .tally) (A .height) (A .row)
+
+  pub grow-count : NeededAt C pl m n k gates w
+  grow-count = needed-at settle
+
+  pub grown-none : h < 2 → Grown C m w pl w
+  grown-none l = record { is = sym (plan-is ∙ lean-low (C .X) h b₀ pl l); kept = kept-none m w; tally = A .plan .tally }
+
+  module _ (l : 2 ≤ h) {w1 : List ℕ} {b wd : ℕ} (N : Needed C pl m w w1 b) (row : wd ≡ rowAt K h) where
+    N₁ : Counted C m pl w w1 b
+    N₁ = counted settle N
+
+    up : suc (h - 1) ≡ h
+    up = omega arith
+
+    pub grow-lean : LeanAt C m n k (h - 1) wd half gates pl w1 b
+    grow-lean = record {
+      plan = record { set = set-kept (N₁ .kept) (A .plan .set); clear = clear-kept (N₁ .kept) (A .plan .clear); tally = N₁ .tally; fair = rw up (A .plan .fair) };
+      wide = record { low = omega arith; high = omega (arith, up, A .level); row = rw (up, ← A .height) row };
+      cap = settle .cap;
+      enough = omega (arith, N₁ .count);
+      few = N₁ .few;
+      deep = omega (arith, deep l);
+    }
+
+    pub grown : {pl2 w2 : List ℕ} → Leaned C m (h - 1) pl w1 b pl2 w2 → Grown C m w pl2 w2
+    grown L = record {
+      is = L .same ∙ rw (up, N₁ .count) (let z : length (wanted (C .X) pl) ≡ b₀ = rw (A .first) refl in rw z (sym plan-is));
+      kept = kept-then (N₁ .kept) (L .kept);
+      tally = L .tally;
+    }
+
+-- ---- the plan of the tree
+
+module _ {C : Context} {m n k top K half : ℕ} {gates pl w : List ℕ} (A : FillAt C m n k top K half gates pl w) where
+  stands : (h : ℕ) → Standing C m h gates pl w
+  stands h = rw (A .first) (first-stands C m h gates w (A .set .begun .base) (A .set .levelled) (A .cells .zero) (A .ones) (A .pins))
+
+  pub fill-grow : {h : ℕ} → h ≡ min top K → GrowAt C m n k h K half gates pl w
+  fill-grow {h} e = record {
+    plan = record { set = A .set; clear = clear-marks (A .clear); tally = stands h .tally; fair = stands h .fair };
+    first = A .first;
+    level = e ∙ rw (A .most, A .height) refl;
+    height = A .height;
+    row = A .row;
+  }
+
+  module _ {pl1 w1 : List ℕ} (G : Grown C m w pl1 w1) where
+    settle-last : SettleAt C m n k half 0 gates pl1 w1
+    settle-last = settle-at (set-kept (G .kept) (A .set)) (clear-kept (G .kept) (clear-marks (A .clear))) (G .tally) (A .height) (A .row)
+
+    pub fill-count : NeededAt C pl1 m n k gates w1
+    fill-count = needed-at settle-last
+
+    pub filled-tree : {w2 : List ℕ} {q : ℕ} → Needed C pl1 m w1 w2 q → FilledTree C m gates pl w q pl1 w2
+    filled-tree {w2} {q} N = record {
+      is = is;
+      size = fair .len ∙ sym (stands 1 .fair .len);
+      kept = kept;
+      stands = record { base = last .begun .base; levelled = last .levelled; tally = N₁ .tally; fair = fair };
+      needed = rw (← needs) at (N .list);
+    }
+      where
+        N₁ : Counted C m pl1 w1 w2 q
+        N₁ = counted settle-last N
+
+        is : pl1 ≡ filledPlan (C .X)
+        is = G .is ∙ lean-plan (C .X) (C .r) (length (C .X .g)) (C .S) (C .M) (low-mark C)
+
+        fair : Fair (C .X) (C .r) (length (C .X .g)) (C .S) 1 pl1
+        fair = rw (G .is) (lean-tidy (C .X) (C .r) (length (C .X .g)) (C .S) (C .M) (low-mark C))
+
+        needs : neededOf (C .X) pl1 ≡ wanted (C .X) pl1
+        needs = same-needed (C .X) (C .r) (length (C .X .g)) (C .S) (C .M) fair
+
+        kept : Kept m w w2
+        kept = kept-then (G .kept) (N₁ .kept)
+
+        last : Set C m n k gates w2
+        last = set-kept kept (A .set)

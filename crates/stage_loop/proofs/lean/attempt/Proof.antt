@@ -1,0 +1,46 @@
+-- `stage_loop::lean::attempt` meets its contract: placed where there is room, else taken back. Assumes nothing.
+use Rattle.stage_loop.proofs.Laws.Loop.{place-at, after-place, tried-some, back-at, tried-none}
+use borrow.Author.Needs.{needs}
+use Rattle.stage_loop.proofs.lean.attempt.Statement.{statement}
+use Rattle.stage_loop.proofs.lean.attempt.Tie as tie
+
+place-bit-requires : tie.Need-place-bit-requires
+place-bit-requires c κs = record { C = c .before .before .before .before .before .pre .C; at = place-at (c .before .before .before .before .before .pre .at) }
+
+settle-requires : tie.Need-settle-requires
+settle-requires c κs = let A = c .before .before .before .before .before .before .before .before .before .before .before .before .pre in record { C = A .C; at = after-place (A .at) (c .before .before .before .before .before .before .place-bit .ensures .all (A .C) (place-at (A .at))) }
+
+purge-bit-requires : tie.Need-purge-bit-requires
+purge-bit-requires c κs = let A = c .before .before .before .before .before .before .before .before .before .before .before .before .before .before .before .before .before .before .pre in let P = c .before .before .before .before .before .before .before .before .before .before .before .before .place-bit .ensures .all (A .C) (place-at (A .at)) in record { C = A .C; at = back-at (A .at) P (c .before .before .before .before .before .settle .ensures .all (A .C) (after-place (A .at) P)) }
+
+same-length : tie.Need-same-length
+same-length c = search needs
+
+same-length-2 : tie.Need-same-length-2
+same-length-2 c = search needs
+
+returns : tie.Need-returns
+returns c = record { all = λ C A. let P = c .before .before .before .before .before .before .before .before .before .before .before .before .before .before .before .before .before .place-bit .ensures .all C (place-at A) in let T = c .before .before .before .before .before .before .before .before .before .before .settle .ensures .all C (after-place A P) in tried-none A P T (c .before .before .before .before .before .before .before .if1 .taken) (c .before .before .before .before .purge-bit .ensures .all C (back-at A P T)) }
+
+same-length-3 : tie.Need-same-length-3
+same-length-3 c = search needs
+
+same-length-4 : tie.Need-same-length-4
+same-length-4 c = search needs
+
+returns-2 : tie.Need-returns-2
+returns-2 c = record { all = λ C A. let P = c .before .before .before .before .before .before .before .before .before .before .place-bit .ensures .all C (place-at A) in tried-some A P (c .before .before .before .settle .ensures .all C (after-place A P)) (c .if1 .left) }
+
+pub attempt-spec : {M : Type 1} → statement M
+attempt-spec =
+    tie.close
+    (tie.spec
+    place-bit-requires
+    settle-requires
+    purge-bit-requires
+    same-length
+    same-length-2
+    returns
+    same-length-3
+    same-length-4
+    returns-2)

@@ -1,0 +1,136 @@
+-- Rules 2 to 7 over the columns: what the loop's functions ask and leave. pl is the stage, w the work area. Assumes nothing.
+use mathlib.Core.Path.{_≡_}
+use mathlib.Core.Logic.{_≢_}
+use mathlib.Core.List.{List, [], _∷_}
+use Prim.Native.Nat.{ℕ, suc, _+_, _-_, _*_, _<_, _≤_}
+use lib.ListN.{length, getD}
+use Rattle.rules.specs.Lists.{Found, nothing, found}
+use Rattle.rules.specs.Cells.{levelOneSize, rowAt}
+use Rattle.rules.specs.Placing.{placed}
+use Rattle.rules.specs.Lean.{wanted, recount, lean, onward}
+use Rattle.rules.proofs.Tree.Fair.{Fair}
+use Rattle.rules.proofs.Tree.Invariant.{Placeable}
+use Rattle.rules.proofs.Lean.Lean.{Going}
+use Rattle.columns.specs.Area.{Frame}
+use Rattle.columns.specs.Fields.{CELLS, NEEDED, MARK, TAIL, ONES, PINS}
+use Rattle.columns.specs.Lists.{Marks}
+use Rattle.stage_walk.specs.Stands.{Context, Set, Tally, ranked}
+use Rattle.stage_walk.proofs.Contexts.{low-mark}
+
+-- only the counts and the needed pins changed
+pub record Kept (m : ℕ) (w w′ : List ℕ) : Type 0 where
+  pub frame : Frame (CELLS ∷ NEEDED ∷ TAIL ∷ []) m w w′
+  pub rest : (j : ℕ) → 16 * m ≤ j → j ≢ 16 * m + ONES → j ≢ 16 * m + PINS → getD w′ j 0 ≡ getD w j 0
+
+-- a plan with its counts while level h is filled; n pins wait, k are listed, none is marked
+pub record Plan (C : Context) (m n k h : ℕ) (gates pl w : List ℕ) : Type 0 where
+  pub set : Set C m n k gates w
+  pub clear : Marks MARK m [] w
+  pub tally : Tally C m pl w
+  pub fair : Fair (C .X) (C .r) (length (C .X .g)) (C .S) h pl
+
+-- a row's start
+pub record Wide (C : Context) (h wd : ℕ) : Type 0 where
+  pub low : 1 ≤ h
+  pub high : h ≤ C .X .K
+  pub row : wd ≡ rowAt (C .X .K) h
+
+-- ---- the needed pins
+
+pub record Counted (C : Context) (m : ℕ) (pl w w′ : List ℕ) (c : ℕ) : Type 0 where
+  pub count : c ≡ length (wanted (C .X) pl)
+  pub few : c ≤ m
+  pub kept : Kept m w w′
+  pub tally : Tally C m pl w′
+
+-- ---- rule 7: 0 for no room, else one more than the bound
+
+unfoldable pub coded : Found → ℕ
+coded nothing = 0
+coded (found c) = suc c
+
+pub record SettleAt (C : Context) (m n k half most : ℕ) (gates pl w : List ℕ) : Type 0 where
+  pub set : Set C m n k gates w
+  pub clear : Marks MARK m [] w
+  pub tally : Tally C m pl w
+  pub cap : half ≡ levelOneSize (C .X .K)
+  pub few : most ≤ m
+
+pub record Settled (C : Context) (m most : ℕ) (pl w w′ : List ℕ) (c : ℕ) : Type 0 where
+  pub code : c ≡ coded (recount (C .X) most pl)
+  pub few : c ≤ m + 1
+  pub kept : Kept m w w′
+  pub tally : Tally C m pl w′
+
+-- ---- one try
+
+pub record TryAt (C : Context) (m n k h wd half p q most : ℕ) (gates pl w : List ℕ) : Type 0 where
+  pub plan : Plan C m n k h gates pl w
+  pub wide : Wide C h wd
+  pub able : Placeable (C .X) pl h p q
+  pub cap : half ≡ levelOneSize (C .X .K)
+  pub few : most ≤ m
+
+pub record Tried (C : Context) (m h p q most : ℕ) (pl w pl′ w′ : List ℕ) (c : ℕ) : Type 0 where
+  pub code : c ≡ coded (recount (C .X) most (placed (C .X) h p q pl))
+  pub few : c ≤ m + 1
+  pub none : c ≡ 0 → pl′ ≡ pl
+  pub some : 0 < c → pl′ ≡ placed (C .X) h p q pl
+  pub kept : Kept m w w′
+  pub tally : Tally C m pl′ w′
+
+-- ---- one turn at level l + 1, with the candidates at i to e left
+
+pub record At (C : Context) (m n k l wd half : ℕ) (gates pl w : List ℕ) (i e b : ℕ) : Type 0 where
+  pub set : Set C m n k gates w
+  pub clear : Marks MARK m [] w
+  pub tally : Tally C m pl w
+  pub going : Going (C .X) (C .r) (length (C .X .g)) (C .S) (C .M) (low-mark C) (suc l) (ranked m w i e) b pl
+  pub wide : Wide C (suc l) wd
+  pub cap : half ≡ levelOneSize (C .X .K)
+  pub before : i ≤ e
+  pub inside : e ≤ m
+  pub few : b ≤ m
+
+pub record Next (C : Context) (m n k l wd half : ℕ) (gates pl w : List ℕ) (i e b : ℕ) : Type 0 where
+  pub at : At C m n k l wd half gates pl w i e b
+  pub more : i < e
+
+pub record Ended (C : Context) (m l : ℕ) (pl w : List ℕ) (i e b : ℕ) (pl′ w′ : List ℕ) (b′ : ℕ) : Type 0 where
+  pub same : onward (C .X) l (ranked m w i e) b pl ≡ lean (C .X) l b′ pl′
+  pub fair : Fair (C .X) (C .r) (length (C .X .g)) (C .S) l pl′
+  pub enough : length (wanted (C .X) pl′) ≤ b′
+  pub few : b′ ≤ m
+  pub kept : Kept m w w′
+  pub tally : Tally C m pl′ w′
+
+pub record Gone (C : Context) (m n k l wd half : ℕ) (gates pl w : List ℕ) (i e b : ℕ) (pl′ w′ : List ℕ) (j b′ : ℕ) : Type 0 where
+  pub same : onward (C .X) l (ranked m w i e) b pl ≡ onward (C .X) l (ranked m w′ j e) b′ pl′
+  pub kept : Kept m w w′
+  pub at : At C m n k l wd half gates pl′ w′ j e b′
+
+pub record Turned (C : Context) (m n k l wd half : ℕ) (gates pl w : List ℕ) (i e b : ℕ) (pl′ w′ : List ℕ) (c : ℕ) : Type 0 where
+  pub stop : c ≡ 0 → Ended C m l pl w i e b pl′ w′ b
+  pub on : 0 < c → Gone C m n k l wd half gates pl w i e b pl′ w′ (i + 1) (c - 1)
+  pub few : c ≤ m + 1
+
+-- ---- all levels from l + 1 down
+
+pub record LeanAt (C : Context) (m n k l wd half : ℕ) (gates pl w : List ℕ) (b : ℕ) : Type 0 where
+  pub plan : Plan C m n k (suc l) gates pl w
+  pub wide : Wide C (suc l) wd
+  pub cap : half ≡ levelOneSize (C .X .K)
+  pub enough : length (wanted (C .X) pl) ≤ b
+  pub few : b ≤ m
+  pub deep : suc l < m
+
+-- where the loop over levels stands
+pub record Leaning (C : Context) (m n k top wd half : ℕ) (gates pl w : List ℕ) (most l : ℕ) (pl′ w′ : List ℕ) (b : ℕ) : Type 0 where
+  pub same : lean (C .X) (suc top) most pl ≡ lean (C .X) (suc l) b pl′
+  pub kept : Kept m w w′
+  pub at : LeanAt C m n k l wd half gates pl′ w′ b
+
+pub record Leaned (C : Context) (m l : ℕ) (pl w : List ℕ) (b : ℕ) (pl′ w′ : List ℕ) : Type 0 where
+  pub same : pl′ ≡ lean (C .X) (suc l) b pl
+  pub kept : Kept m w w′
+  pub tally : Tally C m pl′ w′

@@ -1,0 +1,70 @@
+// Rules 2 to 7 on an empty stage: where the loop starts, and the needed pins of the plan that it leaves.
+use crate::lean::lean;
+use cells::Height;
+use stage_needed::needed;
+ghost use mathlib.Core.Path.{_≡_};
+ghost use Prim.Native.Nat.{min};
+ghost use Rattle.rules.specs.Cells.{rowAt};
+ghost use Rattle.stage_walk.specs.Stands.{Some, Every};
+ghost use Rattle.stage_loop.specs.Filling.{RowAt, GrowAt, Grown, FillAt, FilledTree};
+
+// Rule 2: the level to start at.
+fn start_level(top: usize, height: usize) -> usize
+    ensures { λ r. ⌜ r ≡ min top height ⌝ }
+{
+    if height < top {
+        return height;
+    }
+    top
+}
+
+// Where the row of a level begins.
+fn row_at(height: usize, level: usize) -> usize
+    requires { ⌜ RowAt height level ⌝ }
+    ensures { λ r. ⌜ r ≡ rowAt height level ⌝ }
+{
+    Height(height as u32).row_at(level as u32)
+}
+
+// From level h of an empty stage down. Levels 1 and 0 have no turn of their own.
+fn grow(
+    gates: &[u32],
+    stage: &mut [u32],
+    work: &mut [u32],
+    m: usize,
+    n: usize,
+    k: usize,
+    h: usize,
+    height: usize,
+    half: usize,
+)
+    requires { ⌜ Some (λ C. GrowAt C m n k h height half (now gates) (now stage) (now work)) ⌝ }
+    ensures { λ _. ⌜ Every (λ C. GrowAt C m n k h height half (now (gates .entry)) (now (stage .entry)) (now (work .entry))) (λ C. Grown C m (now (work .entry)) (now (stage .exit)) (now (work .exit))) ⌝ }
+{
+    if h < 2 {
+        return;
+    }
+    let most = needed(gates, work, m, n, k);
+    let w = row_at(height, h);
+    lean(gates, stage, work, m, n, k, h - 1, w, half, most);
+}
+
+// The plan of the tree, with n pins waiting, k listed and `top` the greatest level. Returns how many pins are needed then.
+pub fn fill_tree(
+    gates: &[u32],
+    stage: &mut [u32],
+    work: &mut [u32],
+    m: usize,
+    n: usize,
+    k: usize,
+    top: usize,
+    height: usize,
+    half: usize,
+) -> usize
+    requires { ⌜ Some (λ C. FillAt C m n k top height half (now gates) (now stage) (now work)) ⌝ }
+    ensures { λ q. ⌜ Every (λ C. FillAt C m n k top height half (now (gates .entry)) (now (stage .entry)) (now (work .entry))) (λ C. FilledTree C m (now (gates .entry)) (now (stage .entry)) (now (work .entry)) q (now (stage .exit)) (now (work .exit))) ⌝ }
+{
+    let h = start_level(top, height);
+    grow(gates, stage, work, m, n, k, h, height, half);
+    needed(gates, work, m, n, k)
+}

@@ -1,0 +1,156 @@
+// Rules 2 to 7: level after level, the ranked pins of the level go into its lowest empty cells while level 1 keeps room. The needed
+// pins are counted again only where an earlier count leaves no room: placing never adds one.
+use columns::CELLS;
+use columns::ENDS;
+use columns::RANKED;
+use columns::STARTS;
+use columns::get;
+use columns::is_in;
+use stage_needed::needed;
+use stage_tree::first_empty;
+use stage_tree::place_bit;
+use stage_tree::purge_bit;
+use stage_tree::room;
+ghost use Prim.Native.Nat.{_+_, _*_, _<_};
+ghost use Rattle.stage_walk.specs.Stands.{Some, Every};
+ghost use Rattle.stage_loop.specs.Loop.{SettleAt, Settled, TryAt, Tried, Next, Turned, At, Ended, LeanAt, Leaned};
+
+// Rule 7: 0 for no room, else one more than a number that the needed pins don't exceed.
+fn settle(
+    gates: &[u32],
+    stage: &[u32],
+    work: &mut [u32],
+    m: usize,
+    n: usize,
+    k: usize,
+    half: usize,
+    most: usize,
+) -> usize
+    requires { ⌜ Some (λ C. SettleAt C m n k half most (now gates) (now stage) (now work)) ⌝ }
+    ensures { λ r. ⌜ Every (λ C. SettleAt C m n k half most (now (gates .entry)) (now (stage .entry)) (now (work .entry))) (λ C. Settled C m most (now (stage .entry)) (now (work .entry)) (now (work .exit)) r) ⌝ }
+{
+    if room(work, m, half, most) {
+        return most + 1;
+    }
+    let c = needed(gates, work, m, n, k);
+    if room(work, m, half, c) {
+        return c + 1;
+    }
+    0
+}
+
+// Places pin q at the cell p, and takes it back if that leaves no room.
+fn attempt(
+    gates: &[u32],
+    stage: &mut [u32],
+    work: &mut [u32],
+    m: usize,
+    n: usize,
+    k: usize,
+    h: usize,
+    w: usize,
+    half: usize,
+    p: usize,
+    q: usize,
+    most: usize,
+) -> usize
+    requires { ⌜ Some (λ C. TryAt C m n k h w half p q most (now gates) (now stage) (now work)) ⌝ }
+    ensures { λ r. ⌜ Every (λ C. TryAt C m n k h w half p q most (now (gates .entry)) (now (stage .entry)) (now (work .entry))) (λ C. Tried C m h p q most (now (stage .entry)) (now (work .entry)) (now (stage .exit)) (now (work .exit)) r) ⌝ }
+{
+    place_bit(gates, stage, work, m, h, w, p, q);
+    let c = settle(gates, stage, work, m, n, k, half, most);
+    if c == 0 {
+        purge_bit(stage, work, m, h, w, p);
+        return 0;
+    }
+    c
+}
+
+// One turn at level l + 1: the candidate at i of e.
+fn turn(
+    gates: &[u32],
+    stage: &mut [u32],
+    work: &mut [u32],
+    m: usize,
+    n: usize,
+    k: usize,
+    l: usize,
+    w: usize,
+    half: usize,
+    i: usize,
+    e: usize,
+    most: usize,
+) -> usize
+    requires { ⌜ Some (λ C. Next C m n k l w half (now gates) (now stage) (now work) i e most) ⌝ }
+    ensures { λ r. ⌜ Every (λ C. Next C m n k l w half (now (gates .entry)) (now (stage .entry)) (now (work .entry)) i e most) (λ C. Turned C m n k l w half (now (gates .entry)) (now (stage .entry)) (now (work .entry)) i e most (now (stage .exit)) (now (work .exit)) r) ⌝ }
+{
+    let q = get(work, m, i, RANKED);
+    if is_in(work, m, q, CELLS) {
+        return most + 1;
+    }
+    let end = 2 * w;
+    let p = first_empty(stage, w, end);
+    if p >= end {
+        return 0;
+    }
+    attempt(gates, stage, work, m, n, k, l + 1, w, half, p, q, most)
+}
+
+// The candidates of level l + 1 from `start` to e, one after the other; the last bound.
+fn sweep(
+    gates: &[u32],
+    stage: &mut [u32],
+    work: &mut [u32],
+    m: usize,
+    n: usize,
+    k: usize,
+    l: usize,
+    w: usize,
+    half: usize,
+    start: usize,
+    e: usize,
+    most: usize,
+) -> usize
+    requires { ⌜ Some (λ C. At C m n k l w half (now gates) (now stage) (now work) start e most) ⌝ }
+    ensures { λ r. ⌜ Every (λ C. At C m n k l w half (now (gates .entry)) (now (stage .entry)) (now (work .entry)) start e most) (λ C. Ended C m l (now (stage .entry)) (now (work .entry)) start e most (now (stage .exit)) (now (work .exit)) r) ⌝ }
+{
+    let mut i = start;
+    let mut b = most;
+    while i < e {
+        let c = turn(gates, stage, work, m, n, k, l, w, half, i, e, b);
+        if c == 0 {
+            return b;
+        }
+        b = c - 1;
+        i += 1;
+    }
+    b
+}
+
+// From level top + 1 down to level 2.
+pub fn lean(
+    gates: &[u32],
+    stage: &mut [u32],
+    work: &mut [u32],
+    m: usize,
+    n: usize,
+    k: usize,
+    top: usize,
+    width: usize,
+    half: usize,
+    most: usize,
+)
+    requires { ⌜ Some (λ C. LeanAt C m n k top width half (now gates) (now stage) (now work) most) ⌝ }
+    ensures { λ _. ⌜ Every (λ C. LeanAt C m n k top width half (now (gates .entry)) (now (stage .entry)) (now (work .entry)) most) (λ C. Leaned C m top (now (stage .entry)) (now (work .entry)) most (now (stage .exit)) (now (work .exit))) ⌝ }
+{
+    let mut l = top;
+    let mut w = width;
+    let mut b = most;
+    while l > 0 {
+        let start = get(work, m, l + 1, STARTS);
+        let e = get(work, m, l + 1, ENDS);
+        b = sweep(gates, stage, work, m, n, k, l, w, half, start, e, b);
+        l -= 1;
+        w = 2 * w;
+    }
+}

@@ -1,0 +1,56 @@
+-- `stage_needed::collect` meets its contract: the listed pins from i on have yet to ask. Assumes nothing.
+use mathlib.Core.Path.{_≡_, refl}
+use Prim.Native.Nat.{_≤_, _-_}
+use native.Mathlib.Omega.{arith}
+use lib.ListN.{length}
+use Rattle.stage_walk.specs.Stands.{EveryPlan}
+use Rattle.stage_needed.specs.Needed.{NeededAt, Collecting}
+use Rattle.stage_needed.proofs.Laws.Collecting.{collecting-none, need-at, collecting-more, collected}
+use borrow.Author.Needs.{needs}
+use Rattle.stage_needed.proofs.collect.Statement.{statement}
+use Rattle.stage_needed.proofs.collect.Tie as tie
+
+abbrev Inv-loop : tie.InvT-loop
+Inv-loop gates work₀ m n k r₀ i₀ work r i = EveryPlan (λ C pl. NeededAt C pl m n k gates work₀) (λ C pl. Collecting C pl m i work₀ work r) × (i ≤ k) × (length work ≡ length work₀)
+
+abbrev μ-loop : tie.MeasureT-loop
+μ-loop gates work₀ m n k r₀ i₀ work r i = k - i
+
+loop-holds : tie.Need-loop-holds Inv-loop μ-loop
+loop-holds c = (record { all = λ C pl A. collecting-none A }, omega arith, refl)
+
+get-requires : tie.Need-get-requires Inv-loop μ-loop
+get-requires c κs = let s = c .before .before .before .before .before .pre .at in omega (arith, s .ordered .order .few, s .begun .base .area .room, c .before .before .loop .inv .2)
+
+need-requires : tie.Need-need-requires Inv-loop μ-loop
+need-requires c κs = let s = c .before .before .before .before .before .before .before .pre in record { C = s .C; pl = s .pl; at = need-at (s .at) (c .before .before .before .before .loop .inv .0 .all (s .C) (s .pl) (s .at)) (c .before .before .before .loop-test .taken) _ (c .before .get .ensures) }
+
+add-i : tie.Need-add-i Inv-loop μ-loop
+add-i c = search needs
+
+loop-less : tie.Need-loop-less Inv-loop μ-loop
+loop-less c = search needs
+
+loop-again : tie.Need-loop-again Inv-loop μ-loop
+loop-again c = (record { all = λ C pl A. let U = c .before .before .before .before .before .before .before .loop .inv .0 .all C pl A in collecting-more A U (c .before .before .before .before .before .before .loop-test .taken) _ (c .before .before .before .before .get .ensures) (c .before .before .need .ensures .all C pl (need-at A U (c .before .before .before .before .before .before .loop-test .taken) _ (c .before .before .before .before .get .ensures))) }, omega arith, search needs)
+
+same-length : tie.Need-same-length Inv-loop μ-loop
+same-length c = search needs
+
+returns : tie.Need-returns Inv-loop μ-loop
+returns c = record { all = λ C pl A. collected A (c .before .loop .inv .0 .all C pl A) (c .loop-test .left) }
+
+pub collect-spec : {M : Type 1} → statement M
+collect-spec =
+    tie.close
+    (tie.spec
+    Inv-loop
+    μ-loop
+    loop-holds
+    get-requires
+    need-requires
+    add-i
+    loop-less
+    loop-again
+    same-length
+    returns)

@@ -1,0 +1,84 @@
+-- Needed pins (rule 6) as the columns give them: what is read of a plan, the list under way, and what is left. Assumes nothing.
+use mathlib.Core.Path.{_≡_}
+use mathlib.Core.Bool.{Bool, not, _&&_}
+use mathlib.Core.List.{List, [], _∷_}
+use Prim.Native.Nat.{ℕ, _+_, _*_, _<_}
+use lib.Dec.{eqb}
+use lib.ListN.{length, getD, drop}
+use Rattle.rules.specs.Lists.{mem, insertAll, gather}
+use Rattle.rules.specs.Traversal.{levelAt}
+use Rattle.rules.specs.Placing.{treeOf}
+use Rattle.rules.specs.Lean.{cellsHolding, lacks, wanted}
+use Rattle.rules.proofs.Lists.Members.{In}
+use Rattle.columns.specs.Area.{Room, Frame}
+use Rattle.columns.specs.Fields.{CELLS, NEEDED, PLACE, MARK}
+use Rattle.columns.specs.Lists.{list, Holds, Marks, Marked}
+use Rattle.stage_walk.specs.Stands.{Context, Begun, Ordered, Levelled, Reads}
+
+-- which pins wait, their levels, and how many cells hold them
+pub record Tells (C : Context) (pl : List ℕ) (m : ℕ) (w : List ℕ) : Type 0 where
+  pub area : Room m w
+  pub size : length (C .X .g) ≡ m
+  pub waits : (p : ℕ) → p < m → not (eqb (getD w (PLACE * m + p) 0) 0) ≡ mem p (C .X .waiting)
+  pub levelled : Levelled C m w
+  pub cells : (x : ℕ) → x < m → getD w (CELLS * m + x) 0 ≡ cellsHolding (C .X .K) pl x
+
+-- the list under way, n pins
+pub record Needing (C : Context) (pl : List ℕ) (m : ℕ) (w : List ℕ) (n : ℕ) : Type 0 where
+  pub tells : Tells C pl m w
+  pub now : Marked NEEDED MARK m n (list NEEDED m n w) w
+
+-- pins ys go behind it, each unless it is there
+pub record Needs (m : ℕ) (w : List ℕ) (n : ℕ) (w′ : List ℕ) (n′ : ℕ) (ys : List ℕ) : Type 0 where
+  pub frame : Frame (NEEDED ∷ MARK ∷ []) m w w′
+  pub now : Marked NEEDED MARK m n′ (insertAll ys (list NEEDED m n w)) w′
+
+-- an operand of level 0 that is not placed
+abbrev pub missing : Context → List ℕ → ℕ → Bool
+missing C pl q = eqb (levelAt (C .X) q) 0 && not (mem q (treeOf (C .X) pl))
+
+pub record AskAt (C : Context) (pl : List ℕ) (m : ℕ) (w : List ℕ) (n q : ℕ) : Type 0 where
+  pub needing : Needing C pl m w n
+  pub pin : q < m
+
+pub record ItselfAt (C : Context) (pl : List ℕ) (m : ℕ) (w : List ℕ) (n p l : ℕ) : Type 0 where
+  pub needing : Needing C pl m w n
+  pub pin : p < m
+  pub level : l ≡ levelAt (C .X) p
+  pub low : l < 2
+
+pub record NeedAt (C : Context) (pl : List ℕ) (m : ℕ) (gates w : List ℕ) (n p : ℕ) : Type 0 where
+  pub needing : Needing C pl m w n
+  pub reads : Reads C m gates w
+  pub listed : In p (C .X .seen)
+
+-- the counts of a plan stand in their column, and no pin is marked
+pub record NeededAt (C : Context) (pl : List ℕ) (m n k : ℕ) (gates w : List ℕ) : Type 0 where
+  pub begun : Begun C m n gates w
+  pub ordered : Ordered C m k w
+  pub levelled : Levelled C m w
+  pub cells : (x : ℕ) → x < m → getD w (CELLS * m + x) 0 ≡ cellsHolding (C .X .K) pl x
+  pub unmarked : Marks MARK m [] w
+
+-- the listed pins from i on have yet to ask
+pub record Collecting (C : Context) (pl : List ℕ) (m i : ℕ) (w₀ w : List ℕ) (r : ℕ) : Type 0 where
+  pub frame : Frame (NEEDED ∷ MARK ∷ []) m w₀ w
+  pub now : Marked NEEDED MARK m r (list NEEDED m r w) w
+  pub same : insertAll (gather (lacks (C .X) (treeOf (C .X) pl)) (drop i (C .X .order))) (list NEEDED m r w) ≡ wanted (C .X) pl
+
+pub record Collected (C : Context) (pl : List ℕ) (m : ℕ) (w w′ : List ℕ) (r : ℕ) : Type 0 where
+  pub frame : Frame (NEEDED ∷ MARK ∷ []) m w w′
+  pub now : Marked NEEDED MARK m r (wanted (C .X) pl) w′
+
+pub record UnmarkAt (m r : ℕ) (w : List ℕ) : Type 0 where
+  pub area : Room m w
+  pub now : Marked NEEDED MARK m r (list NEEDED m r w) w
+
+pub record Unmarked (m : ℕ) (xs w w′ : List ℕ) : Type 0 where
+  pub frame : Frame (MARK ∷ []) m w w′
+  pub marks : Marks MARK m xs w′
+
+-- the contract: the list, each pin once; the marks are as they were
+pub record Needed (C : Context) (pl : List ℕ) (m : ℕ) (w w′ : List ℕ) (r : ℕ) : Type 0 where
+  pub frame : Frame (NEEDED ∷ []) m w w′
+  pub list : Holds NEEDED m r (wanted (C .X) pl) w′

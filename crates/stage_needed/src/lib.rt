@@ -1,0 +1,102 @@
+// Rule 6, from the counts of cells by pin: a pin is placed exactly if its count is not 0.
+use columns::CELLS;
+use columns::LEVEL;
+use columns::MARK;
+use columns::NEEDED;
+use columns::ORDER;
+use columns::PLACE;
+use columns::enlist;
+use columns::get;
+use columns::is_in;
+use columns::set_field;
+use stage_walk::followed;
+ghost use mathlib.Core.List.{[], _∷_};
+ghost use Rattle.rules.specs.Lists.{keep};
+ghost use Rattle.rules.specs.Placing.{treeOf, asked};
+ghost use Rattle.rules.specs.Lean.{lacks};
+ghost use Rattle.stage_walk.specs.Stands.{SomePlan, EveryPlan};
+ghost use Rattle.stage_needed.specs.Needed.{missing, Needs, AskAt, ItselfAt, NeedAt, NeededAt, Collected, UnmarkAt, Unmarked, Needed};
+
+// Pin q behind the needed list of n pins, if it has level 0 and is not placed. Returns how many are listed.
+fn ask(work: &mut [u32], m: usize, n: usize, q: usize) -> usize
+    requires { ⌜ SomePlan (λ C pl. AskAt C pl m (now work) n q) ⌝ }
+    ensures { λ r. ⌜ EveryPlan (λ C pl. AskAt C pl m (now (work .entry)) n q) (λ C pl. Needs m (now (work .entry)) n (now (work .exit)) r (keep (missing C pl) (q ∷ []))) ⌝ }
+{
+    if get(work, m, q, LEVEL) != 0 {
+        return n;
+    }
+    if is_in(work, m, q, CELLS) {
+        return n;
+    }
+    enlist(work, m, n, NEEDED, MARK, q)
+}
+
+// Pin p of level l, 0 or 1, itself, at level 0 if it waits.
+fn itself(work: &mut [u32], m: usize, n: usize, p: usize, l: usize) -> usize
+    requires { ⌜ SomePlan (λ C pl. ItselfAt C pl m (now work) n p l) ⌝ }
+    ensures { λ r. ⌜ EveryPlan (λ C pl. ItselfAt C pl m (now (work .entry)) n p l) (λ C pl. Needs m (now (work .entry)) n (now (work .exit)) r (asked (C .X) (treeOf (C .X) pl) p l)) ⌝ }
+{
+    if l == 1 {
+        return enlist(work, m, n, NEEDED, MARK, p);
+    }
+    if is_in(work, m, p, PLACE) {
+        return enlist(work, m, n, NEEDED, MARK, p);
+    }
+    n
+}
+
+// What pin p makes needed.
+fn need(gates: &[u32], work: &mut [u32], m: usize, n: usize, p: usize) -> usize
+    requires { ⌜ SomePlan (λ C pl. NeedAt C pl m (now gates) (now work) n p) ⌝ }
+    ensures { λ r. ⌜ EveryPlan (λ C pl. NeedAt C pl m (now (gates .entry)) (now (work .entry)) n p) (λ C pl. Needs m (now (work .entry)) n (now (work .exit)) r (lacks (C .X) (treeOf (C .X) pl) p)) ⌝ }
+{
+    if is_in(work, m, p, CELLS) {
+        return n;
+    }
+    let l = get(work, m, p, LEVEL);
+    if l < 2 {
+        return itself(work, m, n, p, l);
+    }
+    let a = followed(gates, work, m, p, 0);
+    let b = followed(gates, work, m, p, 1);
+    let s = ask(work, m, n, a);
+    ask(work, m, s, b)
+}
+
+// The same for each of the k listed pins.
+fn collect(gates: &[u32], work: &mut [u32], m: usize, n: usize, k: usize) -> usize
+    requires { ⌜ SomePlan (λ C pl. NeededAt C pl m n k (now gates) (now work)) ⌝ }
+    ensures { λ r. ⌜ EveryPlan (λ C pl. NeededAt C pl m n k (now (gates .entry)) (now (work .entry))) (λ C pl. Collected C pl m (now (work .entry)) (now (work .exit)) r) ⌝ }
+{
+    let mut r = 0;
+    let mut i = 0;
+    while i < k {
+        let p = get(work, m, i, ORDER);
+        r = need(gates, work, m, r, p);
+        i += 1;
+    }
+    r
+}
+
+// The marks of the r needed pins go.
+fn unmark(work: &mut [u32], m: usize, r: usize)
+    requires { ⌜ UnmarkAt m r (now work) ⌝ }
+    ensures { λ _. ⌜ Unmarked m [] (now (work .entry)) (now (work .exit)) ⌝ }
+{
+    let mut i = 0;
+    while i < r {
+        let p = get(work, m, i, NEEDED);
+        set_field(work, m, p, MARK, 0);
+        i += 1;
+    }
+}
+
+// The needed pins of the plan whose counts are in CELLS, with n pins waiting and k listed. Returns how many they are.
+pub fn needed(gates: &[u32], work: &mut [u32], m: usize, n: usize, k: usize) -> usize
+    requires { ⌜ SomePlan (λ C pl. NeededAt C pl m n k (now gates) (now work)) ⌝ }
+    ensures { λ r. ⌜ EveryPlan (λ C pl. NeededAt C pl m n k (now (gates .entry)) (now (work .entry))) (λ C pl. Needed C pl m (now (work .entry)) (now (work .exit)) r) ⌝ }
+{
+    let r = collect(gates, work, m, n, k);
+    unmark(work, m, r);
+    r
+}

@@ -1,0 +1,173 @@
+-- What `prepare` wrote goes again: pin after pin along the order, then the fronts of STARTS and ENDS; and when that may be asked for. Assumes nothing.
+use mathlib.Core.Path.{_≡_, refl, sym, _∙_, ap}
+use mathlib.Core.Logic.{inl, inr}
+use mathlib.Core.Bool.{true, false}
+use mathlib.Core.List.{List, [], _∷_}
+use Prim.Native.Nat.{ℕ, suc, _+_, _*_, _<_, _≤_}
+use native.Mathlib.Omega.{arith}
+use native.Mathlib.Numerals.{add-one}
+use native.Mathlib.Decide.{ℕ-discrete}
+use lib.Dec.{eqb}
+use lib.ListN.{length, getD, set, drop, replicate, length-set, drop-of-length-le}
+use lib.Seq.{drop-cons}
+use Rattle.rules.specs.Lists.{mem}
+use Rattle.rules.proofs.Lists.Members.{Out, true-false, eqb-true, in-reverse, or-true, mem-other}
+use Rattle.rules.proofs.Walk.Reverse.{out-sub}
+use Rattle.columns.specs.Area.{Frame, among, col, put}
+use Rattle.columns.specs.Fields.{ORDER, LEVEL, STARTS, ENDS, REVERSE, LISTED, SPARE}
+use Rattle.columns.specs.Lists.{list, bit, Holds, Marks, Clear}
+use Rattle.columns.proofs.Area.Columns.{getD-col, at-set}
+use Rattle.columns.proofs.Area.Frames.{frame-none, frame-then, frame-more, frame-set, frame-front, frame-room}
+use Rattle.columns.proofs.Lists.Entries.{frame-list, holds-at, holds-pin, holds-self, holds-frame}
+use Rattle.columns.proofs.Lists.Clears.{zero-stays, clear-frame, front-clear}
+use Rattle.stage_walk.specs.Stands.{Context, Reversed, Set, Fresh}
+use Rattle.stage_prepare.specs.Ranking.{Beyond}
+use Rattle.stage_prepare.specs.Prepared.{atPins, ForgetAt, Unlisted, Forgot}
+use Rattle.stage_walk.proofs.Contexts.{order-is}
+use Rattle.stage_levels.proofs.Laws.Order.{level-out}
+use Rattle.stage_levels.proofs.Laws.Lifting.{reverse-out}
+
+-- what holds of the three columns holds of each
+each : (P : ℕ → Type 0) → P LISTED → P LEVEL → P REVERSE → (f : ℕ) → among atPins f ≡ true → P f
+each P a b c f e = elim (or-true (eqb f LISTED) (among (LEVEL ∷ REVERSE ∷ []) f) e) [
+  | inl d ↦ rw (eqb-true f LISTED d) a
+  | inr d ↦ elim (or-true (eqb f LEVEL) (among (REVERSE ∷ []) f) d) [
+    | inl k ↦ rw (eqb-true f LEVEL k) b
+    | inr k ↦ elim (or-true (eqb f REVERSE) false k) [ inl l ↦ rw (eqb-true f REVERSE l) c | inr l ↦ true-false l refl ]
+  ]
+]
+
+-- ---- pin after pin
+
+module _ {m k : ℕ} {w₀ : List ℕ} (A : ForgetAt m k w₀) where
+  abbrev xs : List ℕ
+  xs = list ORDER m k w₀
+
+  pub unlisted-none : Unlisted m k 0 w₀ w₀
+  unlisted-none = record { frame = frame-none; zeros = A .outside }
+
+  module _ {i : ℕ} {w : List ℕ} (U : Unlisted m k i w₀ w) where
+    pub unlisted-end : i ≡ k → Unlisted m k k w₀ w
+    unlisted-end e = rw e at U
+
+    module _ (h : i < k) (p : ℕ) (ep : p ≡ getD w (ORDER * m + i) 0) where
+      held : Holds ORDER m k xs w
+      held = holds-frame (A .order) (U .frame) refl (omega arith)
+
+      pub unlist-pin : p < m
+      unlist-pin = rw ep (holds-pin held i h)
+
+      next : drop i xs ≡ p ∷ drop (suc i) xs
+      next = drop-cons xs i 0 (omega (arith, A .order .count)) ∙ ap (λ (x : ℕ). x ∷ drop (suc i) xs) (sym (ep ∙ holds-at held i h))
+
+      pub unlisted-more : (w₁ w₂ w₃ : List ℕ) → w₁ ≡ set w (LISTED * m + p) 0 → w₂ ≡ set w₁ (LEVEL * m + p) 0 → w₃ ≡ set w₂ (REVERSE * m + p) 0 → Unlisted m k (i + 1) w₀ w₃
+      unlisted-more w₁ w₂ w₃ e₁ e₂ e₃ = rw (e₃, e₂, e₁, add-one i) (record {
+        frame = frame-then (U .frame) (frame-then (frame-set LISTED p 0 unlist-pin (omega arith) refl)
+            (frame-then (frame-set LEVEL p 0 unlist-pin (omega arith) refl) (frame-set REVERSE p 0 unlist-pin (omega arith) refl)));
+        zeros = λ f e q l o. zeros f e q l o (ℕ-discrete q p);
+      })
+        where
+          u₁ : List ℕ
+          u₁ = set w (LISTED * m + p) 0
+
+          u₂ : List ℕ
+          u₂ = set u₁ (LEVEL * m + p) 0
+
+          u₃ : List ℕ
+          u₃ = set u₂ (REVERSE * m + p) 0
+
+          room : 16 * m + 512 ≤ length w
+          room = frame-room (U .frame) (A .area) .room
+
+          gone : (f : ℕ) → among atPins f ≡ true → getD u₃ (f * m + p) 0 ≡ 0
+          gone = each (λ f. getD u₃ (f * m + p) 0 ≡ 0)
+              (zero-stays u₂ _ _ (zero-stays u₁ _ _ (at-set LISTED m w p 0 unlist-pin (omega (arith, room)))))
+              (zero-stays u₂ _ _ (at-set LEVEL m u₁ p 0 unlist-pin (simp length-set (omega (arith, room)))))
+              (at-set REVERSE m u₂ p 0 unlist-pin (simp length-set (omega (arith, room))))
+
+          zeros : (f : ℕ) → among atPins f ≡ true → (q : ℕ) → q < m → Out q (drop (suc i) xs) → Dec (q ≡ p) → getD u₃ (f * m + q) 0 ≡ 0
+          zeros f e q l o (yes d) = rw d (gone f e)
+          zeros f e q l o (no d) = zero-stays u₂ _ _ (zero-stays u₁ _ _ (zero-stays w _ _ (U .zeros f e q l (rw next (mem-other q p (drop (suc i) xs) d ∙ o)))))
+
+-- ---- the whole
+
+module _ {m k : ℕ} {w : List ℕ} (A : ForgetAt m k w) (u : List ℕ) (U : Unlisted m k k w u) (v w′ : List ℕ) (e₁ : v ≡ put STARTS m u (replicate k 0)) (e₂ : w′ ≡ put ENDS m v (replicate k 0)) where
+  first : Frame (STARTS ∷ []) m u v
+  first = rw e₁ (frame-front STARTS k 0 (A .order .few) (omega arith) refl)
+
+  second : Frame (ENDS ∷ []) m v w′
+  second = rw e₂ (frame-front ENDS k 0 (A .order .few) (omega arith) refl)
+
+  both : Frame (STARTS ∷ ENDS ∷ []) m u w′
+  both = frame-then (frame-more refl first) (frame-more refl second)
+
+  pins : (f : ℕ) → among atPins f ≡ true → Clear f m u
+  unfolding mem
+  pins f e = record { zero = λ p h. U .zeros f e p h (rw (drop-of-length-le (list ORDER m k w) {i = k} (omega (arith, A .order .count))) refl) }
+
+  room : 16 * m + 512 ≤ length u
+  room = frame-room (U .frame) (A .area) .room
+
+  pub forgot : Forgot m w w′
+  forgot = record {
+    frame = frame-then (frame-more refl (U .frame)) (frame-more refl both);
+    listed = clear-frame (pins LISTED refl) both refl (omega arith);
+    levels = clear-frame (pins LEVEL refl) both refl (omega arith);
+    reverse = clear-frame (pins REVERSE refl) both refl (omega arith);
+    starts = clear-frame (front-clear STARTS m k u v e₁ (omega (arith, room)) (A .order .few) (λ p a b. U .frame .cell STARTS refl (omega arith) p b ∙ A .beyond p a b .0)) second refl (omega arith);
+    ends = front-clear ENDS m k v w′ e₂ (omega (arith, room, first .len)) (A .order .few) (λ p a b. first .cell ENDS refl (omega arith) p b ∙ U .frame .cell ENDS refl (omega arith) p b ∙ A .beyond p a b .1);
+  }
+
+-- ---- when it may be asked for: what `prepare` left stands
+
+pub forget-at : {C : Context} {m n k : ℕ} {gates w : List ℕ} → Set C m n k gates w → Reversed C m w → Marks LISTED m (C .X .order) w → Beyond m k w → ForgetAt m k w
+forget-at {C} {m} {n} {k} {gates} {w} S R M b = record {
+  area = S .begun .base .area;
+  order = holds-self (S .ordered .order);
+  outside = λ f e p h o. each (λ g. getD w (g * m + p) 0 ≡ 0) (M .mark p h ∙ ap bit (out p o)) (at LEVEL p h ∙ rw (S .levelled .levels) (level-out C p (pin p h) (unseen p o)))
+      (at REVERSE p h ∙ rw (R .reverse) (reverse-out C p (pin p h) (unseen p o))) f e;
+  beyond = b;
+}
+  where
+    out : (p : ℕ) → Out p (list ORDER m k w) → Out p (C .X .order)
+    out p o = rw (S .ordered .order .is) at o
+
+    unseen : (p : ℕ) → Out p (list ORDER m k w) → Out p (C .X .seen)
+    unseen p o = out-sub (C .X .seen) (C .X .order) (λ q i. rw (order-is C) (in-reverse q (C .X .seen) i)) p (out p o)
+
+    pin : (p : ℕ) → p < m → p < length (C .X .g)
+    pin p h = rw (S .begun .base .size) h
+
+    at : (f p : ℕ) → p < m → getD w (f * m + p) 0 ≡ getD (col f m w) p 0
+    at f p h = sym (getD-col f m w p h)
+
+-- and it still does after what names none of its columns
+pub forget-frame : {m k : ℕ} {w : List ℕ} → ForgetAt m k w → {fs : List ℕ} {w′ : List ℕ} → Frame fs m w w′ → among fs ORDER ≡ false → among fs LEVEL ≡ false → among fs STARTS ≡ false → among fs ENDS ≡ false → among fs REVERSE ≡ false → among fs LISTED ≡ false → ForgetAt m k w′
+forget-frame {m} {k} {w} A {fs} {w′} fr a b c d e g = record {
+  area = frame-room fr (A .area);
+  order = holds-self (holds-frame (A .order) fr a (omega arith));
+  outside = λ f t p h o. each (λ i. getD w (i * m + p) 0 ≡ 0 → getD w′ (i * m + p) 0 ≡ 0) (λ z. fr .cell LISTED g (omega arith) p h ∙ z) (λ z. fr .cell LEVEL b (omega arith) p h ∙ z) (λ z. fr .cell REVERSE e (omega arith) p h ∙ z) f t (A .outside f t p h (rw (frame-list fr ORDER k a (omega arith)) at o));
+  beyond = λ v l h. (fr .cell STARTS c (omega arith) v h ∙ A .beyond v l h .0, fr .cell ENDS d (omega arith) v h ∙ A .beyond v l h .1);
+}
+
+-- ---- the next stage finds what this one found
+
+pub fresh-again : {m : ℕ} {w w′ : List ℕ} → Forgot m w w′ → Clear SPARE m w → Fresh m w′
+fresh-again F z = record {
+  listed = F .listed;
+  levels = F .levels;
+  reverse = F .reverse;
+  starts = F .starts;
+  ends = F .ends;
+  spare = clear-frame z (F .frame) refl (omega arith);
+}
+
+pub fresh-frame : {m : ℕ} {w : List ℕ} → Fresh m w → {fs : List ℕ} {w′ : List ℕ} → Frame fs m w w′ → among fs LISTED ≡ false → among fs LEVEL ≡ false → among fs REVERSE ≡ false → among fs STARTS ≡ false → among fs ENDS ≡ false → among fs SPARE ≡ false → Fresh m w′
+fresh-frame Z fr a b c d e f = record {
+  listed = clear-frame (Z .listed) fr a (omega arith);
+  levels = clear-frame (Z .levels) fr b (omega arith);
+  reverse = clear-frame (Z .reverse) fr c (omega arith);
+  starts = clear-frame (Z .starts) fr d (omega arith);
+  ends = clear-frame (Z .ends) fr e (omega arith);
+  spare = clear-frame (Z .spare) fr f (omega arith);
+}

@@ -1,0 +1,34 @@
+-- `stage_prepare::prepare` meets its contract: each walk leaves what the next asks. Assumes nothing.
+use Rattle.stage_prepare.proofs.Steps.{step-traverse, step-levels, step-reverse, step-lists, step-all}
+use borrow.Author.Needs.{needs}
+use Rattle.stage_prepare.proofs.prepare.Statement.{statement}
+use Rattle.stage_prepare.proofs.prepare.Tie as tie
+
+traverse-requires : tie.Need-traverse-requires
+traverse-requires c κs = let s = c .before .before .before .pre in record { C = s .C; at = step-traverse (s .at) }
+
+levels-requires : tie.Need-levels-requires
+levels-requires c κs = let s = c .before .before .before .before .before .before .before .pre in record { C = s .C; at = step-levels (s .at) (c .before .before .before .traverse .ensures .all (s .C) (step-traverse (s .at))) }
+
+reverse-levels-requires : tie.Need-reverse-levels-requires
+reverse-levels-requires c κs = let s = c .before .before .before .before .before .before .before .before .before .before .before .pre in let T = c .before .before .before .before .before .before .before .traverse .ensures .all (s .C) (step-traverse (s .at)) in record { C = s .C; at = step-reverse (s .at) T (c .before .before .before .levels .ensures .all (s .C) (step-levels (s .at) T)) }
+
+level-lists-requires : tie.Need-level-lists-requires
+level-lists-requires c κs = let s = c .before .before .before .before .before .before .before .before .before .before .before .before .before .before .before .pre in let T = c .before .before .before .before .before .before .before .before .before .before .before .traverse .ensures .all (s .C) (step-traverse (s .at)) in let L = c .before .before .before .before .before .before .before .levels .ensures .all (s .C) (step-levels (s .at) T) in record { C = s .C; at = step-lists (s .at) T L (c .before .before .before .reverse-levels .ensures .all (s .C) (step-reverse (s .at) T L)) }
+
+same-length : tie.Need-same-length
+same-length c = search needs
+
+returns : tie.Need-returns
+returns c = record { all = λ C B. let T = c .before .before .before .before .before .before .before .before .before .before .before .before .before .before .traverse .ensures .all C (step-traverse B) in let L = c .before .before .before .before .before .before .before .before .before .before .levels .ensures .all C (step-levels B T) in let R = c .before .before .before .before .before .before .reverse-levels .ensures .all C (step-reverse B T L) in step-all B T L R (c .before .before .level-lists .ensures .all C (step-lists B T L R)) }
+
+pub prepare-spec : {M : Type 1} → statement M
+prepare-spec =
+    tie.close
+    (tie.spec
+    traverse-requires
+    levels-requires
+    reverse-levels-requires
+    level-lists-requires
+    same-length
+    returns)

@@ -1,0 +1,64 @@
+// What a stage starts from: the walks of rules 1 to 3, then the level lists, ranked. `forget` empties their columns again.
+use columns::ENDS;
+use columns::LEVEL;
+use columns::LISTED;
+use columns::ORDER;
+use columns::REVERSE;
+use columns::STARTS;
+use columns::clear_front;
+use columns::get;
+use columns::set_field;
+use ranking::level_lists;
+use stage_levels::levels;
+use stage_levels::reverse_levels;
+use stage_walk::traversal::traverse;
+ghost use Rattle.stage_walk.specs.Stands.{Some, Every};
+ghost use Rattle.stage_prepare.specs.Prepared.{PrepareAt, Prepared, ForgetAt, Unlisted, Forgot};
+
+pub mod ranking;
+
+// How many pins the traversal listed, and the greatest level.
+pub struct Walk {
+    pub listed: usize,
+    pub top: usize,
+}
+
+// All that a stage starts from, with n pins waiting: order, levels, reverse levels, level lists.
+pub fn prepare(gates: &[u32], work: &mut [u32], m: usize, n: usize) -> Walk
+    requires { ⌜ Some (λ C. PrepareAt C m n (now gates) (now work)) ⌝ }
+    ensures { λ r. ⌜ Every (λ C. PrepareAt C m n (now (gates .entry)) (now (work .entry))) (λ C. Prepared C m n (now (gates .entry)) (now (work .entry)) (now (work .exit)) (r .listed) (r .top)) ⌝ }
+{
+    let k = traverse(gates, work, m, n);
+    let top = levels(gates, work, m, k);
+    reverse_levels(gates, work, m, n, k);
+    level_lists(work, m, k);
+    Walk {
+        listed: k,
+        top: top,
+    }
+}
+
+// The k pins of the order are no longer listed, and have no level or reverse level.
+fn unlist(work: &mut [u32], m: usize, k: usize)
+    requires { ⌜ ForgetAt m k (now work) ⌝ }
+    ensures { λ _. ⌜ Unlisted m k k (now (work .entry)) (now (work .exit)) ⌝ }
+{
+    let mut i = 0;
+    while i < k {
+        let p = get(work, m, i, ORDER);
+        set_field(work, m, p, LISTED, 0);
+        set_field(work, m, p, LEVEL, 0);
+        set_field(work, m, p, REVERSE, 0);
+        i += 1;
+    }
+}
+
+// What `prepare` found empty is so again, with k pins listed.
+pub fn forget(work: &mut [u32], m: usize, k: usize)
+    requires { ⌜ ForgetAt m k (now work) ⌝ }
+    ensures { λ _. ⌜ Forgot m (now (work .entry)) (now (work .exit)) ⌝ }
+{
+    unlist(work, m, k);
+    clear_front(work, m, k, STARTS);
+    clear_front(work, m, k, ENDS);
+}

@@ -1,0 +1,83 @@
+// Rule 8: the waiting pins in the tree, needed, untouched; the sparse runs of level 1, which the needed waiting pins fill, and their words.
+// m = N + 1; level 1 of the height has `half` cells; n pins wait; the words go behind `at`, where there is `room` for so many.
+use classes::split_waiting;
+use puts::put_runs;
+use stage_sparse::sparse_runs;
+ghost use mathlib.Core.Path.{_≡_};
+ghost use Rattle.stage_walk.specs.Stands.{Some, Every};
+ghost use Rattle.stage_runs.specs.Ran.{EndAt, Ran};
+ghost use Rattle.stage_runs.specs.Rule.{ruleFor, ruleBy};
+
+mod classes;
+mod puts;
+
+// The sparse runs that are written once nothing is untouched: every one, or none after the last needed waiting pin.
+pub enum WordRule {
+    EveryRun,
+    NeededRuns,
+}
+
+pub enum MaybeRule {
+    Named(WordRule),
+    Unknown,
+}
+
+// The rule that a number names, as callers in other languages ask for it.
+pub fn rule_named(number: u32) -> MaybeRule
+    ensures { λ r. ⌜ ruleBy r ≡ ruleFor number ⌝ }
+{
+    match number {
+        0 => MaybeRule::Named(WordRule::NeededRuns),
+        1 => MaybeRule::Named(WordRule::EveryRun),
+        _ => MaybeRule::Unknown,
+    }
+}
+
+// What rule 8 leaves: is no waiting pin untouched, how many pins are realised, how many words written.
+pub struct Spent {
+    pub last: bool,
+    pub real: usize,
+    pub words: usize,
+}
+
+// Rule 8.
+pub fn write_runs(
+    gates: &[u32],
+    stage: &mut [u32],
+    work: &mut [u32],
+    words: &mut [u32],
+    m: usize,
+    height: usize,
+    half: usize,
+    n: usize,
+    rule: WordRule,
+    at: usize,
+    room: usize,
+) -> Spent
+    requires { ⌜ Some (λ C. EndAt C m height half n rule at room (now gates) (now stage) (now work) (now words)) ⌝ }
+    ensures { λ r. ⌜ Every (λ C. EndAt C m height half n rule at room (now (gates .entry)) (now (stage .entry)) (now (work .entry)) (now (words .entry))) (λ C. Ran C m at room (now (gates .entry)) (now (stage .entry)) (now (work .entry)) (now (words .entry)) r (now (stage .exit)) (now (work .exit)) (now (words .exit))) ⌝ }
+{
+    let split = split_waiting(work, m, n);
+    let k = split.needed;
+    let last = !split.untouched;
+    let runs = sparse_runs(stage, height, half);
+    let put = put_runs(
+        gates,
+        stage,
+        work,
+        words,
+        m,
+        half,
+        k,
+        rule,
+        last,
+        at,
+        room,
+        runs,
+    );
+    Spent {
+        last: last,
+        real: put.real,
+        words: put.words,
+    }
+}

@@ -1,0 +1,120 @@
+-- The invariants: placing and taking back keep them, and taking back gives back stage and counts. Assumes nothing.
+use Prim.Native.Nat.{ℕ, suc, _+_, _*_, _^_, _≤_, _<_}
+use mathlib.Core.Path.{_≡_, refl, sym, ap, _∙_}
+use mathlib.Core.Bool.{Bool, false}
+use mathlib.Core.List.{List, [], _∷_}
+use native.Mathlib.Omega.{arith}
+use lib.Dec.{eqb}
+use lib.ListN.{length, getD, take, drop, replicate}
+use borrow.Author.Tests.{ne-eqb}
+use Rattle.rules.specs.Lists.{count}
+use Rattle.rules.specs.Cells.{empty, filled, row, rowAt}
+use Rattle.rules.specs.Traversal.{levelAt}
+use Rattle.rules.specs.Placing.{cellAt, placed}
+use Rattle.rules.specs.Lean.{blank, cellsHolding}
+use Rattle.rules.proofs.Lists.Members.{In}
+use Rattle.rules.proofs.Stage.Last.{blank-take, blank-drop}
+use Rattle.rules.proofs.Stage.Flat.{blank-replicate}
+use Rattle.rules.proofs.Tree.Invariant.{Placeable, row-empty}
+use Rattle.rules.proofs.Tree.Fair.{Tidy, bare, fair-first, fair-kept, fair-down}
+use Rattle.rules.proofs.Tree.Back.{taken-back, not-filled}
+use Rattle.rules.proofs.Lean.Turns.{blank-tree}
+use Rattle.columns.specs.Area.{among, Frame}
+use Rattle.columns.specs.Fields.{LEVEL, CELLS, TAIL, ONES, PINS}
+use Rattle.stage_walk.specs.Stands.{Context, Base, Levelled}
+use Rattle.stage_walk.proofs.Contexts.{low-mark}
+use Rattle.stage_tree.specs.Bits.{Spot, PlaceAt, Placed, PurgeAt, Purged, Standing}
+use Rattle.stage_tree.specs.Search.{First}
+use Rattle.stage_tree.proofs.Counts.Kept.{base-frame, levelled-frame, tally-frame, kept-none, kept-then, base-kept, levelled-kept, one-area}
+use Rattle.stage_tree.proofs.Bits.Tidies.{clears}
+use Rattle.stage_tree.proofs.Search.{cell-found}
+
+module _ {C : Context} {m h : ℕ} {gates pl u : List ℕ} (A : Standing C m h gates pl u) {w : ℕ} (row : w ≡ rowAt (C .X .K) h) where
+  -- a cell of the level
+  spot : (p : ℕ) → h ≤ C .X .K → rowAt (C .X .K) h ≤ p → p < rowAt (C .X .K) h + rowAt (C .X .K) h → Spot C m h p pl u
+  spot p a b c = record { area = A .base .area; size = A .base .size; tally = A .tally; len = A .fair .len; high = a; from = b; to = c }
+
+  pub may-purge : (p : ℕ) → h ≤ C .X .K → w ≤ p → p < w + w → PurgeAt C m h w p pl u
+  may-purge p a b c = record { spot = spot p a (omega arith) (omega arith); row = row; tall = A .fair .tall }
+
+  -- taking back any cell leaves nothing under an empty cell
+  pub purged-tidy : {p : ℕ} → PurgeAt C m h w p pl u → {v pl1 v1 : List ℕ} → Purged C m h w p pl v pl1 v1 → Tidy (C .X) h pl1
+  purged-tidy {p} Q B = rw (B .plan) (clears (C .X) h (Q .spot .high) w p pl row (omega (arith, Q .spot .from)) (omega (arith, Q .spot .to)) (A .fair .len) (A .fair .tidy) .tidy)
+
+  -- rule 4's cell, and a pin of the level
+  pub may-choose : {p n : ℕ} → 1 ≤ h → h ≤ C .X .K → First pl w (2 * w) p → p < 2 * w → In n (C .X .seen) → levelAt (C .X) n ≡ h → Placeable (C .X) pl h p n
+  unfolding cellAt
+  may-choose {p} {n} low high F b i l =
+      let c = row-empty (C .X .K) h pl p (cell-found (C .X) h w row pl p F b) in
+      record { low = low; high = high; row = c .0; end = c .1; free = c .2; listed = i; level = omega (arith, l) }
+
+  module _ {p n : ℕ} (P : Placeable (C .X) pl h p n) where
+    pub may-place : PlaceAt C m h w p n gates pl u
+    may-place = record {
+      spot = spot p (P .high) (P .row) (P .end);
+      base = A .base;
+      levelled = A .levelled;
+      row = row;
+      under = rw row (bare (C .X) (C .r) (length (C .X .g)) (C .S) (C .M) (low-mark C) h p n (A .fair) P);
+      listed = P .listed;
+    }
+
+    module _ {pl1 u1 : List ℕ} (B : Placed C m h w p n pl u pl1 u1) where
+      pub placed-plan : pl1 ≡ placed (C .X) h p n pl
+      unfolding placed
+      placed-plan = B .plan ∙ rw row refl
+
+      pub placed-stands : Standing C m h gates pl1 u1
+      placed-stands = record {
+        base = base-kept (B .kept) (A .base);
+        levelled = levelled-kept (B .kept) (A .levelled);
+        tally = B .tally;
+        fair = rw placed-plan (fair-kept (C .X) (C .r) (length (C .X .g)) (C .S) (C .M) (low-mark C) h p n (A .fair) P);
+      }
+
+      -- whatever happened to other columns in between
+      pub purged-plan : {v pl2 v2 : List ℕ} → Purged C m h w p pl1 v pl2 v2 → pl2 ≡ pl
+      purged-plan Q = Q .plan ∙ rw (placed-plan, row) (taken-back (C .X) (C .r) (length (C .X .g)) (C .S) (low-mark C) (C .M) h p n (A .fair) P)
+
+      -- purging the cell just placed gives back the very stage and area
+      pub purged-same : {pl2 u2 : List ℕ} → Purged C m h w p pl1 u1 pl2 u2 → (pl2 ≡ pl) × (u2 ≡ u)
+      purged-same Q = let e = purged-plan Q in (e, one-area (kept-then (B .kept) (Q .kept)) kept-none (rw e at (Q .tally)) (A .tally))
+
+-- the invariants before anything is placed
+count-none : (f : ℕ → Bool) (cs : List ℕ) → ((i : ℕ) → f (getD cs i empty) ≡ false) → count f cs ≡ 0
+unfolding count
+count-none f [] h = refl
+count-none f (c ∷ cs) h = rw (h 0, count) (count-none f cs (λ i. h (suc i)))
+
+module _ (C : Context) (m h : ℕ) (gates u : List ℕ) (B : Base C m gates u) (L : Levelled C m u) where
+  abbrev pl0 : List ℕ
+  pl0 = replicate (2 ^ (C .X .K + 1)) empty
+
+  pin-filled : (x : ℕ) → x < m → eqb empty x ≡ false
+  unfolding empty
+  pin-filled x b = ne-eqb empty x (λ e. omega (arith, B .area .small))
+
+  no-cells : (x : ℕ) → x < m → cellsHolding (C .X .K) pl0 x ≡ 0
+  unfolding cellsHolding
+  no-cells x b = count-none (λ c. eqb c x) (take (2 ^ (C .X .K)) pl0) (λ i. rw (not-filled _ (blank-take (2 ^ (C .X .K)) pl0 (blank-replicate (2 ^ (C .X .K + 1))) i)) (pin-filled x b))
+
+  no-ones : count filled (row (C .X .K) 1 pl0) ≡ 0
+  unfolding row
+  no-ones = count-none filled _ (blank-take (rowAt (C .X .K) 1) (drop (rowAt (C .X .K) 1) pl0) (blank-drop (rowAt (C .X .K) 1) pl0 (blank-replicate (2 ^ (C .X .K + 1)))))
+
+  pub first-stands : ((x : ℕ) → x < m → getD u (CELLS * m + x) 0 ≡ 0) → getD u (16 * m + ONES) 0 ≡ 0 → getD u (16 * m + PINS) 0 ≡ 0 → Standing C m h gates (blank (C .X)) u
+  unfolding blank
+  first-stands c o p = record {
+    base = B;
+    levelled = L;
+    tally = record { cells = λ x b. c x b ∙ sym (no-cells x b); ones = o ∙ sym no-ones; pins = p ∙ ap length (sym (blank-tree (C .X))) };
+    fair = fair-first (C .X) (C .r) (length (C .X .g)) (C .S) (C .M) (low-mark C) h;
+  }
+
+-- other columns change
+pub stands-frame : {fs : List ℕ} {C : Context} {m h : ℕ} {gates pl u u′ : List ℕ} → Frame fs m u u′ → among fs LEVEL ≡ false → among fs CELLS ≡ false → among fs TAIL ≡ false → Standing C m h gates pl u → Standing C m h gates pl u′
+stands-frame f l c t A = record { base = base-frame f (A .base); levelled = levelled-frame f l (A .levelled); tally = tally-frame f c t (A .tally); fair = A .fair }
+
+-- one level down
+pub stands-down : {C : Context} {m h : ℕ} {gates pl u : List ℕ} → Standing C m (suc h) gates pl u → Standing C m h gates pl u
+stands-down {C} {m} {h} A = record { base = A .base; levelled = A .levelled; tally = A .tally; fair = fair-down (C .X) (C .r) (length (C .X .g)) (C .S) (C .M) (low-mark C) h (A .fair) }

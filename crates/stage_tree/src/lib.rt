@@ -1,0 +1,176 @@
+// Placing a pin in the tree with all that it pulls in below, and taking it back. Cells above level 0 are counted by pin; the filled
+// cells of level 1 and the distinct pins above level 0 are kept as numbers. m = N + 1, and w is where the row of the cell p begins.
+use columns::CELLS;
+use columns::LEVEL;
+use columns::ONES;
+use columns::PINS;
+use columns::get;
+use columns::tail_get;
+use columns::wide;
+use graph::operand;
+ghost use mathlib.Core.Path.{_≡_};
+ghost use Rattle.stage_walk.specs.Stands.{Some, Every};
+ghost use Rattle.stage_tree.specs.Counts.{CountAt, UncountAt, OneMore, RoomAt, roomIn};
+ghost use Rattle.stage_tree.specs.Bits.{FillAt, Filled, EmptyAt, Emptied, PlaceAt, SplitAt, Placed, PurgeAt, Purged};
+ghost use Rattle.stage_tree.specs.Search.{SearchAt, First};
+
+// An empty cell.
+const EMPTY: u32 = 4294967295;
+
+// The lowest empty cell from a to e, e if there is none.
+pub fn first_empty(stage: &[u32], a: usize, e: usize) -> usize
+    requires { ⌜ SearchAt (now stage) a e ⌝ }
+    ensures { λ r. ⌜ First (now (stage .entry)) a e r ⌝ }
+{
+    let mut p = a;
+    while p < e {
+        if stage[p] == EMPTY {
+            return p;
+        }
+        p += 1;
+    }
+    e
+}
+
+// Is there room at level 1, of `half` cells, for b needed pins?
+pub fn room(work: &[u32], m: usize, half: usize, b: usize) -> bool
+    requires { ⌜ RoomAt m b (now work) ⌝ }
+    ensures { λ r. ⌜ r ≡ roomIn m half b (now (work .entry)) ⌝ }
+{
+    let ones = tail_get(work, m, ONES);
+    let pins = tail_get(work, m, PINS);
+    if ones < pins {
+        return b + pins < half;
+    }
+    b + ones < half
+}
+
+// One more cell above level 0 holds pin n.
+fn count_pin(work: &mut [u32], m: usize, n: usize)
+    requires { ⌜ CountAt m n (now work) ⌝ }
+    ensures { λ _. ⌜ OneMore m n (now (work .entry)) (now (work .exit)) ⌝ }
+{
+    let at = CELLS * m + n;
+    let c = work[at];
+    work[at] = c + 1;
+    if c != 0 {
+        return;
+    }
+    let pins = 16 * m + PINS;
+    work[pins] = work[pins] + 1;
+}
+
+// One cell fewer does.
+fn uncount_pin(work: &mut [u32], m: usize, n: usize)
+    requires { ⌜ UncountAt m n (now work) ⌝ }
+    ensures { λ _. ⌜ OneMore m n (now (work .exit)) (now (work .entry)) ⌝ }
+{
+    let at = CELLS * m + n;
+    let c = work[at] - 1;
+    work[at] = c;
+    if c != 0 {
+        return;
+    }
+    let pins = 16 * m + PINS;
+    work[pins] = work[pins] - 1;
+}
+
+// Pin n into the cell p of level h.
+fn fill_cell(stage: &mut [u32], work: &mut [u32], m: usize, h: usize, p: usize, n: usize)
+    requires { ⌜ Some (λ C. FillAt C m h p n (now stage) (now work)) ⌝ }
+    ensures { λ _. ⌜ Every (λ C. FillAt C m h p n (now (stage .entry)) (now (work .entry))) (λ C. Filled C m p n (now (stage .entry)) (now (work .entry)) (now (stage .exit)) (now (work .exit))) ⌝ }
+{
+    stage[p] = n as u32;
+    if h == 0 { // level 0 is not counted
+        return;
+    }
+    count_pin(work, m, n);
+    if h != 1 { // level 1 is counted apart
+        return;
+    }
+    let ones = 16 * m + ONES;
+    work[ones] = work[ones] + 1;
+}
+
+// Pin n out of the cell p of level h.
+fn empty_cell(stage: &mut [u32], work: &mut [u32], m: usize, h: usize, p: usize, n: usize)
+    requires { ⌜ Some (λ C. EmptyAt C m h p n (now stage) (now work)) ⌝ }
+    ensures { λ _. ⌜ Every (λ C. EmptyAt C m h p n (now (stage .entry)) (now (work .entry))) (λ C. Emptied C m p (now (stage .entry)) (now (work .entry)) (now (stage .exit)) (now (work .exit))) ⌝ }
+{
+    stage[p] = EMPTY;
+    if h == 0 {
+        return;
+    }
+    uncount_pin(work, m, n);
+    if h != 1 {
+        return;
+    }
+    let ones = 16 * m + ONES;
+    work[ones] = work[ones] - 1;
+}
+
+// Rule 5: places pin n at the cell p of level h.
+pub fn place_bit(
+    gates: &[u32],
+    stage: &mut [u32],
+    work: &mut [u32],
+    m: usize,
+    h: usize,
+    w: usize,
+    p: usize,
+    n: usize,
+)
+    requires { ⌜ Some (λ C. PlaceAt C m h w p n (now gates) (now stage) (now work)) ⌝ }
+    ensures { λ _. ⌜ Every (λ C. PlaceAt C m h w p n (now (gates .entry)) (now (stage .entry)) (now (work .entry))) (λ C. Placed C m h w p n (now (stage .entry)) (now (work .entry)) (now (stage .exit)) (now (work .exit))) ⌝ }
+{
+    fill_cell(stage, work, m, h, p, n);
+    if h == 0 {
+        return;
+    }
+    if get(work, m, n, LEVEL) < h {
+        place_bit(gates, stage, work, m, h - 1, 2 * w, p + w, n);
+        return;
+    }
+    split_gate(gates, stage, work, m, h, w, p, n);
+}
+
+// Places the operands of the gate n, which stands at p, at the two lower cells.
+fn split_gate(
+    gates: &[u32],
+    stage: &mut [u32],
+    work: &mut [u32],
+    m: usize,
+    h: usize,
+    w: usize,
+    p: usize,
+    n: usize,
+)
+    requires { ⌜ Some (λ C. SplitAt C m h w p n (now gates) (now stage) (now work)) ⌝ }
+    ensures { λ _. ⌜ Every (λ C. SplitAt C m h w p n (now (gates .entry)) (now (stage .entry)) (now (work .entry))) (λ C. Placed C m h w p n (now (stage .entry)) (now (work .entry)) (now (stage .exit)) (now (work .exit))) ⌝ }
+{
+    let a = operand(gates, 2 * n);
+    let b = operand(gates, 2 * n + 1);
+    let next = h - 1;
+    let low = 2 * w;
+    place_bit(gates, stage, work, m, next, low, p + w, a);
+    place_bit(gates, stage, work, m, next, low, p + low, b);
+}
+
+// Rule 7: takes back what stands at the cell p of level h, with everything under it.
+pub fn purge_bit(stage: &mut [u32], work: &mut [u32], m: usize, h: usize, w: usize, p: usize)
+    requires { ⌜ Some (λ C. PurgeAt C m h w p (now stage) (now work)) ⌝ }
+    ensures { λ _. ⌜ Every (λ C. PurgeAt C m h w p (now (stage .entry)) (now (work .entry))) (λ C. Purged C m h w p (now (stage .entry)) (now (work .entry)) (now (stage .exit)) (now (work .exit))) ⌝ }
+{
+    let n = stage[p];
+    if n == EMPTY {
+        return;
+    }
+    empty_cell(stage, work, m, h, p, wide(n));
+    if h == 0 {
+        return;
+    }
+    let next = h - 1;
+    let low = 2 * w;
+    purge_bit(stage, work, m, next, low, p + w);
+    purge_bit(stage, work, m, next, low, p + low);
+}

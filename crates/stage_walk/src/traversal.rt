@@ -1,0 +1,135 @@
+// Rule 1. The deep recursion is a stack of pins and phases in the work area.
+use super::followed;
+use columns::LISTED;
+use columns::ORDER;
+use columns::PHASE;
+use columns::STACK;
+use columns::WAITING;
+use columns::get;
+use columns::is_in;
+use columns::push;
+use columns::set_field;
+ghost use mathlib.Core.Path.{_≡_};
+ghost use mathlib.Core.Bool.{not, _&&_};
+ghost use Prim.Native.Nat.{_+_, _*_, _<_};
+ghost use lib.Dec.{eqb};
+ghost use lib.ListN.{length, getD, set};
+ghost use Rattle.columns.specs.Fields.{ORDER, LISTED, STACK, PHASE};
+ghost use Rattle.stage_walk.specs.Stands.{Some, Every};
+ghost use Rattle.stage_walk.specs.Machine.{Going, Went, Stepped, VisitAt, Visited, TraverseAt, Traversed};
+
+// How many items the stack has, and how many pins are listed.
+pub struct At {
+    pub depth: usize,
+    pub listed: usize,
+}
+
+// Pin p behind the order of n pins.
+fn list(work: &mut [u32], m: usize, n: usize, p: usize)
+    requires { ⌜ ORDER * m + n < length (now work) ⌝ }
+    requires { ⌜ LISTED * m + p < length (now work) ⌝ }
+    requires { ⌜ p < 4294967296 ⌝ }
+    ensures { λ _. ⌜ now (work .exit) ≡ set (set (now (work .entry)) (ORDER * m + n) p) (LISTED * m + p) 1 ⌝ }
+{
+    push(work, m, n, ORDER, p);
+    set_field(work, m, p, LISTED, 1);
+}
+
+// Pin q, to be visited, at place `at` of the stack.
+fn enter(work: &mut [u32], m: usize, at: usize, q: usize)
+    requires { ⌜ PHASE * m + at < length (now work) ⌝ }
+    requires { ⌜ q < 4294967296 ⌝ }
+    ensures { λ _. ⌜ now (work .exit) ≡ set (set (now (work .entry)) (STACK * m + at) q) (PHASE * m + at) 0 ⌝ }
+{
+    push(work, m, at, STACK, q);
+    set_field(work, m, at, PHASE, 0);
+}
+
+// The item at `top` goes to phase k, and pin q is put on it.
+fn descend(work: &mut [u32], m: usize, top: usize, k: usize, q: usize)
+    requires { ⌜ PHASE * m + (top + 1) < length (now work) ⌝ }
+    requires { ⌜ k < 4294967296 ⌝ }
+    requires { ⌜ q < 4294967296 ⌝ }
+    ensures { λ _. ⌜ now (work .exit) ≡ set (set (set (now (work .entry)) (PHASE * m + top) k) (STACK * m + (top + 1)) q) (PHASE * m + (top + 1)) 0 ⌝ }
+{
+    push(work, m, top, PHASE, k);
+    enter(work, m, top + 1, q);
+}
+
+// Whether pin p is to be visited and is listed already.
+fn passed(work: &[u32], m: usize, p: usize, k: usize) -> bool
+    requires { ⌜ LISTED * m + p < length (now work) ⌝ }
+    ensures { λ b. ⌜ b ≡ eqb k 0 && not (eqb (getD (now (work .entry)) (LISTED * m + p) 0) 0) ⌝ }
+{
+    if k != 0 {
+        return false;
+    }
+    is_in(work, m, p, LISTED)
+}
+
+// A step of the item at `top`.
+fn step(gates: &[u32], work: &mut [u32], m: usize, top: usize, n: usize) -> At
+    requires { ⌜ Some (λ C. Going C m (now gates) (now work) (top + 1) n) ⌝ }
+    ensures { λ a. ⌜ Every (λ C. Going C m (now (gates .entry)) (now (work .entry)) (top + 1) n) (λ C. Stepped C m (now (gates .entry)) (now (work .entry)) (top + 1) n (now (work .exit)) (a .depth) (a .listed)) ⌝ }
+{
+    let p = get(work, m, top, STACK);
+    let k = get(work, m, top, PHASE);
+    if passed(work, m, p, k) {
+        return At {
+            depth: top,
+            listed: n,
+        };
+    }
+    let q = followed(gates, work, m, p, k);
+    if q == m {
+        list(work, m, n, p);
+        return At {
+            depth: top,
+            listed: n + 1,
+        };
+    }
+    descend(work, m, top, k + 1, q);
+    At {
+        depth: top + 2,
+        listed: n,
+    }
+}
+
+// Steps until the stack is empty. Returns how many pins are listed.
+fn run(gates: &[u32], work: &mut [u32], m: usize, items: usize, n: usize) -> usize
+    requires { ⌜ Some (λ C. Going C m (now gates) (now work) items n) ⌝ }
+    ensures { λ r. ⌜ Every (λ C. Going C m (now (gates .entry)) (now (work .entry)) items n) (λ C. Went C m (now (gates .entry)) (now (work .entry)) items n (now (work .exit)) 0 r) ⌝ }
+{
+    let mut depth = items;
+    let mut listed = n;
+    while depth > 0 {
+        let a = step(gates, work, m, depth - 1, listed);
+        depth = a.depth;
+        listed = a.listed;
+    }
+    listed
+}
+
+// Lists pin p after all below it. Returns how many pins are listed.
+fn visit(gates: &[u32], work: &mut [u32], m: usize, n: usize, p: usize) -> usize
+    requires { ⌜ Some (λ C. VisitAt C m (now gates) (now work) n p) ⌝ }
+    ensures { λ r. ⌜ Every (λ C. VisitAt C m (now (gates .entry)) (now (work .entry)) n p) (λ C. Visited C m (now (gates .entry)) (now (work .entry)) n p (now (work .exit)) r) ⌝ }
+{
+    enter(work, m, 0, p);
+    run(gates, work, m, 1, n)
+}
+
+// The traversal from the n waiting pins, with no pin listed before. Returns how many pins the order has.
+pub fn traverse(gates: &[u32], work: &mut [u32], m: usize, n: usize) -> usize
+    requires { ⌜ Some (λ C. TraverseAt C m n (now gates) (now work)) ⌝ }
+    ensures { λ k. ⌜ Every (λ C. TraverseAt C m n (now (gates .entry)) (now (work .entry))) (λ C. Traversed C m (now (work .entry)) (now (work .exit)) k) ⌝ }
+{
+    let mut listed = 0;
+    let mut i = 0;
+    while i < n {
+        let p = get(work, m, i, WAITING);
+        listed = visit(gates, work, m, listed, p);
+        i += 1;
+    }
+    listed
+}

@@ -1,0 +1,142 @@
+-- The same for the code: what the contracts of `placer::build` and `fold::fold` say, by the theorems. Assumes nothing.
+use Prim.Native.Nat.{ℕ, zero, suc, _+_, _*_, _<_}
+use mathlib.Core.Path.{_≡_, refl, sym, _∙_, ap}
+use mathlib.Core.Logic.{_⊎_, inl, inr}
+use mathlib.Core.List.{List, _++_, append-assoc}
+use native.Mathlib.Omega.{arith}
+use native.Mathlib.Nat.{mul-le-mul-right, suc-mul}
+use lib.ListN.{length, getD, replicate, length-append, List·getD-append}
+use Rattle.rules.specs.Lists.{padded, laidOver}
+use Rattle.rules.specs.Cells.{empty, wordLimit, stageSize, rooms}
+use Rattle.rules.specs.Graph.{graphOf, pinCount, value}
+use Rattle.rules.specs.Records.{groupsOf}
+use Rattle.rules.specs.Traversal.{WordRule}
+use Rattle.rules.specs.Checks.{refusalOf}
+use Rattle.rules.specs.Build as rules
+use Rattle.rules.specs.Fold.{asNumber, foldBits, foldRefusal, foldResult}
+use Rattle.rules.proofs.Stage.Refusals.{refused-some}
+use Rattle.rules.proofs.Stage.Staged.{two-step}
+use Rattle.rules.proofs.Build.Lengths.{length-fold}
+use Rattle.rules.proofs.Demand.{Ends}
+use Rattle.placer.specs.declared.Answer.{Answer}
+use Rattle.placer.specs.Answers.{told, areas, outcome}
+use Rattle.theorems.specs.Inputs.{Input, D, built}
+use Rattle.theorems.specs.Reading.{Read}
+use Rattle.theorems.proofs.Rooms.{rooms-enough}
+use Rattle.theorems.proofs.Reading.{endpoints-read}
+
+-- a call of `build`, by its contract
+pub record Call : Type 0 where
+  pub rule : WordRule
+  pub height : ℕ
+  pub gates : List ℕ
+  pub given : List ℕ
+  pub records : List ℕ
+  pub entry : rules.Areas
+  pub answer : Answer
+  pub exit : rules.Areas
+  pub ensures : outcome answer (exit .plan) (exit .words) (exit .counts) (exit .work) ≡ rules.placer rule height gates given records entry
+
+abbrev checked : Call → ℕ
+checked C = refusalOf (C .height) (rules.sizesRight (C .height) (C .gates) (C .records) (C .entry)) (C .gates) (C .given) (C .records)
+
+-- a call that the checks let pass
+abbrev pub input : (C : Call) → checked C ≡ 0 → Input
+input C e = record { rule = C .rule; K = C .height; sized = rules.sizesRight (C .height) (C .gates) (C .records) (C .entry); gates = C .gates; given = C .given; records = C .records; passes = e }
+
+abbrev pub roomsOf : Call → ℕ
+roomsOf C = rooms (C .height) (length (C .entry .plan))
+
+-- it tells the answer of the rules, and leaves the areas as they say
+pub record Told (C : Call) (b : rules.Answer) : Type 0 where
+  pub reply : told (C .answer) ≡ rules.reply b
+  pub plan : C .exit .plan ≡ padded (length (C .entry .plan)) empty (rules.cellsOf (rules.stagesOf b))
+  pub words : C .exit .words ≡ laidOver (padded (wordLimit (C .height)) empty (rules.wordsOf (rules.stagesOf b))) (C .entry .words)
+  pub counts : C .exit .counts ≡ laidOver (padded (roomsOf C) 0 (rules.countsOf (rules.stagesOf b))) (C .entry .counts)
+
+pub answered : (C : Call) (e : checked C ≡ 0) → Told C (built (input C e) (roomsOf C))
+unfolding outcome areas rules.placer rules.answerOf rules.areasAfter
+answered C e =
+    let E = rw (e, rules.placer) at (C .ensures) in
+    record {
+      reply = ap (λ (o : rules.Outcome). o .reply) E;
+      plan = ap (λ (o : rules.Outcome). o .areas .plan) E;
+      words = ap (λ (o : rules.Outcome). o .areas .words) E;
+      counts = ap (λ (o : rules.Outcome). o .areas .counts) E;
+    }
+
+-- an answer of 0 passed the checks
+pub passed-checks : (C : Call) → C .answer .number ≡ 0 → checked C ≡ 0
+unfolding outcome told rules.placer rules.refuse rules.refuseChecked
+passed-checks C z = number (checked C) refl
+  where
+    number : (n : ℕ) → checked C ≡ n → n ≡ 0
+    number zero e = refl
+    number (suc n) e = absurd (let E = ap (λ (o : rules.Outcome). o .reply .number) (rw (e, rules.placer) at (C .ensures)) in omega arith)
+
+-- ---- a whole plan
+
+-- what an answer of 0 leaves: the stages of the rules, with their words and counts
+pub record Whole (C : Call) : Type 0 where
+  pub passes : checked C ≡ 0
+  pub ss : List rules.Stage
+  pub built : built (input C passes) (roomsOf C) ≡ rules.whole ss
+  pub plan : C .exit .plan ≡ padded (length (C .entry .plan)) empty (rules.cellsOf ss)
+  pub behind : List ℕ
+  pub words : C .exit .words ≡ rules.wordsOf ss ++ behind
+  pub after : List ℕ
+  pub counts : C .exit .counts ≡ rules.countsOf ss ++ after
+
+whole-told : (C : Call) (e : checked C ≡ 0) (b : rules.Answer) → built (input C e) (roomsOf C) ≡ b → C .answer .number ≡ 0 → Told C b → Whole C
+unfolding told rules.reply rules.refuse rules.stagesOf padded laidOver
+whole-told C e (rules.refusal n k) d z t = absurd (refused-some (C .rule) (C .height) (graphOf (C .gates)) (C .given) (groupsOf (C .records)) (roomsOf C) n k d (ap (λ (r : rules.Reply). r .number) (sym (t .reply)) ∙ z))
+whole-told C e (rules.whole ss) d z t = record {
+  passes = e;
+  ss = ss;
+  built = d;
+  plan = t .plan;
+  behind = _;
+  words = t .words ∙ append-assoc (rules.wordsOf ss) _ _;
+  after = _;
+  counts = t .counts ∙ append-assoc (rules.countsOf ss) _ _;
+}
+
+-- An answer of 0 stands for a whole plan of the rules, so that the theorems hold of it.
+pub whole : (C : Call) → C .answer .number ≡ 0 → Whole C
+whole C z = let e = passed-checks C z in whole-told C e (built (input C e) (roomsOf C)) refl z (answered C e)
+
+-- ---- rooms
+
+-- With D + 1 rooms an input that passes the checks is answered with 0, 6, 7 or 8.
+pub enough : (C : Call) (e : checked C ≡ 0) → D (input C e) < roomsOf C → (C .answer .number ≡ 0) ⊎ ((C .answer .number ≡ 6) ⊎ ((C .answer .number ≡ 7) ⊎ (C .answer .number ≡ 8)))
+unfolding told rules.reply rules.refuse
+enough C e h = told-enough (built (input C e) (roomsOf C)) refl (answered C e)
+  where
+    told-enough : (b : rules.Answer) → built (input C e) (roomsOf C) ≡ b → Told C b → (C .answer .number ≡ 0) ⊎ ((C .answer .number ≡ 6) ⊎ ((C .answer .number ≡ 7) ⊎ (C .answer .number ≡ 8)))
+    told-enough (rules.refusal n k) d t = let a : C .answer .number ≡ n = ap (λ (r : rules.Reply). r .number) (t .reply) in rw a (inr (rooms-enough (input C e) (roomsOf C) h n k d))
+    told-enough (rules.whole ss) d t = inl (ap (λ (r : rules.Reply). r .number) (t .reply))
+
+-- ---- reading
+
+within : (s r size p : ℕ) → s < r → p < size → s * size + p < r * size
+within s r size p a b = omega (arith, mul-le-mul-right size a, suc-mul s size)
+
+same-read : {K q b : ℕ} {p p′ w w′ c c′ : List ℕ} (f : List ℕ → List ℕ) → p′ ≡ p → w′ ≡ w → c′ ≡ c → Read K p w c (f p) q b → Read K p′ w′ c′ (f p′) q b
+same-read f ep ew ec R = rw (ep, ew, ec) R
+
+-- Fold the plan that an answer of 0 left, read the bits of its written words, and every endpoint's graph value is there.
+pub reads : (C : Call) (z : C .answer .number ≡ 0) (bits result result′ : List ℕ) → foldRefusal (C .height) (C .exit .plan) (C .gates) (C .given) bits result ≡ 0 →
+    result′ ≡ foldResult (C .height) (C .exit .plan) (C .gates) (C .given) bits result → (q : ℕ) → 0 < q → Ends q (groupsOf (C .records)) →
+    Read (C .height) (C .exit .plan) (C .exit .words) (C .exit .counts) result′ q (asNumber (value (length (graphOf (C .gates))) (graphOf (C .gates)) (C .given) bits q))
+unfolding foldResult laidOver foldBits
+reads C z bits result result′ f e q b i =
+    let W = whole C z in
+    let R = endpoints-read (input C (W .passes)) (length (C .entry .plan)) (W .ss) (W .built) bits (W .behind) (W .after) q b i in
+    let P = C .exit .plan in
+    let r = same-read (λ p. foldBits (C .height) p (C .gates) (C .given) bits) (W .plan) (W .words) (W .counts) R in
+    let s = foldBits (C .height) P (C .gates) (C .given) bits in
+    let l : length s ≡ rooms (C .height) (length P) * stageSize (C .height) = length-fold (rooms (C .height) (length P)) (C .height) _ _ P in
+    let k : r .stage * stageSize (C .height) + r .position < length s = omega (arith, within (r .stage) (rooms (C .height) (length P)) (stageSize (C .height)) (r .position) (r .room) (omega (arith, r .high, two-step (C .height)))) in
+    let v : getD result′ (r .stage * stageSize (C .height) + r .position) 0 ≡ getD s (r .stage * stageSize (C .height) + r .position) 0 =
+    rw (e, f, foldResult) (List·getD-append (s ++ replicate (pinCount (C .gates)) 0) _ 0 _ (rw length-append (omega arith)) ∙ List·getD-append s _ 0 _ k) in
+    record { stage = r .stage; at = r .at; position = r .position; room = r .room; from = r .from; to = r .to; word = r .word; low = r .low; high = r .high; cell = r .cell; bit = v ∙ r .bit }

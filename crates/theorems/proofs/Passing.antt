@@ -1,0 +1,34 @@
+-- What the theorems need of an input: all of it follows from passing the checks 1 to 5 and 23. Assumes nothing.
+use Prim.Native.Nat.{ℕ, _≤_, _<_}
+use mathlib.Core.Path.{_≡_}
+use native.Mathlib.Omega.{arith}
+use lib.Dec.{leb}
+use lib.ListN.{length}
+use borrow.Author.Tests.{leb-true}
+use Rattle.rules.specs.Cells.{empty, isHeight}
+use Rattle.rules.specs.Graph.{pinCount}
+use Rattle.rules.proofs.Lists.Members.{and-true}
+use Rattle.rules.proofs.Demand.{Valid, Ends}
+use Rattle.checks.proofs.Laws.Passed.{Passed, passed}
+use Rattle.theorems.specs.Inputs.{Input, graph, groups}
+
+module _ (I : Input) where
+  all : Passed (I .K) (I .sized) (I .gates) (I .given) (I .records)
+  all = passed (I .K) (I .sized) (I .gates) (I .given) (I .records) (I .passes)
+
+  pub tall : 6 ≤ I .K
+  unfolding isHeight
+  tall = leb-true 6 (I .K) (and-true (leb 6 (I .K)) (leb (I .K) 13) (all .height) .0)
+
+  pub valid : Valid (graph I)
+  valid = all .valid
+
+  pub counted : length (graph I) ≡ pinCount (I .gates)
+  counted = all .pins
+
+  pub small : length (graph I) ≤ empty
+  unfolding empty
+  small = omega (arith, all .few, all .pins)
+
+  pub named : (q : ℕ) → Ends q (groups I) → q < length (graph I)
+  named q i = omega (arith, all .named q i, all .pins)

@@ -1,0 +1,149 @@
+// Places a pin with what it pulls in in an empty tree of height 6, 10 and 13, lists the filled cells and the two counts, takes the pin
+// back and lists again.
+use cells::Height;
+use cells::is_height;
+use columns::LEVEL;
+use columns::ONES;
+use columns::PINS;
+use columns::fill_part;
+use columns::set_field;
+use columns::tail_get;
+use io::print_decimal;
+use io::write_all;
+use stage_tree::first_empty;
+use stage_tree::place_bit;
+use stage_tree::purge_bit;
+ghost use mathlib.Core.Path.{_≡_};
+ghost use Prim.Native.Nat.{_≤_};
+ghost use lib.ListN.{length};
+ghost use Rattle.columns.specs.Area.{Room};
+ghost use Rattle.stage_walk.specs.Stands.{Some};
+ghost use Rattle.try_trees.specs.Example.{Trial, Same, SizedFor, begun};
+
+const EMPTY: u32 = 4294967295;
+
+const OUT: i32 = 1;
+
+// A filled cell's position and pin.
+fn list_cell(p: usize, n: u32) {
+    if n == EMPTY {
+        return;
+    }
+    print_decimal(OUT, p as u64);
+    write_all(OUT, b" ");
+    print_decimal(OUT, n as u64);
+    write_all(OUT, b"\n");
+}
+
+fn list_cells(stage: &[u32]) {
+    let mut p = 0;
+    while p < stage.len() {
+        list_cell(p, stage[p]);
+        p += 1;
+    }
+}
+
+fn list_counts(work: &[u32], m: usize)
+    requires { ⌜ Room m (now work) ⌝ }
+{
+    write_all(OUT, b"level 1 ");
+    print_decimal(OUT, tail_get(work, m, ONES) as u64);
+    write_all(OUT, b" pins ");
+    print_decimal(OUT, tail_get(work, m, PINS) as u64);
+    write_all(OUT, b"\n");
+}
+
+fn list(stage: &[u32], work: &[u32], m: usize)
+    requires { ⌜ Room m (now work) ⌝ }
+{
+    list_cells(stage);
+    list_counts(work, m);
+}
+
+// Pin n of level h into the lowest empty cell of its level, and back.
+fn there_and_back(
+    gates: &[u32],
+    stage: &mut [u32],
+    work: &mut [u32],
+    m: usize,
+    h: usize,
+    w: usize,
+    n: usize,
+)
+    requires { ⌜ Some (λ C. Trial C m h w n (now gates) (now stage) (now work)) ⌝ }
+    ensures { λ _. ⌜ Same (now (stage .entry)) (now (work .entry)) (now (stage .exit)) (now (work .exit)) ⌝ }
+{
+    let end = 2 * w;
+    let p = first_empty(stage, w, end);
+    if p >= end {
+        return;
+    }
+    place_bit(gates, stage, work, m, h, w, p, n);
+    list(stage, work, m);
+    purge_bit(stage, work, m, h, w, p);
+    list(stage, work, m);
+}
+
+// The graph's levels by pin, in an area of zeros.
+fn begin(work: &mut [u32])
+    requires { ⌜ 640 ≤ length (now work) ⌝ }
+    ensures { λ _. ⌜ now (work .exit) ≡ begun (length (now (work .entry))) ⌝ }
+{
+    fill_part(work, 0);
+    set_field(work, 8, 5, LEVEL, 1);
+    set_field(work, 8, 6, LEVEL, 1);
+    set_field(work, 8, 7, LEVEL, 2);
+}
+
+// Pins 1 to 4 are leaves, 5 = (2, 4), 6 = (6, 9), 7 = (10, 12).
+fn try_example(stage: &mut [u32], work: &mut [u32], k: u32)
+    requires { ⌜ SizedFor k (now stage) (now work) ⌝ }
+{
+    let gates = [
+        EMPTY,
+        EMPTY,
+        EMPTY,
+        EMPTY,
+        EMPTY,
+        EMPTY,
+        EMPTY,
+        EMPTY,
+        EMPTY,
+        EMPTY,
+        2,
+        4,
+        6,
+        9,
+        10,
+        12,
+    ];
+    fill_part(stage, EMPTY);
+    begin(work);
+    let w = Height(k).row_at(2);
+    there_and_back(&gates, stage, work, 8, 2, w, 7);
+}
+
+// For a stage of any height.
+fn largest() -> [u32; 16384]
+    ensures { λ r. ⌜ 16384 ≡ length r ⌝ }
+{
+    [0; 16384]
+}
+
+fn show(k: u32) {
+    if is_height(k) {
+        let mut room = largest();
+        let mut work = [0u32; 640];
+        let size = Height(k).stage_size();
+        write_all(OUT, b"height ");
+        print_decimal(OUT, k as u64);
+        write_all(OUT, b"\n");
+        try_example(&mut room[0..size], &mut work, k);
+    }
+}
+
+fn main() {
+    show(6);
+    show(10);
+    show(13);
+}
