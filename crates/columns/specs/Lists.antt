@@ -4,9 +4,7 @@ use mathlib.Core.Bool.{Bool, true, false}
 use mathlib.Core.List.{List, [], _∷_}
 use Prim.Native.Nat.{ℕ, _+_, _-_, _*_, _<_, _≤_}
 use lib.ListN.{length, getD, take, drop}
-use Rattle.rules.specs.Lists.{mem, insert, swapOut}
-use Rattle.rules.proofs.Lists.Members.{In, Out}
-use Rattle.rules.proofs.Stage.Last.{Once}
+use Rattle.rules.specs.Lists.{mem, insert, swapOut, In, Out, Once}
 use Rattle.columns.specs.Fields.{WAITING, PLACE}
 use Rattle.columns.specs.Area.{col, Room, Frame}
 

@@ -4,11 +4,10 @@ use mathlib.Core.Path.{_≡_}
 use mathlib.Core.Bool.{Bool, true}
 use mathlib.Core.List.{List, _++_}
 use lib.ListN.{length, getD, take, drop}
-use Rattle.rules.specs.Lists.{nothing}
+use Rattle.rules.specs.Lists.{nothing, In}
 use Rattle.rules.specs.Cells.{isHeight}
 use Rattle.rules.specs.Graph.{Node, pinCount}
 use Rattle.rules.specs.Fold.{stageBits, lowest, loadFrom, foldBits}
-use Rattle.rules.proofs.Lists.Members.{In}
 use Rattle.fold_stage.specs.Bits.{StageAt}
 use Rattle.fold_stage.specs.Loads.{held, AreaAt, FirstIn}
 

@@ -6,11 +6,10 @@ use mathlib.Core.Bool.{Bool, not, _&&_}
 use mathlib.Core.List.{List}
 use lib.Dec.{ltb, eqb}
 use lib.ListN.{length, getD, take, drop}
-use Rattle.rules.specs.Lists.{Found, nothing, found}
+use Rattle.rules.specs.Lists.{Found, nothing, found, In, Out}
 use Rattle.rules.specs.Cells.{empty}
 use Rattle.rules.specs.Graph.{leaf, graphOf, pinCount, ownBit, Node}
 use Rattle.rules.specs.Fold.{asNumber, isLeaf, firstLoad, lowest, stageBits}
-use Rattle.rules.proofs.Lists.Members.{In, Out}
 use Rattle.fold_stage.specs.Bits.{StageAt}
 
 -- the load that the m numbers from L on stand for

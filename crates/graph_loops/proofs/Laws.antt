@@ -8,16 +8,16 @@ use native.Mathlib.Omega.{arith}
 use lib.Dec.{eqb, ltb, leb}
 use lib.ListN.{length, getD, set, length-set, List·getD-eq-default, replicate, length-replicate, getD-replicate}
 use lib.Seq.{getD-set-same, getD-set-other}
-use Rattle.rules.specs.Lists.{mem, count, Found, nothing, found}
+use Rattle.rules.specs.Lists.{mem, count, Found, nothing, found, In}
 use Rattle.rules.specs.Graph.{Node, leaf, gate, pinOf, operands, graphOf, pinCount, below}
 use Rattle.graph.specs.declared.Literal.{Literal}
 use Rattle.graph.specs.declared.Node as code
 use Rattle.graph.specs.declared.Node.the-variants.{Leaf, Gate}
 use Rattle.graph.specs.Values.{nodeFor}
-use Rattle.rules.proofs.Lists.Members.{In, split, true-false, eqb-true, eqb-false, in-here, in-there, in-cons, in-nil}
-use Rattle.rules.proofs.Walk.Traverse.{From, start, step, from-mono}
-use Rattle.rules.proofs.Loops.{Loop, Answered, none, least, loop-answered, ranked-loopless, loop-there, loop-found, Sought, missed, met, sought}
-use Rattle.rules.specs.Loops.{onLoop, loopFrom, loopPin, loopless}
+use Rattle.rules.proofs.Lists.Members.{split, true-false, eqb-true, eqb-false, in-here, in-there, in-cons, in-nil}
+use Rattle.rules.specs.Loops.{From, start, step, Loop, onLoop, loopFrom, loopPin, loopless}
+use Rattle.rules.proofs.Walk.Traverse.{from-mono}
+use Rattle.rules.proofs.Loops.{Answered, none, least, loop-answered, ranked-loopless, loop-there, loop-found, Sought, missed, met, sought}
 use borrow.Author.Tests.{ltb-true, ltb-false, leb-true, ne-eqb}
 use Rattle.rules.specs.Checks.{pinFound}
 use Rattle.graph.proofs.Gates.{graph-length}

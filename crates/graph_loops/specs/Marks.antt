@@ -5,12 +5,10 @@ use mathlib.Core.List.{List, []}
 use Prim.Native.Nat.{ℕ, _+_, _<_, _≤_}
 use lib.Dec.{eqb}
 use mathlib.Core.Logic.{_⊎_}
-use Rattle.rules.specs.Lists.{count}
+use Rattle.rules.specs.Lists.{count, In}
 use lib.ListN.{length, getD}
 use Rattle.rules.specs.Graph.{graphOf, pinCount, below}
-use Rattle.rules.proofs.Lists.Members.{In}
-use Rattle.rules.proofs.Walk.Traverse.{From}
-use Rattle.rules.proofs.Loops.{Loop}
+use Rattle.rules.specs.Loops.{From, Loop}
 
 -- every pin on a loop has a mark
 pub record Kept (gates v : List ℕ) : Type 0 where

@@ -6,7 +6,7 @@ use Prim.Native.Nat.{ℕ, zero, suc, _+_, _<_, _≤_}
 use lib.ListN.{length, drop}
 use Rattle.rules.specs.Records.{Group, Groups?, unreadable, groups, read, groupsOf}
 use Rattle.rules.specs.Job.{Job, groupsFit, fitsProgram}
-use Rattle.rules.proofs.Job.Files.{Held}
+use Rattle.rules.specs.Inside.Files.{Held}
 
 -- one more than the groups, 0 if they are not readable or do not fit
 unfoldable pub counted : Groups? → ℕ

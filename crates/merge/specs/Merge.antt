@@ -8,7 +8,7 @@ use Rattle.rules.specs.Lists.{sum}
 use Rattle.rules.specs.Cells.{empty, rooms, wordLimit, stageSize}
 use Rattle.rules.specs.Traversal.{WordRule}
 use Rattle.rules.specs.Merge.{MergeReply, MergeOutcome, mergeReply, groupListAfter, mergeAnswerOf, mergeWorkSize, mergeable}
-use Rattle.checks.proofs.Laws.Passed.{Passed}
+use Rattle.checks.specs.Passed.{Passed}
 use Rattle.placer.specs.Build.{Blank}
 use Rattle.merge_checks.specs.Values.{groupList, areas}
 use Rattle.merge_trials.specs.Ranks.{Stands}

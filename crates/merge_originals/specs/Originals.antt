@@ -4,15 +4,14 @@ use mathlib.Core.Bool.{Bool, true}
 use mathlib.Core.List.{List}
 use mathlib.Core.Path.{_≡_}
 use lib.ListN.{length, getD}
-use Rattle.rules.specs.Lists.{sum}
+use Rattle.rules.specs.Lists.{sum, In}
 use Rattle.rules.specs.Graph.{pinCount}
 use Rattle.rules.specs.Records.{groupsOf}
 use Rattle.rules.specs.Traversal.{WordRule}
 use Rattle.rules.specs.Build as rules
 use Rattle.rules.specs.Merge.{Common, Part, Parts, bad, good, builtOf, sizeFor, original, mostStages, splitBy}
-use Rattle.rules.proofs.Lists.Members.{In}
 use Rattle.columns.specs.Fields.{RECORDS}
-use Rattle.checks.proofs.Laws.Passed.{Passed}
+use Rattle.checks.specs.Passed.{Passed}
 use Rattle.placer_start.specs.Opening.{Idle}
 use Rattle.placer.specs.declared.Answer.{Answer}
 use Rattle.placer.specs.Answers.{told}

@@ -10,8 +10,8 @@ use Rattle.rules.specs.Merge.{Common, Part, none, some, rounds, Result, merging
 use Rattle.placer.specs.Build.{Blank}
 use Rattle.merge_unions.specs.Unions.{Shares, Places}
 use Rattle.merge_slots.specs.Slots.{gathered, listed, free, but, full, held}
-use Rattle.merge_slots.proofs.Laws.Accepts.{Ready}
-use Rattle.merge_slots.proofs.Laws.Rounds.{Bars, goes, Merging}
+use Rattle.merge_slots.specs.Rounds.{Ready}
+use Rattle.merge_slots.specs.Rounds.{Bars, goes, Merging}
 use Rattle.merge_layout.specs.Layout.{owned}
 use Rattle.merge_trials.specs.Ranks.{Stands}
 use Rattle.merge_rounds.specs.declared.Course.{Course}

@@ -10,12 +10,12 @@ use Rattle.rules.specs.Lists.{sum, every}
 use Rattle.rules.specs.Graph.{pinCount}
 use Rattle.rules.specs.Records.{groupsOf}
 use Rattle.rules.specs.Merge.{Common, splitBy}
-use Rattle.checks.proofs.Laws.Passed.{Passed}
+use Rattle.checks.specs.Passed.{Passed}
 use Rattle.placer_start.specs.Opening.{Idle}
 use Rattle.merge_unions.specs.Table.{Located}
 use Rattle.merge_unions.specs.Unions.{Shares}
 use Rattle.merge_slots.specs.Slots.{free, held}
-use Rattle.merge_slots.proofs.Laws.Accepts.{Ready}
+use Rattle.merge_slots.specs.Rounds.{Ready}
 use Rattle.merge_layout.specs.Layout.{owned}
 
 -- the groups of slot s

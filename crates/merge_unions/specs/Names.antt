@@ -2,9 +2,8 @@
 use mathlib.Core.List.{List, map}
 use Prim.Native.Nat.{ℕ, _+_, _*_, _<_, _≤_}
 use lib.ListN.{length, getD}
-use Rattle.rules.specs.Records.{Group, output, groupsOf}
-use Rattle.rules.proofs.Lists.Members.{In}
-use Rattle.rules.proofs.Demand.{Ends}
+use Rattle.rules.specs.Records.{Group, output, groupsOf, Ends}
+use Rattle.rules.specs.Lists.{In}
 use Rattle.columns.specs.Fields.{RECORDS}
 use Rattle.merge_unions.specs.Table.{Located}
 

@@ -3,7 +3,7 @@ use mathlib.Core.Path.{_≡_}
 use mathlib.Core.List.{List, [], _∷_}
 use Prim.Native.Nat.{ℕ, _+_, _*_, _<_}
 use lib.ListN.{getD}
-use Rattle.rules.proofs.Lists.Members.{In, Out}
+use Rattle.rules.specs.Lists.{In, Out}
 use Rattle.columns.specs.Fields.{DONE}
 use Rattle.columns.specs.Area.{Room, Frame}
 use Rattle.columns.specs.Lists.{list, Holds, Clear}

@@ -10,9 +10,9 @@ use Rattle.rules.specs.Records.{groupsOf}
 use Rattle.rules.specs.Traversal.{WordRule}
 use Rattle.rules.specs.Build as rules
 use Rattle.rules.specs.Merge.{Common, builtOf, sizeFor}
-use Rattle.rules.proofs.Lists.Members.{In}
+use Rattle.rules.specs.Lists.{In}
 use Rattle.columns.specs.Fields.{RECORDS}
-use Rattle.checks.proofs.Laws.Passed.{Passed}
+use Rattle.checks.specs.Passed.{Passed}
 use Rattle.placer_start.specs.Opening.{Idle, Opens}
 use Rattle.placer.specs.declared.Answer.{Answer}
 use Rattle.placer.specs.Answers.{told}

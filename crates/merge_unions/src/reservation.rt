@@ -10,7 +10,8 @@ ghost use Prim.Native.Nat.{_+_};
 ghost use mathlib.Core.List.{_++_};
 ghost use lib.ListN.{length};
 ghost use Rattle.rules.specs.Records.{groupsOf};
-ghost use Rattle.placer_start.specs.Reservation.{Some, Every, Reserved};
+ghost use Rattle.rules.specs.Inside.Some.{Some, Every};
+ghost use Rattle.placer_start.specs.Reservation.{Reserved};
 ghost use Rattle.merge_unions.specs.Names.{picked};
 ghost use Rattle.merge_unions.specs.Reserving.{PartAt, PartCounted, BothAt};
 

@@ -9,7 +9,7 @@ use Rattle.rules.specs.Lists.{padded}
 use Rattle.rules.specs.Cells.{empty, wordLimit, stageSize, rooms}
 use Rattle.rules.specs.Checks.{workSize}
 use Rattle.rules.specs.Build as rules
-use Rattle.checks.proofs.Laws.Passed.{Passed}
+use Rattle.checks.specs.Passed.{Passed}
 use Rattle.placer.specs.declared.Answer.{Answer}
 use Rattle.placer.specs.Answers.{told}
 use Rattle.placer.specs.Stages.{Kept}

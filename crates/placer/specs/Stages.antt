@@ -8,9 +8,8 @@ use Rattle.rules.specs.Cells.{empty, wordLimit, rowAt, stageSize}
 use Rattle.rules.specs.Graph.{Node, graphOf}
 use Rattle.rules.specs.Traversal.{WordRule}
 use Rattle.rules.specs.Build as rules
-use Rattle.rules.proofs.Loops.{rank}
-use Rattle.rules.proofs.Demand.{Valid}
-use Rattle.rules.proofs.Stage.Depth.{Ready}
+use Rattle.rules.specs.Inside.Walks.{rank, Ready}
+use Rattle.rules.specs.Loops.{Valid}
 use Rattle.columns.specs.Fields.{DONE, WAITING, CELLS, PLACE, MARK}
 use Rattle.columns.specs.Area.{Room}
 use Rattle.columns.specs.Lists.{Marks, Clear, Placed}
@@ -35,13 +34,6 @@ pub record Course : Type 0 where
   pub small : length g ≤ 65536
   pub ready : Ready g (rank g) waiting
   pub limit : room ≤ wordLimit K
-
-pub record Some (P : Course → Type 0) : Type 0 where
-  pub C : Course
-  pub at : P C
-
-pub record Every (P Q : Course → Type 0) : Type 0 where
-  pub all : (C : Course) → P C → Q C
 
 -- the answer that the stages give
 unfoldable pub answer : Course → rules.Answer

@@ -6,7 +6,8 @@ use stage_runs::WordRule;
 use stage_tally::Tally;
 use stage_tally::spend;
 ghost use Rattle.stage_tally.specs.Spending.{room, Counted};
-ghost use Rattle.placer.specs.Stages.{Some, Every, OneAt, One, StagesAt, Ran};
+ghost use Rattle.rules.specs.Inside.Some.{Some, Every};
+ghost use Rattle.placer.specs.Stages.{OneAt, One, StagesAt, Ran};
 
 // Stage k + 1, in its own part of the plan, for n waiting pins and the words that the tally leaves.
 fn next_stage(

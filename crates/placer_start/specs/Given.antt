@@ -1,7 +1,7 @@
 -- The given pins' marks. Assumes nothing.
 use mathlib.Core.List.{List, [], _∷_}
 use Prim.Native.Nat.{ℕ, _<_}
-use Rattle.rules.proofs.Lists.Members.{In}
+use Rattle.rules.specs.Lists.{In}
 use Rattle.columns.specs.Fields.{DONE}
 use Rattle.columns.specs.Area.{Room, Frame}
 use Rattle.columns.specs.Lists.{Marks, Clear}

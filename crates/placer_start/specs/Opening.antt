@@ -5,7 +5,7 @@ use Prim.Native.Nat.{ℕ, _+_, _*_, _<_, _≤_}
 use lib.ListN.{length, getD}
 use Rattle.rules.specs.Cells.{wordLimit}
 use Rattle.rules.specs.Records.{Group, waitingOf}
-use Rattle.rules.proofs.Lists.Members.{In}
+use Rattle.rules.specs.Lists.{In}
 use Rattle.columns.specs.Fields.{DONE, WAITING, CELLS, RANKED, PLACE, MARK, TAIL, RECORDS}
 use Rattle.columns.specs.Area.{Room, Frame}
 use Rattle.columns.specs.Lists.{Marks, Clear, Placed}

@@ -4,12 +4,11 @@ use mathlib.Core.Bool.{Bool, true, false, not}
 use mathlib.Core.List.{List, [], _∷_, _++_}
 use Prim.Native.Nat.{ℕ, suc, _+_, _*_, _<_, _≤_}
 use lib.ListN.{length, getD, set, drop}
-use Rattle.rules.specs.Lists.{mem}
+use Rattle.rules.specs.Lists.{mem, In}
 use Rattle.rules.specs.Cells.{wordLimit}
 use Rattle.rules.specs.Records.{Group, groupAt, wholeAt, endpointsOf}
 use Rattle.rules.specs.Reservation.{Activation, activations, codesAt, duplicates, memories, reserved, reservable}
-use Rattle.rules.proofs.Lists.Members.{In}
-use Rattle.rules.proofs.Reservation.Counting.{repeats}
+use Rattle.rules.specs.Inside.Counts.{repeats}
 use Rattle.columns.specs.Fields.{RANKED, TAIL, RECORDS}
 use Rattle.columns.specs.Area.{Room, Frame}
 use Rattle.columns.specs.Lists.{Clear}
@@ -19,14 +18,6 @@ use Rattle.placer_start.specs.declared.reservation.Count.{Count}
 use Rattle.placer_start.specs.declared.reservation.Reservation.{Reservation}
 use Rattle.placer_start.specs.declared.reservation.Reservation.the-variants.{Over, Words}
 use Rattle.placer_start.specs.Waiting.{Readable}
-
--- a `requires` says that something fits, an `ensures` what holds of everything that fitted
-pub record Some {A : Type 0} (P : A → Type 0) : Type 0 where
-  pub it : A
-  pub at : P it
-
-pub record Every {A : Type 0} (P Q : A → Type 0) : Type 0 where
-  pub all : (x : A) → P x → Q x
 
 -- ---- what a record adds
 

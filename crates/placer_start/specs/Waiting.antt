@@ -6,8 +6,7 @@ use Prim.Native.Nat.{ℕ, _<_, _≤_}
 use lib.Dec.{ltb}
 use lib.ListN.{length, drop}
 use Rattle.rules.specs.Lists.{keep, insertAll}
-use Rattle.rules.specs.Records.{Group, groups, read, groupAt, wholeAt, endpointsOf, waitingOf, groupsOf}
-use Rattle.rules.proofs.Demand.{Ends}
+use Rattle.rules.specs.Records.{Group, groups, read, groupAt, wholeAt, endpointsOf, waitingOf, groupsOf, Ends}
 use Rattle.records.specs.Values.{sizeAt, endpointAt}
 use Rattle.columns.specs.Fields.{WAITING, PLACE}
 use Rattle.columns.specs.Area.{Room, Frame}

@@ -17,7 +17,8 @@ use records::size_at;
 ghost use lib.ListN.{length, drop};
 ghost use Rattle.rules.specs.Records as rules;
 ghost use Rattle.rules.specs.Records.{flipFlop, groupAt, groupsOf};
-ghost use Rattle.placer_start.specs.Reservation.{Some, Every, WholeAt, AddsGroup, ChainAt, Knows, LinkAt, Linked, CodeAt, Coded, CountAt, Counted, Few, Judged, SetAside, ReserveAt, Reserved};
+ghost use Rattle.rules.specs.Inside.Some.{Some, Every};
+ghost use Rattle.placer_start.specs.Reservation.{WholeAt, AddsGroup, ChainAt, Knows, LinkAt, Linked, CodeAt, Coded, CountAt, Counted, Few, Judged, SetAside, ReserveAt, Reserved};
 
 // What a record adds: a memory, or at a pin an activation's number.
 pub enum Added {

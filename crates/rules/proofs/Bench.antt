@@ -15,8 +15,8 @@ use Rattle.rules.specs.Fold.{foldResult}
 use Rattle.rules.specs.Merge.{MergeOutcome, merger, begun}
 use Rattle.rules.specs.Job.{Job?, noJob, job, readJob, File?, noFile, file, writeJob}
 use Rattle.rules.specs.Listing.{text, printed}
-use Rattle.rules.specs.Lean.{blank, leanPlan}
-use Rattle.rules.specs.Opened.{everything}
+use Rattle.rules.specs.Inside.Lean.{blank, leanPlan}
+use Rattle.rules.specs.Inside.Opened.{everything}
 
 abbrev sameLists : List (List ℕ) → List (List ℕ) → Bool
 sameLists [] [] = true

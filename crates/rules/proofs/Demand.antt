@@ -8,11 +8,11 @@ use native.Mathlib.Omega.{arith}
 use lib.Dec.{ltb, lt→ltb}
 use lib.ListN.{length, getD, List·getD-eq-default}
 use borrow.Author.Tests.{ltb-true, ltb-false}
-use Rattle.rules.specs.Lists.{mem, keep, insertAll}
+use Rattle.rules.specs.Lists.{mem, keep, insertAll, In, Sub, Once, nobody}
 use Rattle.rules.specs.Cells.{filled, empty, wordLimit}
 use Rattle.rules.specs.Graph.{Node, leaf, gate, pinOf, operands, below, ownBit, value}
-use Rattle.rules.specs.Loops.{loopless}
-use Rattle.rules.specs.Records.{Group, endpointsOf, waitingOf}
+use Rattle.rules.specs.Loops.{loopless, Valid}
+use Rattle.rules.specs.Records.{Group, endpointsOf, waitingOf, Ends, first, later}
 use Rattle.rules.specs.Reservation.{reservable, reserved}
 use Rattle.rules.specs.Traversal.{WordRule, everyRun, neededRuns, over, Setting, setting, levelAt}
 use Rattle.rules.specs.Placing.{filledPlan, tree}
@@ -21,15 +21,15 @@ use Rattle.rules.specs.Build.{Stage, refusal, whole, stages, build}
 use Rattle.rules.specs.States.{state, after}
 use Rattle.rules.specs.Depth.{depth, remaining}
 use Rattle.rules.specs.Fold.{bitAt, isLeaf, firstLoad, loadFrom}
-use Rattle.rules.proofs.Lists.Members.{In, split, T→true, in-here, in-there, in-cons, in-nil, in-append-right, in-insertAll, in-insertAll-old, insertAll-in, keep-in, in-keep}
+use Rattle.rules.proofs.Lists.Members.{split, T→true, in-here, in-there, in-cons, in-nil, in-append-right, in-insertAll, in-insertAll-old, insertAll-in, keep-in, in-keep}
 use Rattle.rules.proofs.Walk.Levels.{over-least, over-above}
-use Rattle.rules.proofs.Walk.Reverse.{Sub, below-in, below-sub}
-use Rattle.rules.proofs.Loops.{rank, rank-falls, rank-few, loopless-no, ranked-loopless}
-use Rattle.rules.proofs.Needed.Needs.{Sound, Graph, setting-sound}
-use Rattle.rules.proofs.Stage.Last.{Once, nobody}
+use Rattle.rules.proofs.Walk.Reverse.{below-in, below-sub}
+use Rattle.rules.specs.Inside.Walks.{rank, Sound, Graph, Ready}
+use Rattle.rules.proofs.Loops.{rank-falls, rank-few, loopless-no, ranked-loopless}
+use Rattle.rules.proofs.Needed.Needs.{setting-sound}
 use Rattle.rules.proofs.Stage.Flat.{blank-replicate}
 use Rattle.rules.proofs.Stage.Staged.{Ended, the-end, stage-holds, remaining-least, remaining-above}
-use Rattle.rules.proofs.Stage.Depth.{Ready, still-ready, stage-cases, shallow, rooms-suffice}
+use Rattle.rules.proofs.Stage.Depth.{still-ready, stage-cases, shallow, rooms-suffice}
 use Rattle.rules.proofs.Build.Lengths.{Sizes, sizes, Sized, all-sized}
 use Rattle.rules.proofs.Tree.Invariant.{final}
 use Rattle.rules.proofs.Tree.Loads.{Fine, fine-kept, fine-first}
@@ -40,11 +40,6 @@ use Rattle.rules.proofs.Written.Writes.{Written, all-written, more-whol
 use Rattle.rules.proofs.Build.Bounds as bounds
 use Rattle.rules.proofs.Build.Bounds.{Few}
 use Rattle.rules.proofs.Build.Rules.{build-no-more}
-
--- the rule for gates: operands are pins of the graph, and no pin is on a loop
-pub record Valid (g : List Node) : Type 0 where
-  pub inside : (p a b : ℕ) → getD g p leaf ≡ gate a b → (pinOf a < length g) × (pinOf b < length g)
-  pub free : loopless g ≡ true
 
 operand-in : (g : List Node) → Valid g → (x : Node) (p q : ℕ) → getD g p leaf ≡ x → In q (operands x) → q < length g
 unfolding operands
@@ -108,11 +103,6 @@ waitingOf-old : (q : ℕ) (xs : List Group) (ws : List ℕ) → In q ws → In q
 unfolding waitingOf
 waitingOf-old q [] ws i = i
 waitingOf-old q (x ∷ xs) ws i = waitingOf-old q xs _ (in-insertAll-old q (keep (ltb 0) (endpointsOf x)) ws i)
-
--- a pin that a group of the list waits for
-pub data Ends (q : ℕ) : List Group → Type 0 where
-  first : {x : Group} {xs : List Group} → In q (endpointsOf x) → Ends q (x ∷ xs)
-  later : {x : Group} {xs : List Group} → Ends q xs → Ends q (x ∷ xs)
 
 ends-wait : (q : ℕ) → 0 < q → {xs : List Group} → Ends q xs → (ws : List ℕ) → In q (waitingOf xs ws)
 unfolding waitingOf

@@ -8,23 +8,15 @@ use native.Mathlib.Omega.{arith}
 use lib.Dec.{eqb, ltb}
 use lib.ListN.{length, length-append}
 use borrow.Author.Tests.{ltb-true, ltb-false}
-use Rattle.rules.specs.Lists.{mem, insert, insertAll, distinct, gather, upTo, Found, nothing, found}
+use Rattle.rules.specs.Lists.{mem, insert, insertAll, distinct, gather, upTo, Found, nothing, found, In, Out, Sub, Once, nobody, one}
 use Rattle.rules.specs.Graph.{Node, below}
-use Rattle.rules.specs.Loops.{grown, closure, under, onLoop, loopFrom, loopPin, isNothing, loopless}
-use Rattle.rules.proofs.Lists.Members.{In, Out, split, true-false, eqb-true, eqb-false, in-here, in-there, in-cons, in-nil, in-insertAll, in-insertAll-old, insertAll-in, in-distinct, distinct-in, in-gather, gather-in}
+use Rattle.rules.specs.Loops.{grown, closure, under, onLoop, loopFrom, loopPin, isNothing, loopless, From, start, step, Loop}
+use Rattle.rules.proofs.Lists.Members.{split, true-false, eqb-true, eqb-false, in-here, in-there, in-cons, in-nil, in-insertAll, in-insertAll-old, insertAll-in, in-distinct, distinct-in, in-gather, gather-in}
 use Rattle.rules.proofs.Lists.Lengths.{length-upTo}
-use Rattle.rules.proofs.Walk.Traverse.{From, start, step, Ranked, from-mono, from-rank}
-use Rattle.rules.proofs.Walk.Reverse.{Sub}
-use Rattle.rules.proofs.Stage.Last.{Once, nobody, one, once-length}
+use Rattle.rules.specs.Inside.Walks.{Ranked, rank}
+use Rattle.rules.proofs.Walk.Traverse.{from-mono, from-rank}
+use Rattle.rules.proofs.Stage.Last.{once-length}
 use Rattle.rules.proofs.Written.Words.{once-insertAll}
-
--- a loop through p: p is reached from one of its own operands, no pin stopping the chain
-abbrev pub Loop : List Node → ℕ → Type 0
-Loop g p = From g [] (below g [] p) p
-
--- how many pins are under a pin
-unfoldable pub rank : List Node → ℕ → ℕ
-rank g p = length (under g p)
 
 -- where a rank falls along operands there is no loop
 pub ranked-no-loop : (g : List Node) (r : ℕ → ℕ) → Ranked g [] r → (p : ℕ) → Loop g p → ⊥

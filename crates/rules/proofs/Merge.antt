@@ -8,15 +8,14 @@ use native.Mathlib.Omega.{arith}
 use native.Mathlib.Nat.{mul-suc, mul-add, mul-le-mul-left}
 use lib.Dec.{eqb, leb}
 use lib.ListN.{length, getD, take, drop, length-take, length-drop, take-append-drop}
-use Rattle.rules.specs.Lists.{mem, count, sum}
+use Rattle.rules.specs.Lists.{mem, count, sum, In, Once, nobody, one}
 use Rattle.rules.specs.Cells.{rooms}
 use Rattle.rules.specs.Graph.{Node, graphOf}
 use Rattle.rules.specs.Records.{Group, output, groupsOf}
 use Rattle.rules.specs.Traversal.{WordRule}
 use Rattle.rules.specs.Build.{Stage, Answer, refusal, whole, build, reply, wordsOf}
 use Rattle.rules.specs.Merge.{Common, Part, Rank, Round, none, some, Merged, Result, builtOf, partOf, rankOf, addRank, before, ranking, accepted, attempt, without, rounds, addPart, merging, Parts, bad, good, cons, original, sizeFor, mostStages, occupied, begun, named, MergeAnswer, turned, merged, merge, GroupList, splitBy, joined, indicesOf, groupListAfter, mergeAnswerOf}
-use Rattle.rules.proofs.Lists.Members.{In, split, true-false, eqb-true, eqb-same, in-here, in-there, in-cons, in-nil, count-append}
-use Rattle.rules.proofs.Stage.Last.{Once, nobody, one}
+use Rattle.rules.proofs.Lists.Members.{split, true-false, eqb-true, eqb-same, in-here, in-there, in-cons, in-nil, count-append}
 
 -- ---- trials
 

@@ -16,5 +16,4 @@ pub mod Fold
 pub mod Merge
 pub mod Job
 pub mod Listing
-pub mod Lean
-pub mod Opened
+pub mod Inside

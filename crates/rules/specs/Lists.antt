@@ -1,5 +1,6 @@
 -- Lists of numbers: membership, one entry each, keeping, counting, the swap with the last. Assumes nothing.
 use Prim.Native.Nat.{ℕ, zero, suc, _+_, _-_}
+use mathlib.Core.Path.{_≡_}
 use mathlib.Core.Bool.{Bool, true, false}
 use mathlib.Core.List.{List, [], _∷_, _++_, map}
 use lib.Dec.{eqb}
@@ -94,3 +95,19 @@ laidOver xs ys = xs ++ drop (length xs) ys
 -- and over those from place `at` on
 unfoldable pub laidAt : ℕ → List ℕ → List ℕ → List ℕ
 laidAt at xs ys = take at ys ++ (xs ++ drop (at + length xs) ys)
+
+-- p is in the list, or is not
+abbrev pub In : ℕ → List ℕ → Type 0
+In p xs = mem p xs ≡ true
+
+abbrev pub Out : ℕ → List ℕ → Type 0
+Out p xs = mem p xs ≡ false
+
+-- every entry of the first list is in the second
+abbrev pub Sub : List ℕ → List ℕ → Type 0
+Sub xs ys = (q : ℕ) → In q xs → In q ys
+
+-- no number twice
+pub data Once : List ℕ → Type 0 where
+  nobody : Once []
+  one : {x : ℕ} {xs : List ℕ} → Out x xs → Once xs → Once (x ∷ xs)

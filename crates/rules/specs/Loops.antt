@@ -1,10 +1,11 @@
 -- Loops: chains of operands from a pin back to itself, gates counted whether given or not. Assumes nothing.
-use Prim.Native.Nat.{ℕ, zero, suc}
+use Prim.Native.Nat.{ℕ, zero, suc, _<_}
+use mathlib.Core.Path.{_≡_}
 use mathlib.Core.Bool.{Bool, true, false}
 use mathlib.Core.List.{List, []}
-use lib.ListN.{length}
-use Rattle.rules.specs.Lists.{mem, insertAll, distinct, gather, Found, nothing, found}
-use Rattle.rules.specs.Graph.{Node, below}
+use lib.ListN.{length, getD}
+use Rattle.rules.specs.Lists.{mem, insertAll, distinct, gather, Found, nothing, found, In}
+use Rattle.rules.specs.Graph.{Node, leaf, gate, pinOf, below}
 
 -- some pins, and behind them those of their operands that are not among them
 unfoldable pub grown : List Node → List ℕ → List ℕ
@@ -37,3 +38,19 @@ isNothing (found p) = false
 
 unfoldable pub loopless : List Node → Bool
 loopless g = isNothing (loopPin g)
+
+-- ---- the same as a reader says it
+
+-- pin q is reached from one of some pins
+pub data From (g : List Node) (done ps : List ℕ) : ℕ → Type 0 where
+  start : {q : ℕ} → In q ps → From g done ps q
+  step : {q x : ℕ} → From g done ps q → In x (below g done q) → From g done ps x
+
+-- a loop through p: p is reached from one of its own operands, no pin stopping the chain
+abbrev pub Loop : List Node → ℕ → Type 0
+Loop g p = From g [] (below g [] p) p
+
+-- the rule for gates: operands are pins of the graph, and no pin is on a loop
+pub record Valid (g : List Node) : Type 0 where
+  pub inside : (p a b : ℕ) → getD g p leaf ≡ gate a b → (pinOf a < length g) × (pinOf b < length g)
+  pub free : loopless g ≡ true

@@ -4,7 +4,7 @@ use mathlib.Core.Bool.{Bool, true, false, _&&_}
 use mathlib.Core.List.{List, [], _∷_, map}
 use lib.Dec.{ltb, eqb}
 use lib.ListN.{length, getD, take, drop}
-use Rattle.rules.specs.Lists.{keep, insertAll, every}
+use Rattle.rules.specs.Lists.{keep, insertAll, every, In}
 use Rattle.rules.specs.Graph.{pinOf}
 
 -- kind 1: primary output (literal); 2: flip-flop (enable, data literals); 3: memory (91 literals); 4: staged pin (pin)
@@ -79,3 +79,8 @@ allNamed n (x ∷ xs) = every (λ p. ltb p n) (endpointsOf x) && allNamed n xs
 -- the groups of readable records; none otherwise (check 4 refuses those)
 unfoldable pub groupsOf : List ℕ → List Group
 groupsOf xs = elim (read xs) [ unreadable ↦ [] | groups gs ↦ gs ]
+
+-- a pin that a group of the list waits for
+pub data Ends (q : ℕ) : List Group → Type 0 where
+  first : {x : Group} {xs : List Group} → In q (endpointsOf x) → Ends q (x ∷ xs)
+  later : {x : Group} {xs : List Group} → Ends q xs → Ends q (x ∷ xs)

@@ -3,13 +3,12 @@ use mathlib.Core.Path.{_≡_}
 use mathlib.Core.List.{List, [], _∷_, _++_}
 use Prim.Native.Nat.{ℕ, _+_, _*_, _^_, _<_, _≤_}
 use lib.ListN.{length, getD}
-use Rattle.rules.specs.Lists.{found, laidAt}
+use Rattle.rules.specs.Lists.{found, laidAt, In}
 use Rattle.rules.specs.Cells.{rowAt, row, firstEmpty}
 use Rattle.rules.specs.Traversal.{levelAt}
 use Rattle.rules.specs.Placing.{tree, neededOf}
 use Rattle.rules.specs.Ending.{plan, Stage?, refused, stage, close, inNeed, lastStage, written, rest, finish}
-use Rattle.rules.proofs.Lists.Members.{In}
-use Rattle.rules.proofs.Tree.Fair.{Fair}
+use Rattle.rules.specs.Inside.Plans.{Fair}
 use Rattle.columns.specs.Fields.{ORDER, DONE, WAITING, CELLS, NEEDED, STACK, PHASE, PLACE, MARK, SPARE, TAIL}
 use Rattle.columns.specs.Area.{Room, Frame}
 use Rattle.columns.specs.Lists.{Holds, Marks, Clear, Marked, Placed}
@@ -75,7 +74,7 @@ pub record Midway (C : Context) (pl : List ℕ) (m K half o n at room : ℕ) (s 
   pub area : Room m w
   pub graph : length (C .X .g) ≡ m
   pub tally : Tally C m pl′ w
-  pub fair : Fair (C .X) (C .r) (length (C .X .g)) (C .S) 1 pl′
+  pub fair : Fair (C .X) 1 pl′
   pub done : Marks DONE m (C .X .done) w
   pub waiting : Placed WAITING PLACE m n (C .X .waiting) w
   pub order : Holds ORDER m o (C .X .order) w

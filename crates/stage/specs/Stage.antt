@@ -4,7 +4,7 @@ use mathlib.Core.List.{List, [], _∷_}
 use Prim.Native.Nat.{ℕ, _+_, _*_, _^_, _<_, _≤_}
 use lib.ListN.{length, getD}
 use Rattle.rules.specs.Cells.{rowAt}
-use Rattle.rules.specs.Lean as lean
+use Rattle.rules.specs.Inside.Lean as lean
 use Rattle.rules.specs.Ending.{Stage?, refused, oneStage}
 use Rattle.columns.specs.Fields.{ORDER, DONE, LEVEL, WAITING, CELLS, RANKED, STARTS, ENDS, REVERSE, NEEDED, LISTED, STACK, PHASE, PLACE, MARK, SPARE, TAIL}
 use Rattle.columns.specs.Lists.{Clear}

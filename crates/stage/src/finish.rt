@@ -13,7 +13,8 @@ use stage_tally::left;
 use stage_tally::spend;
 ghost use Rattle.stage_tally.specs.Spending.{room, Counted};
 ghost use Rattle.rules.specs.Ending as rules;
-ghost use Rattle.stage_walk.specs.Stands.{Some, Every, SomePlan, EveryPlan};
+ghost use Rattle.rules.specs.Inside.Some.{Some, Every};
+ghost use Rattle.stage_walk.specs.Stands.{SomePlan, EveryPlan};
 ghost use Rattle.stage.specs.Finish.{FinishAt, Finished, RestingAt, LastingAt, Lasting, Ends};
 
 // 0, or the number that refuses the stage; for 0 how many words it has and how many pins wait then.

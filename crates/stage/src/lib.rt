@@ -6,7 +6,7 @@ use stage_prepare::prepare;
 use stage_runs::WordRule;
 use stage_tally::Tally;
 ghost use Rattle.stage_tally.specs.Spending.{room, Counted};
-ghost use Rattle.stage_walk.specs.Stands.{Some, Every};
+ghost use Rattle.rules.specs.Inside.Some.{Some, Every};
 ghost use Rattle.stage.specs.Stage.{StageAt, Staged};
 
 mod finish;

@@ -5,8 +5,7 @@ use mathlib.Core.List.{List, [], _∷_}
 use Prim.Native.Nat.{ℕ, _+_, _*_, _<_, _≤_}
 use lib.Dec.{eqb}
 use lib.ListN.{getD, take}
-use Rattle.rules.specs.Lists.{mem, keep, insertAll, swapOutAll}
-use Rattle.rules.proofs.Lists.Members.{In, Out}
+use Rattle.rules.specs.Lists.{mem, keep, insertAll, swapOutAll, In, Out}
 use Rattle.columns.specs.Fields.{ORDER, DONE, WAITING, CELLS, STACK, PLACE, MARK, SPARE, TAIL}
 use Rattle.columns.specs.Area.{Room, Frame}
 use Rattle.columns.specs.Lists.{list, Holds, Marked, Placed, Clear}

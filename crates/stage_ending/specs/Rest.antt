@@ -5,12 +5,11 @@ use mathlib.Core.Bool.{Bool, true, false}
 use mathlib.Core.List.{List, _∷_}
 use Prim.Native.Nat.{ℕ, _*_, _<_, _≤_}
 use lib.ListN.{length}
-use Rattle.rules.specs.Lists.{nothing, found}
+use Rattle.rules.specs.Lists.{nothing, found, In}
 use Rattle.rules.specs.Cells.{rowAt, row, firstEmpty}
 use Rattle.rules.specs.Traversal.{levelAt}
 use Rattle.rules.specs.Ending.{Plan?, full, plan, putRest}
-use Rattle.rules.proofs.Lists.Members.{In}
-use Rattle.rules.proofs.Tree.Cursor.{Behind}
+use Rattle.rules.specs.Inside.Plans.{Behind}
 use Rattle.columns.specs.Fields.{NEEDED, MARK}
 use Rattle.columns.specs.Lists.{list, span, Holds, Marks}
 use Rattle.stage_walk.specs.Stands.{Context}

@@ -6,21 +6,13 @@ use mathlib.Core.Logic.{_⊎_}
 use Prim.Native.Nat.{ℕ, zero, suc, _+_, _-_, _*_, _/_, _^_, _<_, _≤_}
 use lib.Dec.{eqb}
 use lib.ListN.{length, getD, take, drop}
-use Rattle.rules.specs.Lists.{keep, insert, laidAt}
+use Rattle.rules.specs.Lists.{keep, insert, laidAt, In, Out, Once}
 use Rattle.rules.specs.Cells.{empty, filled, rowAt, row}
-use Rattle.rules.proofs.Lists.Members.{In, Out}
-use Rattle.rules.proofs.Stage.Last.{Once}
 use Rattle.columns.specs.Fields.{WAITING, PLACE, MARK, SPARE, TAIL}
 use Rattle.columns.specs.Area.{Room, Frame}
 use Rattle.columns.specs.Lists.{list}
 
--- the words collected so far are no ghost value: a contract speaks of some, and of all, that the tail's places fit
-pub record SomeWords (P : List ℕ → Type 0) : Type 0 where
-  pub ws : List ℕ
-  pub at : P ws
-
-pub record EveryWords (P Q : List ℕ → Type 0) : Type 0 where
-  pub all : (ws : List ℕ) → P ws → Q ws
+-- contracts speak of some, and of every, list of words collected so far that the tail's places fit
 
 -- pin c waits, and is neither realised nor needed
 unfoldable pub isEnd : ℕ → List ℕ → ℕ → Bool

@@ -6,7 +6,7 @@ use columns::get;
 use columns::is_in;
 use stage_tree::first_empty;
 use stage_tree::place_bit;
-ghost use Rattle.stage_walk.specs.Stands.{Some, Every};
+ghost use Rattle.rules.specs.Inside.Some.{Some, Every};
 ghost use Rattle.stage_ending.specs.Rest.{PinAt, Pinned, RestAt, Rested, Filled};
 
 // Needed pin p, unless it is realised or in the tree, into the lowest empty cell; those before `from` are filled. Returns where the next

@@ -9,7 +9,8 @@ use columns::tail_set;
 use columns::wide;
 ghost use mathlib.Core.Path.{_≡_};
 ghost use Prim.Native.Nat.{_+_, _*_, _<_, _≤_};
-ghost use Rattle.stage_ending.specs.Words.{isEnd, SomeWords, EveryWords, WordAt, Worded, CellAt, Celled, RowAt, Rowed, UpAt, Upped, OneAt, One, WriteAt, Written};
+ghost use Rattle.rules.specs.Inside.Some.{Some, Every};
+ghost use Rattle.stage_ending.specs.Words.{isEnd, WordAt, Worded, CellAt, Celled, RowAt, Rowed, UpAt, Upped, OneAt, One, WriteAt, Written};
 
 // Does pin c wait, neither realised nor needed?
 fn is_end(work: &[u32], m: usize, c: usize) -> bool
@@ -27,8 +28,8 @@ fn is_end(work: &[u32], m: usize, c: usize) -> bool
 
 // Word j behind the n collected ones, unless it is there. Returns how many there are.
 fn word(work: &mut [u32], m: usize, n: usize, j: usize) -> usize
-    requires { ⌜ SomeWords (λ ws. WordAt m n j ws (now work)) ⌝ }
-    ensures { λ r. ⌜ EveryWords (λ ws. WordAt m n j ws (now (work .entry))) (λ ws. Worded m j ws (now (work .entry)) (now (work .exit)) r) ⌝ }
+    requires { ⌜ Some (λ ws. WordAt m n j ws (now work)) ⌝ }
+    ensures { λ r. ⌜ Every (λ ws. WordAt m n j ws (now (work .entry))) (λ ws. Worded m j ws (now (work .entry)) (now (work .exit)) r) ⌝ }
 {
     if tail_get(work, m, j) != 0 {
         return n;
@@ -39,8 +40,8 @@ fn word(work: &mut [u32], m: usize, n: usize, j: usize) -> usize
 
 // The word of the cell at position p, if an endpoint stands there.
 fn cell(stage: &[u32], work: &mut [u32], m: usize, n: usize, p: usize) -> usize
-    requires { ⌜ SomeWords (λ ws. CellAt m n p ws (now stage) (now work)) ⌝ }
-    ensures { λ r. ⌜ EveryWords (λ ws. CellAt m n p ws (now (stage .entry)) (now (work .entry))) (λ ws. Celled m p ws (now (stage .entry)) (now (work .entry)) (now (work .exit)) r) ⌝ }
+    requires { ⌜ Some (λ ws. CellAt m n p ws (now stage) (now work)) ⌝ }
+    ensures { λ r. ⌜ Every (λ ws. CellAt m n p ws (now (stage .entry)) (now (work .entry))) (λ ws. Celled m p ws (now (stage .entry)) (now (work .entry)) (now (work .exit)) r) ⌝ }
 {
     let c = wide(stage[p]);
     if c == 4294967295 {
@@ -54,8 +55,8 @@ fn cell(stage: &[u32], work: &mut [u32], m: usize, n: usize, p: usize) -> usize
 
 // The words of the cells from a to e.
 fn row(stage: &[u32], work: &mut [u32], m: usize, n: usize, a: usize, e: usize) -> usize
-    requires { ⌜ SomeWords (λ ws. RowAt m n a e ws (now stage) (now work)) ⌝ }
-    ensures { λ r. ⌜ EveryWords (λ ws. RowAt m n a e ws (now (stage .entry)) (now (work .entry))) (λ ws. Rowed m a e ws (now (stage .entry)) (now (work .entry)) (now (work .exit)) r) ⌝ }
+    requires { ⌜ Some (λ ws. RowAt m n a e ws (now stage) (now work)) ⌝ }
+    ensures { λ r. ⌜ Every (λ ws. RowAt m n a e ws (now (stage .entry)) (now (work .entry))) (λ ws. Rowed m a e ws (now (stage .entry)) (now (work .entry)) (now (work .exit)) r) ⌝ }
 {
     let mut k = n;
     let mut p = a;
@@ -97,8 +98,8 @@ fn write_one(words: &mut [u32], work: &mut [u32], m: usize, at: usize, j: usize)
 
 // The n collected words go behind `at`, and are collected no more.
 pub fn write(words: &mut [u32], work: &mut [u32], m: usize, at: usize, n: usize)
-    requires { ⌜ SomeWords (λ ws. WriteAt m at n ws (now words) (now work)) ⌝ }
-    ensures { λ _. ⌜ EveryWords (λ ws. WriteAt m at n ws (now (words .entry)) (now (work .entry))) (λ ws. Written m at ws (now (words .entry)) (now (work .entry)) (now (words .exit)) (now (work .exit))) ⌝ }
+    requires { ⌜ Some (λ ws. WriteAt m at n ws (now words) (now work)) ⌝ }
+    ensures { λ _. ⌜ Every (λ ws. WriteAt m at n ws (now (words .entry)) (now (work .entry))) (λ ws. Written m at ws (now (words .entry)) (now (work .entry)) (now (words .exit)) (now (work .exit))) ⌝ }
 {
     let mut j = 0;
     while j < 256 {

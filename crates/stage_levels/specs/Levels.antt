@@ -5,7 +5,7 @@ use Prim.Native.Nat.{ℕ, _+_, _-_, _*_, _<_, _≤_}
 use lib.ListN.{getD, take}
 use Rattle.rules.specs.Graph.{below}
 use Rattle.rules.specs.Traversal.{thread, levels, levelAt, greatest, lift}
-use Rattle.rules.proofs.Lists.Members.{In}
+use Rattle.rules.specs.Lists.{In}
 use Rattle.columns.specs.Area.{Room, Frame, col}
 use Rattle.columns.specs.Fields.{LEVEL, WAITING, REVERSE}
 use Rattle.columns.specs.Lists.{list, Holds, Clear}

@@ -11,11 +11,11 @@ ghost use Prim.Native.Nat.{_+_, _*_, _<_, max};
 ghost use lib.ListN.{length, getD, set};
 ghost use Rattle.rules.specs.Graph.{below};
 ghost use Rattle.rules.specs.Traversal.{over, thread, raise, lift};
-ghost use Rattle.rules.specs.Lean.{startLevels};
+ghost use Rattle.rules.specs.Inside.Lean.{startLevels};
 ghost use Rattle.columns.specs.Area.{col};
 ghost use Rattle.columns.specs.Fields.{LEVEL, WAITING, REVERSE};
 ghost use Rattle.columns.specs.Lists.{list};
-ghost use Rattle.stage_walk.specs.Stands.{Some, Every};
+ghost use Rattle.rules.specs.Inside.Some.{Some, Every};
 ghost use Rattle.stage_levels.specs.Levels.{Becomes, LevelAt, LevelsAt, Levels, WaitsAt, LiftAt, LowerAt, ReverseAt};
 
 fn higher(a: usize, b: usize) -> usize

@@ -6,7 +6,7 @@ use lib.ListN.{length, getD}
 use Rattle.rules.specs.Cells.{rowAt}
 use Rattle.rules.specs.Traversal.{levelAt, greatest}
 use Rattle.rules.specs.Placing.{neededOf, filledPlan}
-use Rattle.rules.specs.Lean.{blank, leanPlan}
+use Rattle.rules.specs.Inside.Lean.{blank, leanPlan}
 use Rattle.columns.specs.Fields.{CELLS, NEEDED, MARK, ONES, PINS}
 use Rattle.columns.specs.Lists.{Holds, Clear}
 use Rattle.stage_walk.specs.Stands.{Context, Set, Tally}

@@ -7,15 +7,12 @@ use lib.ListN.{length, getD}
 use Rattle.rules.specs.Lists.{Found, nothing, found}
 use Rattle.rules.specs.Cells.{levelOneSize, rowAt}
 use Rattle.rules.specs.Placing.{placed}
-use Rattle.rules.specs.Lean.{wanted, recount, lean, onward}
-use Rattle.rules.proofs.Tree.Fair.{Fair}
-use Rattle.rules.proofs.Tree.Invariant.{Placeable}
-use Rattle.rules.proofs.Lean.Lean.{Going}
+use Rattle.rules.specs.Inside.Lean.{wanted, recount, lean, onward}
+use Rattle.rules.specs.Inside.Plans.{Fair, Placeable, Going}
 use Rattle.columns.specs.Area.{Frame}
 use Rattle.columns.specs.Fields.{CELLS, NEEDED, MARK, TAIL, ONES, PINS}
 use Rattle.columns.specs.Lists.{Marks}
 use Rattle.stage_walk.specs.Stands.{Context, Set, Tally, ranked}
-use Rattle.stage_walk.proofs.Contexts.{low-mark}
 
 -- only the counts and the needed pins changed
 pub record Kept (m : ℕ) (w w′ : List ℕ) : Type 0 where
@@ -27,7 +24,7 @@ pub record Plan (C : Context) (m n k h : ℕ) (gates pl w : List ℕ) : Type 0 w
   pub set : Set C m n k gates w
   pub clear : Marks MARK m [] w
   pub tally : Tally C m pl w
-  pub fair : Fair (C .X) (C .r) (length (C .X .g)) (C .S) h pl
+  pub fair : Fair (C .X) h pl
 
 -- a row's start
 pub record Wide (C : Context) (h wd : ℕ) : Type 0 where
@@ -85,7 +82,7 @@ pub record At (C : Context) (m n k l wd half : ℕ) (gates pl w : List ℕ) (i e
   pub set : Set C m n k gates w
   pub clear : Marks MARK m [] w
   pub tally : Tally C m pl w
-  pub going : Going (C .X) (C .r) (length (C .X .g)) (C .S) (C .M) (low-mark C) (suc l) (ranked m w i e) b pl
+  pub going : Going (C .X) (suc l) (ranked m w i e) b pl
   pub wide : Wide C (suc l) wd
   pub cap : half ≡ levelOneSize (C .X .K)
   pub before : i ≤ e
@@ -98,7 +95,7 @@ pub record Next (C : Context) (m n k l wd half : ℕ) (gates pl w : List ℕ) (i
 
 pub record Ended (C : Context) (m l : ℕ) (pl w : List ℕ) (i e b : ℕ) (pl′ w′ : List ℕ) (b′ : ℕ) : Type 0 where
   pub same : onward (C .X) l (ranked m w i e) b pl ≡ lean (C .X) l b′ pl′
-  pub fair : Fair (C .X) (C .r) (length (C .X .g)) (C .S) l pl′
+  pub fair : Fair (C .X) l pl′
   pub enough : length (wanted (C .X) pl′) ≤ b′
   pub few : b′ ≤ m
   pub kept : Kept m w w′

@@ -12,7 +12,7 @@ use stage_tree::place_bit;
 use stage_tree::purge_bit;
 use stage_tree::room;
 ghost use Prim.Native.Nat.{_+_, _*_, _<_};
-ghost use Rattle.stage_walk.specs.Stands.{Some, Every};
+ghost use Rattle.rules.specs.Inside.Some.{Some, Every};
 ghost use Rattle.stage_loop.specs.Loop.{SettleAt, Settled, TryAt, Tried, Next, Turned, At, Ended, LeanAt, Leaned};
 
 // Rule 7: 0 for no room, else one more than a number that the needed pins don't exceed.

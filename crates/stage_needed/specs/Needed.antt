@@ -5,11 +5,10 @@ use mathlib.Core.List.{List, [], _∷_}
 use Prim.Native.Nat.{ℕ, _+_, _*_, _<_}
 use lib.Dec.{eqb}
 use lib.ListN.{length, getD, drop}
-use Rattle.rules.specs.Lists.{mem, insertAll, gather}
+use Rattle.rules.specs.Lists.{mem, insertAll, gather, In}
 use Rattle.rules.specs.Traversal.{levelAt}
 use Rattle.rules.specs.Placing.{treeOf}
-use Rattle.rules.specs.Lean.{cellsHolding, lacks, wanted}
-use Rattle.rules.proofs.Lists.Members.{In}
+use Rattle.rules.specs.Inside.Lean.{cellsHolding, lacks, wanted}
 use Rattle.columns.specs.Area.{Room, Frame}
 use Rattle.columns.specs.Fields.{CELLS, NEEDED, PLACE, MARK}
 use Rattle.columns.specs.Lists.{list, Holds, Marks, Marked}

@@ -13,7 +13,7 @@ use stage_walk::followed;
 ghost use mathlib.Core.List.{[], _∷_};
 ghost use Rattle.rules.specs.Lists.{keep};
 ghost use Rattle.rules.specs.Placing.{treeOf, asked};
-ghost use Rattle.rules.specs.Lean.{lacks};
+ghost use Rattle.rules.specs.Inside.Lean.{lacks};
 ghost use Rattle.stage_walk.specs.Stands.{SomePlan, EveryPlan};
 ghost use Rattle.stage_needed.specs.Needed.{missing, Needs, AskAt, ItselfAt, NeedAt, NeededAt, Collected, UnmarkAt, Unmarked, Needed};
 

@@ -10,8 +10,8 @@ use native.Mathlib.Decide.{ℕ-discrete}
 use lib.Dec.{eqb}
 use lib.ListN.{length, getD, set, drop, replicate, length-set, drop-of-length-le}
 use lib.Seq.{drop-cons}
-use Rattle.rules.specs.Lists.{mem}
-use Rattle.rules.proofs.Lists.Members.{Out, true-false, eqb-true, in-reverse, or-true, mem-other}
+use Rattle.rules.specs.Lists.{mem, Out}
+use Rattle.rules.proofs.Lists.Members.{true-false, eqb-true, in-reverse, or-true, mem-other}
 use Rattle.rules.proofs.Walk.Reverse.{out-sub}
 use Rattle.columns.specs.Area.{Frame, among, col, put}
 use Rattle.columns.specs.Fields.{ORDER, LEVEL, STARTS, ENDS, REVERSE, LISTED, SPARE}

@@ -3,7 +3,7 @@ use mathlib.Core.Path.{refl, _∙_}
 use mathlib.Core.List.{List, _∷_}
 use Prim.Native.Nat.{ℕ}
 use native.Mathlib.Omega.{arith}
-use Rattle.rules.specs.Lean.{startLevels}
+use Rattle.rules.specs.Inside.Lean.{startLevels}
 use Rattle.columns.specs.Area.{Frame}
 use Rattle.columns.specs.Fields.{LEVEL, REVERSE}
 use Rattle.columns.proofs.Area.Frames.{frame-then, frame-more, frame-col}

@@ -5,7 +5,7 @@ use mathlib.Core.List.{List, [], _∷_, map}
 use Prim.Native.Nat.{ℕ, _+_, _*_, _<_}
 use lib.ListN.{getD, drop}
 use Rattle.rules.specs.Traversal.{levelAt, greatest}
-use Rattle.rules.proofs.Lists.Members.{Out}
+use Rattle.rules.specs.Lists.{Out}
 use Rattle.columns.specs.Area.{Room, Frame, among}
 use Rattle.columns.specs.Fields.{ORDER, LEVEL, RANKED, STARTS, ENDS, REVERSE, LISTED, STACK, PHASE}
 use Rattle.columns.specs.Lists.{list, Holds, Marks, Clear}

@@ -12,7 +12,7 @@ use ranking::level_lists;
 use stage_levels::levels;
 use stage_levels::reverse_levels;
 use stage_walk::traversal::traverse;
-ghost use Rattle.stage_walk.specs.Stands.{Some, Every};
+ghost use Rattle.rules.specs.Inside.Some.{Some, Every};
 ghost use Rattle.stage_prepare.specs.Prepared.{PrepareAt, Prepared, ForgetAt, Unlisted, Forgot};
 
 pub mod ranking;

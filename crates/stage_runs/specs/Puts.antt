@@ -9,14 +9,14 @@ use lib.ListN.{length, getD, set, take, drop}
 use Rattle.rules.specs.Cells.{rowAt}
 use Rattle.rules.specs.Traversal.{levelAt}
 use Rattle.rules.specs.Ending as rules
-use Rattle.rules.proofs.Lists.Members.{In}
+use Rattle.rules.specs.Lists.{In}
 use Rattle.columns.specs.Fields.{WAITING, CELLS, STACK, PHASE, PLACE, MARK, TAIL, ONES, PINS}
 use Rattle.columns.specs.Area.{Frame}
 use Rattle.columns.specs.Lists.{list, span, Holds, Marked, Placed}
 use Rattle.stage_runs.specs.declared.WordRule.{WordRule}
 use Rattle.stage_walk.specs.Stands.{Context}
 use Rattle.stage_tree.specs.Bits.{Standing}
-use Rattle.rules.proofs.Stage.Puts as rules-puts
+use Rattle.rules.specs.Inside.Counts as rules-counts
 use Rattle.stage_runs.specs.declared.puts.Puts.{Puts}
 use Rattle.stage_runs.specs.declared.puts.Written.{Written}
 use Rattle.stage_sparse.specs.declared.Runs.{Runs}
@@ -92,7 +92,7 @@ pub record WriteAt (C : Context) (m half k : ℕ) (rule : WordRule) (at room : �
   pub row : half ≡ rowAt (C .X .K) 1
   pub size : length (R .records) ≡ 128
   pub few : R .len ≤ 128
-  pub inside : rules-puts.Runs half (listed R)
+  pub inside : rules-counts.Runs half (listed R)
   pub ruled : C .X .rule ≡ ruleOf rule
   pub fits : at + room ≤ length words
 

@@ -6,7 +6,7 @@ use Prim.Native.Nat.{ℕ, _+_, _*_, _<_, _≤_}
 use lib.ListN.{length, getD}
 use Rattle.rules.specs.Cells.{rowAt}
 use Rattle.rules.specs.Ending.{inNeed, lastStage, written}
-use Rattle.rules.proofs.Lists.Members.{In}
+use Rattle.rules.specs.Lists.{In}
 use Rattle.columns.specs.Fields.{CELLS, STACK, PHASE, MARK, SPARE, TAIL, ONES, PINS}
 use Rattle.columns.specs.Area.{Frame}
 use Rattle.columns.specs.Lists.{Marks, Marked}

@@ -4,7 +4,7 @@ use classes::split_waiting;
 use puts::put_runs;
 use stage_sparse::sparse_runs;
 ghost use mathlib.Core.Path.{_≡_};
-ghost use Rattle.stage_walk.specs.Stands.{Some, Every};
+ghost use Rattle.rules.specs.Inside.Some.{Some, Every};
 ghost use Rattle.stage_runs.specs.Ran.{EndAt, Ran};
 ghost use Rattle.stage_runs.specs.Rule.{ruleFor, ruleBy};
 

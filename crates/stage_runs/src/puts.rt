@@ -15,7 +15,7 @@ ghost use mathlib.Core.Bool.{_||_};
 ghost use Prim.Native.Nat.{_+_, _-_, _≤_};
 ghost use lib.Dec.{leb};
 ghost use Rattle.rules.specs.Ending.{putCell, putCells, goesOn};
-ghost use Rattle.stage_walk.specs.Stands.{Some, Every};
+ghost use Rattle.rules.specs.Inside.Some.{Some, Every};
 ghost use Rattle.stage_runs.specs.Puts.{CellAt, RunAt, Put, NoteAt, Noted, RecordAt, PutRecord, WriteAt, Wrote};
 ghost use Rattle.stage_runs.specs.Rule.{ruleOf};
 

@@ -8,9 +8,8 @@ use lib.ListN.{length, getD, set}
 use Rattle.rules.specs.Cells.{empty, filled, stageSize, rowAt}
 use Rattle.rules.specs.Traversal.{levelAt}
 use Rattle.rules.specs.Placing.{place, takeBack}
-use Rattle.rules.proofs.Lists.Members.{In}
-use Rattle.rules.proofs.Tree.Fair.{Under, Fair}
-use Rattle.rules.proofs.Tree.Cone.{Tall}
+use Rattle.rules.specs.Lists.{In}
+use Rattle.rules.specs.Inside.Plans.{Under, Fair, Tall}
 use Rattle.columns.specs.Area.{Room}
 use Rattle.stage_walk.specs.Stands.{Context, Base, Levelled, Tally}
 use Rattle.stage_tree.specs.Counts.{Kept}
@@ -41,7 +40,7 @@ pub record Filled (C : Context) (m p n : ℕ) (pl u pl′ u′ : List ℕ) : Typ
 -- it holds pin n
 pub record EmptyAt (C : Context) (m h p n : ℕ) (pl u : List ℕ) : Type 0 where
   pub spot : Spot C m h p pl u
-  pub tall : Tall (C .X) (C .r) (length (C .X .g)) (C .S) pl
+  pub tall : Tall (C .X) pl
   pub is : n ≡ getD pl p 0
   pub full : n ≢ 4294967295
 
@@ -84,13 +83,13 @@ pub record Placed (C : Context) (m h w p n : ℕ) (pl u pl′ u′ : List ℕ) :
 pub record PurgeAt (C : Context) (m h w p : ℕ) (pl u : List ℕ) : Type 0 where
   pub spot : Spot C m h p pl u
   pub row : w ≡ rowAt (C .X .K) h
-  pub tall : Tall (C .X) (C .r) (length (C .X .g)) (C .S) pl
+  pub tall : Tall (C .X) pl
 
 pub record Purged (C : Context) (m h w p : ℕ) (pl u pl′ u′ : List ℕ) : Type 0 where
   pub plan : pl′ ≡ takeBack h w p pl
   pub kept : Kept m u u′
   pub tally : Tally C m pl′ u′
-  pub tall : Tall (C .X) (C .r) (length (C .X .g)) (C .S) pl′
+  pub tall : Tall (C .X) pl′
 
 -- ---- the invariants while level h is filled: under an empty cell all is empty (`fair .tidy`), a pin's count is the number of cells
 -- above level 0 that hold it (`tally`); from `tally` follows that counts never overflow (`Few`)
@@ -98,4 +97,4 @@ pub record Standing (C : Context) (m h : ℕ) (gates pl u : List ℕ) : Type 0 w
   pub base : Base C m gates u
   pub levelled : Levelled C m u
   pub tally : Tally C m pl u
-  pub fair : Fair (C .X) (C .r) (length (C .X .g)) (C .S) h pl
+  pub fair : Fair (C .X) h pl

@@ -9,7 +9,7 @@ use columns::tail_get;
 use columns::wide;
 use graph::operand;
 ghost use mathlib.Core.Path.{_≡_};
-ghost use Rattle.stage_walk.specs.Stands.{Some, Every};
+ghost use Rattle.rules.specs.Inside.Some.{Some, Every};
 ghost use Rattle.stage_tree.specs.Counts.{CountAt, UncountAt, OneMore, RoomAt, roomIn};
 ghost use Rattle.stage_tree.specs.Bits.{FillAt, Filled, EmptyAt, Emptied, PlaceAt, SplitAt, Placed, PurgeAt, Purged};
 ghost use Rattle.stage_tree.specs.Search.{SearchAt, First};

@@ -4,21 +4,18 @@ use mathlib.Core.List.{List, reverse}
 use Prim.Native.Nat.{ℕ, _<_, _≤_}
 use native.Mathlib.Omega.{arith}
 use lib.ListN.{length, length-reverse}
-use Rattle.rules.specs.Lists.{distinct, gather}
+use Rattle.rules.specs.Lists.{distinct, gather, In, Once, nobody, one}
 use Rattle.rules.specs.Cells.{empty}
 use Rattle.rules.specs.Graph.{Node}
 use Rattle.rules.specs.Traversal.{WordRule, Setting, setting, levelAt, traverse}
-use Rattle.rules.specs.Lean.{wanted, lacks}
+use Rattle.rules.specs.Inside.Lean.{wanted, lacks}
 use Rattle.rules.specs.Placing.{treeOf}
-use Rattle.rules.proofs.Lists.Members.{In}
-use Rattle.rules.proofs.Walk.Traverse.{Topo, none, more}
+use Rattle.rules.specs.Inside.Walks.{Topo, none, more, Graph, Ready, Work}
 use Rattle.rules.proofs.Walk.Levels.{length-levels}
-use Rattle.rules.proofs.Needed.Needs.{Graph, setting-sound, asked-listed}
+use Rattle.rules.proofs.Needed.Needs.{setting-sound, asked-listed}
 use Rattle.rules.proofs.Needed.Lacks.{wanted-in}
 use Rattle.rules.proofs.Fold.Whole.{mark}
-use Rattle.rules.proofs.Stage.Last.{Once, nobody, one}
 use Rattle.rules.proofs.Written.Words.{once-insertAll}
-use Rattle.rules.proofs.Stage.Depth.{Ready}
 use Rattle.rules.proofs.Build.Bounds.{depth-rank}
 use Rattle.columns.proofs.Lists.Swap.{once-few}
 use Rattle.stage_walk.specs.Stands.{Context}
@@ -30,6 +27,10 @@ unfold-empty n h = omega arith
 -- every pin is below the empty mark
 pub low-mark : (C : Context) → length (C .X .g) ≤ empty
 low-mark C = unfold-empty (length (C .X .g)) (C .small)
+
+-- what the laws of the rules ask of it
+abbrev pub work : Context → Work
+work C = record { X = C .X; r = C .r; f = length (C .X .g); S = C .S; M = C .M; small = low-mark C }
 
 -- what a stage is handed makes a context
 unfoldable pub context : (rule : WordRule) (K : ℕ) (g : List Node) (r : ℕ → ℕ) → Graph g r → 6 ≤ K → K ≤ 13 → length g ≤ 65536 → (done waiting : List ℕ) → Ready g r waiting → Context

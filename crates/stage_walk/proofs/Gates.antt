@@ -9,10 +9,10 @@ use native.Mathlib.Decide.{ℕ-discrete, decLt}
 use borrow.Author.Tests.{eq-eqb, ne-eqb}
 use lib.Dec.{eqb}
 use lib.ListN.{length, getD, List·getD-eq-default}
-use Rattle.rules.specs.Lists.{mem}
+use Rattle.rules.specs.Lists.{mem, In, Out}
 use Rattle.rules.specs.Cells.{empty}
 use Rattle.rules.specs.Graph.{Node, leaf, gate, pinOf, operands, nodeOf, graphOf, below}
-use Rattle.rules.proofs.Lists.Members.{In, Out, split, in-here, in-there, in-nil, in-getD}
+use Rattle.rules.proofs.Lists.Members.{split, in-here, in-there, in-nil, in-getD}
 use Rattle.rules.proofs.Walk.Reverse.{below-sub, in-below}
 use Rattle.columns.specs.Area.{among, Frame}
 use Rattle.columns.specs.Fields.{DONE}

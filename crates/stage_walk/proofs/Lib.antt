@@ -1,2 +1,3 @@
 pub mod Contexts
 pub mod Gates
+pub mod Ranked

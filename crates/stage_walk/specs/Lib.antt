@@ -1,3 +1,2 @@
 pub mod Stands
 pub mod Machine
-pub mod Choice

@@ -6,7 +6,7 @@ use Prim.Native.Nat.{ℕ, zero, suc, _+_, _-_, _*_, _<_, _≤_}
 use lib.ListN.{length, getD, drop}
 use Rattle.rules.specs.Graph.{Node, below}
 use Rattle.rules.specs.Traversal.{thread, visit}
-use Rattle.rules.proofs.Lists.Members.{Out}
+use Rattle.rules.specs.Lists.{Out}
 use Rattle.columns.specs.Area.{Frame}
 use Rattle.columns.specs.Fields.{ORDER, LISTED, STACK, PHASE}
 use Rattle.columns.specs.Lists.{list, Holds, Marks, Clear, Marked}

@@ -8,10 +8,9 @@ use Rattle.rules.specs.Cells.{filled, row}
 use Rattle.rules.specs.Graph.{graphOf}
 use Rattle.rules.specs.Traversal.{Setting, setting}
 use Rattle.rules.specs.Placing.{treeOf}
-use Rattle.rules.specs.Lean.{startLevels, candidates, cellsHolding}
-use Rattle.rules.proofs.Needed.Needs.{Graph, Sound}
-use Rattle.rules.proofs.Tree.Sane.{Marked}
-use Rattle.rules.proofs.Stage.Depth.{Ready}
+use Rattle.rules.specs.Inside.Lean.{startLevels, candidates, cellsHolding}
+use Rattle.rules.specs.Inside.Some.{Some, Every}
+use Rattle.rules.specs.Inside.Walks.{Graph, Sound, Marked, Ready}
 use Rattle.columns.specs.Area.{Room, col}
 use Rattle.columns.specs.Fields.{ORDER, DONE, LEVEL, WAITING, CELLS, RANKED, STARTS, ENDS, REVERSE, PLACE, ONES, PINS, LISTED, SPARE}
 use Rattle.columns.specs.Lists.{Holds, Marks, Placed, Clear}
@@ -29,22 +28,16 @@ pub record Context : Type 0 where
   pub high : X .K ≤ 13
   pub small : length (X .g) ≤ 65536
 
--- a setting can't be a ghost value, so a `requires` says that some context fits, an `ensures` and an invariant what holds of every context that fitted
-pub record Some (P : Context → Type 0) : Type 0 where
-  pub C : Context
-  pub at : P C
-
-pub record Every (P Q : Context → Type 0) : Type 0 where
-  pub all : (C : Context) → P C → Q C
-
 -- contracts that speak of a plan too: it is no argument of the code, which reads its counts
-pub record SomePlan (P : Context → List ℕ → Type 0) : Type 0 where
+pub record Planned : Type 0 where
   pub C : Context
   pub pl : List ℕ
-  pub at : P C pl
 
-pub record EveryPlan (P Q : Context → List ℕ → Type 0) : Type 0 where
-  pub all : (C : Context) (pl : List ℕ) → P C pl → Q C pl
+abbrev pub SomePlan : (Context → List ℕ → Type 0) → Type 0
+SomePlan P = Some (λ (x : Planned). P (x .C) (x .pl))
+
+abbrev pub EveryPlan : (P Q : Context → List ℕ → Type 0) → Type 0
+EveryPlan P Q = Every (λ (x : Planned). P (x .C) (x .pl)) (λ (x : Planned). Q (x .C) (x .pl))
 
 -- the area, and the lent numbers of the graph
 pub record Base (C : Context) (m : ℕ) (gates w : List ℕ) : Type 0 where

@@ -1,5 +1,4 @@
-// Rule 1's traversal over the work area, and rule 4's choice from a ranked list. A walk finds its columns empty and is linear in the
-// traversal.
+// Rule 1's traversal over the work area. A walk finds its columns empty and is linear in the traversal.
 use columns::DONE;
 use columns::is_in;
 use graph::operand;
@@ -7,9 +6,9 @@ ghost use mathlib.Core.Path.{_≡_};
 ghost use Prim.Native.Nat.{_<_};
 ghost use lib.ListN.{getD};
 ghost use Rattle.rules.specs.Graph.{below};
-ghost use Rattle.stage_walk.specs.Stands.{Some, Every, Reads};
+ghost use Rattle.rules.specs.Inside.Some.{Some, Every};
+ghost use Rattle.stage_walk.specs.Stands.{Reads};
 
-pub mod choice;
 pub mod traversal;
 
 // The k-th pin that is followed from pin p, counted from 0; m if there is none.

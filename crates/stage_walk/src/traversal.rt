@@ -15,7 +15,7 @@ ghost use Prim.Native.Nat.{_+_, _*_, _<_};
 ghost use lib.Dec.{eqb};
 ghost use lib.ListN.{length, getD, set};
 ghost use Rattle.columns.specs.Fields.{ORDER, LISTED, STACK, PHASE};
-ghost use Rattle.stage_walk.specs.Stands.{Some, Every};
+ghost use Rattle.rules.specs.Inside.Some.{Some, Every};
 ghost use Rattle.stage_walk.specs.Machine.{Going, Went, Stepped, VisitAt, Visited, TraverseAt, Traversed};
 
 // How many items the stack has, and how many pins are listed.

@@ -9,7 +9,7 @@ use lib.ListN.{length, getD, replicate, length-append, List·getD-append}
 use Rattle.rules.specs.Lists.{padded, laidOver}
 use Rattle.rules.specs.Cells.{empty, wordLimit, stageSize, rooms}
 use Rattle.rules.specs.Graph.{graphOf, pinCount, value}
-use Rattle.rules.specs.Records.{groupsOf}
+use Rattle.rules.specs.Records.{groupsOf, Ends}
 use Rattle.rules.specs.Traversal.{WordRule}
 use Rattle.rules.specs.Checks.{refusalOf}
 use Rattle.rules.specs.Build as rules
@@ -17,7 +17,6 @@ use Rattle.rules.specs.Fold.{asNumber, foldBits, foldRefusal, foldResult}
 use Rattle.rules.proofs.Stage.Refusals.{refused-some}
 use Rattle.rules.proofs.Stage.Staged.{two-step}
 use Rattle.rules.proofs.Build.Lengths.{length-fold}
-use Rattle.rules.proofs.Demand.{Ends}
 use Rattle.placer.specs.declared.Answer.{Answer}
 use Rattle.placer.specs.Answers.{told, areas, outcome}
 use Rattle.theorems.specs.Inputs.{Input, D, built}

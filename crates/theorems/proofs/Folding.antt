@@ -8,12 +8,11 @@ use native.Mathlib.Omega.{arith}
 use native.Mathlib.Nat.{le-div-iff-mul-le}
 use lib.Pow.{pow-pos}
 use lib.ListN.{length, getD, take}
-use Rattle.rules.specs.Lists.{padded}
+use Rattle.rules.specs.Lists.{padded, In}
 use Rattle.rules.specs.Cells.{filled, empty, stageSize, rooms}
 use Rattle.rules.specs.Graph.{leaf, pinCount}
 use Rattle.rules.specs.Build.{Stage, whole, stageOf, cellsOf}
 use Rattle.rules.specs.Fold.{firstLoad, asNumber, foldBits}
-use Rattle.rules.proofs.Lists.Members.{In}
 use Rattle.rules.proofs.Build.Lengths.{length-padded}
 use Rattle.rules.proofs.Demand.{Right, whole-right, whole-sizes}
 use Rattle.rules.proofs.Fold.Flat.{folded-bit, value-take, named-at}

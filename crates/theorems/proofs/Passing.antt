@@ -8,8 +8,10 @@ use borrow.Author.Tests.{leb-true}
 use Rattle.rules.specs.Cells.{empty, isHeight}
 use Rattle.rules.specs.Graph.{pinCount}
 use Rattle.rules.proofs.Lists.Members.{and-true}
-use Rattle.rules.proofs.Demand.{Valid, Ends}
-use Rattle.checks.proofs.Laws.Passed.{Passed, passed}
+use Rattle.rules.specs.Loops.{Valid}
+use Rattle.rules.specs.Records.{Ends}
+use Rattle.checks.specs.Passed.{Passed}
+use Rattle.checks.proofs.Laws.Passed.{passed}
 use Rattle.theorems.specs.Inputs.{Input, graph, groups}
 
 module _ (I : Input) where

@@ -8,14 +8,15 @@ use native.Mathlib.Nat.{suc-mul}
 use lib.ListN.{length, getD, take, List·getD-append}
 use lib.Dec.{eqb}
 use lib.Seq.{getD-append-add, take-append-le}
-use Rattle.rules.specs.Lists.{sum, padded}
+use Rattle.rules.specs.Lists.{sum, padded, In}
 use Rattle.rules.specs.Cells.{filled, empty, stageSize, rooms}
 use Rattle.rules.specs.Build.{Stage, whole, stageOf, cellsOf, wordsOf, countsOf}
 use Rattle.rules.specs.Fold.{asNumber, foldBits}
-use Rattle.rules.proofs.Lists.Members.{In, split, eqb-true, getD-in}
+use Rattle.rules.proofs.Lists.Members.{split, eqb-true, getD-in}
 use Rattle.rules.proofs.Stage.Staged.{two-step}
 use Rattle.rules.proofs.Build.Lengths.{length-padded, Sized}
-use Rattle.rules.proofs.Demand.{Ends, whole-sized}
+use Rattle.rules.specs.Records.{Ends}
+use Rattle.rules.proofs.Demand.{whole-sized}
 use Rattle.theorems.specs.Inputs.{Input, graph, groups, built, graphValue}
 use Rattle.theorems.specs.Reading.{Read}
 use Rattle.theorems.proofs.Passing.{tall, small, valid, named}

@@ -9,7 +9,8 @@ use Rattle.rules.specs.Build.{Stage, whole, stageOf}
 use Rattle.rules.specs.Fold.{firstLoad, loadFrom}
 use Rattle.rules.proofs.Fold.Whole.{above-zero}
 use Rattle.rules.proofs.Written.Writes.{Written, here, there}
-use Rattle.rules.proofs.Demand.{Ends, Right, whole-written}
+use Rattle.rules.specs.Records.{Ends}
+use Rattle.rules.proofs.Demand.{Right, whole-written}
 use Rattle.theorems.specs.Inputs.{Input, graph, groups, built}
 use Rattle.theorems.specs.Reading.{Shown}
 use Rattle.theorems.proofs.Passing.{tall, small, valid, named}

@@ -3,10 +3,9 @@ use Prim.Native.Nat.{ℕ, suc, _+_, _*_, _/_, _≤_, _<_}
 use mathlib.Core.Path.{_≡_}
 use mathlib.Core.List.{List}
 use lib.ListN.{length, getD, take}
-use Rattle.rules.specs.Lists.{sum}
+use Rattle.rules.specs.Lists.{sum, In}
 use Rattle.rules.specs.Cells.{empty, width, stageSize, rooms}
 use Rattle.rules.specs.Build.{Stage, stageOf}
-use Rattle.rules.proofs.Lists.Members.{In}
 
 -- a position above level 0 that holds pin q
 pub record Held (K : ℕ) (plan : List ℕ) (q : ℕ) : Type 0 where

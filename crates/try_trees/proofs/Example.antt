@@ -9,22 +9,22 @@ use lib.Pow.{pow-mono}
 use borrow.Author.Tests.{le-leb}
 use lib.ListN.{length, getD, set, replicate, length-set, length-replicate, getD-replicate}
 use lib.Seq.{getD-set-other}
-use Rattle.rules.specs.Lists.{mem}
+use Rattle.rules.specs.Lists.{mem, nobody, one}
 use Rattle.rules.specs.Cells.{empty, isHeight, stageSize, rowAt}
 use Rattle.rules.specs.Graph.{Node, leaf, gate, pinOf, operands, nodeOf, graphOf, below}
 use Rattle.rules.specs.Traversal.{neededRuns, thread, visit, traverse, over, levels, setting, levelAt}
-use Rattle.rules.specs.Lean.{blank}
+use Rattle.rules.specs.Inside.Lean.{blank}
 use Rattle.rules.proofs.Lists.Members.{in-cons, in-nil}
-use Rattle.rules.proofs.Needed.Needs.{Graph, setting-sound}
+use Rattle.rules.specs.Inside.Walks.{Graph, Ready, rank}
+use Rattle.rules.proofs.Needed.Needs.{setting-sound}
 use Rattle.rules.proofs.Fold.Whole.{mark}
-use Rattle.rules.proofs.Stage.Last.{nobody, one}
-use Rattle.rules.proofs.Stage.Depth.{Ready}
-use Rattle.rules.proofs.Loops.{rank}
-use Rattle.rules.proofs.Demand.{Valid, graph, graph-few, lower-valid}
+use Rattle.rules.specs.Loops.{Valid}
+use Rattle.rules.proofs.Demand.{graph, graph-few, lower-valid}
 use Rattle.cells.specs.Answers.{orZero, hasLevel}
 use Rattle.cells.proofs.Heights.{orZero-true, tall, level-tested}
 use Rattle.columns.specs.Area.{Room, col}
-use Rattle.stage_walk.specs.Stands.{Context, Some, Base, Levelled}
+use Rattle.rules.specs.Inside.Some.{Some}
+use Rattle.stage_walk.specs.Stands.{Context, Base, Levelled}
 use Rattle.stage_tree.proofs.Bits.Standing.{first-stands}
 use Rattle.try_trees.specs.Example.{gates, begun, Trial, SizedFor}
 
@@ -125,7 +125,7 @@ begins {K} Z w pl u r e d =
     let t = tall K refl (Z .height) in
     let l : hasLevel K 2 ≡ true = level-tested K 2 (Z .height) ∙ le-leb 2 K (omega (arith, t .low)) in
     record {
-      C = example K (t .low) (t .high);
+      it = example K (t .low) (t .high);
       at = trial K (t .low) (t .high) w pl u (r ∙ rw l (orZero-true (rowAt K 2))) (e ∙ rw (Z .stage) refl) (d ∙ rw (Z .work) refl);
     }
 

@@ -3,7 +3,7 @@ use Prim.Native.Nat.{ℕ, _*_, _^_, _≤_, _<_}
 use mathlib.Core.List.{List}
 use native.Mathlib.Omega.{arith}
 use Rattle.rules.proofs.Stage.Staged.{two-step}
-use Rattle.rules.proofs.Tree.Invariant.{Placeable}
+use Rattle.rules.specs.Inside.Plans.{Placeable}
 use Rattle.columns.specs.Area.{Room}
 use Rattle.columns.proofs.Area.Frames.{frame-room}
 use Rattle.stage_walk.specs.Stands.{Context}

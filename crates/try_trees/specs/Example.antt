@@ -6,7 +6,7 @@ use mathlib.Core.List.{List, [], _∷_, _++_}
 use lib.ListN.{length, set, replicate}
 use Rattle.rules.specs.Cells.{isHeight, stageSize, rowAt}
 use Rattle.rules.specs.Traversal.{levelAt}
-use Rattle.rules.proofs.Lists.Members.{In}
+use Rattle.rules.specs.Lists.{In}
 use Rattle.stage_walk.specs.Stands.{Context}
 use Rattle.stage_tree.specs.Bits.{Standing}
 

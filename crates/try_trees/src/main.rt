@@ -17,7 +17,7 @@ ghost use mathlib.Core.Path.{_≡_};
 ghost use Prim.Native.Nat.{_≤_};
 ghost use lib.ListN.{length};
 ghost use Rattle.columns.specs.Area.{Room};
-ghost use Rattle.stage_walk.specs.Stands.{Some};
+ghost use Rattle.rules.specs.Inside.Some.{Some};
 ghost use Rattle.try_trees.specs.Example.{Trial, Same, SizedFor, begun};
 
 const EMPTY: u32 = 4294967295;

@@ -12,7 +12,7 @@ use Rattle.rules.specs.Lists.{every}
 use Rattle.rules.specs.Graph.{Node, leaf, gate, pinOf, graphOf, pinCount}
 use Rattle.rules.specs.Checks.{nodesRight, graphRight, loopsRight, givenRight}
 use Rattle.rules.proofs.Lists.Members.{split, true-false, and-true}
-use Rattle.rules.proofs.Demand.{Valid}
+use Rattle.rules.specs.Loops.{Valid}
 
 every-at : (f : ℕ → Bool) (xs : List ℕ) → every f xs ≡ true → (i : ℕ) → i < length xs → f (getD xs i 0) ≡ true
 unfolding every

@@ -9,8 +9,8 @@ use lib.Seq.{take-nil}
 use Rattle.rules.specs.Lists.{insert, count, laidOver}
 use Rattle.rules.specs.Graph.{graphOf}
 use Rattle.rules.specs.Traversal.{neededRuns, setting}
-use Rattle.rules.specs.Lean.{cellsHolding}
-use Rattle.rules.proofs.Loops.{rank}
+use Rattle.rules.specs.Inside.Lean.{cellsHolding}
+use Rattle.rules.specs.Inside.Walks.{rank}
 use Rattle.rules.proofs.Demand.{graph, graph-few}
 use Rattle.columns.specs.Area.{Room, Frame, among}
 use Rattle.columns.specs.Fields.{DONE, LEVEL, WAITING, CELLS, STARTS, ENDS, REVERSE, LISTED, PLACE, MARK, SPARE}
@@ -22,7 +22,8 @@ use Rattle.columns.proofs.Lists.Entries.{holds-below}
 use Rattle.columns.proofs.Lists.Marks.{marks-none, marks-insert, marks-frame}
 use Rattle.columns.proofs.Lists.Clears.{clear-frame}
 use Rattle.columns.proofs.Lists.Places.{placed-none, wait-at}
-use Rattle.stage_walk.specs.Stands.{Some, Context}
+use Rattle.rules.specs.Inside.Some.{Some}
+use Rattle.stage_walk.specs.Stands.{Context}
 use Rattle.stage_needed.specs.Needed.{NeededAt, Needed}
 use Rattle.stage_prepare.specs.Prepared.{Prepared, ForgetAt}
 use Rattle.stage_walk.proofs.Contexts.{context}
@@ -89,7 +90,7 @@ module _ {m : ℕ} {gates given waiting w : List ℕ} (A : StartAt m gates given
     pub started : (w′ : List ℕ) (n : ℕ) → Waiting m u w′ n → Some (λ C. Started C m n gates w′)
     unfolding context setting
     started w′ n W = record {
-      C = C;
+      it = C;
       at = record {
         prepare = record {
           begun = record {

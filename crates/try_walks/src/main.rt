@@ -17,7 +17,7 @@ use stage_prepare::forget;
 use stage_prepare::prepare;
 ghost use Prim.Native.Nat.{_+_, _*_, _≤_};
 ghost use lib.ListN.{length};
-ghost use Rattle.stage_walk.specs.Stands.{Some};
+ghost use Rattle.rules.specs.Inside.Some.{Some};
 ghost use Rattle.try_walks.specs.Shown.{ShowAt, GiveAt, Given, WaitAt, Waiting, StartAt, Started, PrintAt};
 
 // The first n numbers of column f.

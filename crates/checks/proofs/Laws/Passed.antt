@@ -8,29 +8,22 @@ use native.Mathlib.Omega.{arith}
 use lib.Dec.{leb, ltb, eqb}
 use lib.ListN.{length, getD, drop}
 use borrow.Author.Tests.{leb-true, ltb-true, eqb-true}
-use Rattle.rules.specs.Lists.{every, Found, nothing, found}
+use Rattle.checks.specs.Passed.{Passed, Below}
+use Rattle.rules.specs.Lists.{every, Found, nothing, found, In}
 use Rattle.rules.specs.Cells.{isHeight}
 use Rattle.rules.specs.Graph.{Node, leaf, gate, pinOf, operands, graphOf, pinCount, below}
-use Rattle.rules.specs.Loops.{loopPin, isNothing, loopless}
-use Rattle.rules.specs.Records.{Group, Groups?, unreadable, groups, sizeOf, groupAt, wholeAt, andThen, read, endpointsOf, allNamed, groupsOf}
+use Rattle.rules.specs.Loops.{loopPin, isNothing, loopless, Loop, Valid}
+use Rattle.rules.specs.Records.{Group, Groups?, unreadable, groups, sizeOf, groupAt, wholeAt, andThen, read, endpointsOf, allNamed, groupsOf, Ends, first, later}
 use Rattle.rules.specs.Checks.{nodesRight, graphRight, loopsRight, pinFound, groupsRight, recordsRight, givenRight, refusalOf}
-use Rattle.rules.proofs.Lists.Members.{In, every-in, split, and-true, true-false, in-getD, in-cons, in-nil}
+use Rattle.rules.proofs.Lists.Members.{every-in, split, and-true, true-false, in-getD, in-cons, in-nil}
 use Rattle.rules.proofs.Walk.Reverse.{below-in}
-use Rattle.rules.proofs.Loops.{Loop, Answered, none, least, loop-answered}
-use Rattle.rules.proofs.Demand.{Valid, Ends, first, later}
+use Rattle.rules.proofs.Loops.{Answered, none, least, loop-answered}
 use Rattle.records.specs.Values.{sizeAt, endpointAt}
 use Rattle.graph.proofs.Gates.{graph-length}
 use Rattle.graph_loops.specs.Marks.{Inside}
 use Rattle.graph_loops.proofs.Laws.{loop-user}
 use Rattle.records.proofs.Reading.{read-step, read-end, read-cut, size-endpoints, endpoint-is}
 use Rattle.checks.proofs.Laws.Refusing.{refusal-1, refusal-2, refusal-3, refusal-23, refusal-4, refusal-5}
-
--- a gate's pins are above 0 and below n
-pub record Below (n a b : ℕ) : Type 0 where
-  pub first-above : 0 < pinOf a
-  pub first-below : pinOf a < n
-  pub second-above : 0 < pinOf b
-  pub second-below : pinOf b < n
 
 pub gate-below : (n p a b : ℕ) (g : List Node) → nodesRight n p (gate a b ∷ g) ≡ true → Below n a b × (nodesRight n (suc p) g ≡ true)
 unfolding nodesRight
@@ -67,20 +60,6 @@ all-read n (groups gs) e = (gs, refl, e)
 pub groups-of : (xs : List ℕ) (gs : List Group) → read xs ≡ groups gs → groupsOf xs ≡ gs
 unfolding groupsOf
 groups-of xs gs e = rw (e, groupsOf)
-
-pub record Passed (K : ℕ) (sized : Bool) (gates given records : List ℕ) : Type 0 where
-  pub height : isHeight K ≡ true
-  pub areas : sized ≡ true
-  pub even : length gates ≡ 2 * pinCount gates
-  pub some : 1 ≤ pinCount gates
-  pub few : pinCount gates ≤ 65536
-  pub pins : length (graphOf gates) ≡ pinCount gates
-  pub below : (p a b : ℕ) → getD (graphOf gates) p leaf ≡ gate a b → Below (pinCount gates) a b
-  pub valid : Valid (graphOf gates)
-  pub short : length records ≤ 65536
-  pub readable : read records ≡ groups (groupsOf records)
-  pub named : (q : ℕ) → Ends q (groupsOf records) → q < pinCount gates
-  pub given-named : (q : ℕ) → In q given → q < pinCount gates
 
 graph-passed : (gates : List ℕ) → graphRight gates ≡ true → (length gates ≡ 2 * pinCount gates) × (1 ≤ pinCount gates) × (pinCount gates ≤ 65536) × (nodesRight (pinCount gates) 0 (graphOf gates) ≡ true)
 unfolding graphRight pinCount

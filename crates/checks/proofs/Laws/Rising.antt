@@ -19,7 +19,8 @@ use Rattle.checks.specs.Values.{graphSized, Rising}
 use Rattle.checks.proofs.Laws.Gates.{nodes-end}
 use Rattle.checks.proofs.Laws.Turns.{NodesLeft, nodes-begin, nodes-more, pins-are}
 use Rattle.checks.proofs.Laws.Refusing.{size-right}
-use Rattle.checks.proofs.Laws.Passed.{Below, gate-below, gates-below, operand-above, inside}
+use Rattle.checks.specs.Passed.{Below}
+use Rattle.checks.proofs.Laws.Passed.{gate-below, gates-below, operand-above, inside}
 
 -- what is right among p pins is so among more
 wider : (n p : ℕ) (x : Node) → p ≤ n → nodesRight p p (x ∷ []) ≡ true → nodesRight n p (x ∷ []) ≡ true

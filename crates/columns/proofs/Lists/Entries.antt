@@ -9,8 +9,8 @@ use native.Mathlib.Numerals.{add-one}
 use native.Mathlib.Decide.{ℕ-discrete}
 use lib.ListN.{length, getD, set, take, drop, length-set, length-append, drop-of-length-le, List·getD-append}
 use lib.Seq.{drop-cons, length-take-le, take-suc-set, take-set-lt, take-set-le, take-take, getD-take, getD-set-same, getD-set-other, getD-at}
-use Rattle.rules.proofs.Lists.Members.{In, Out, in-getD, getD-in, in-cons}
-use Rattle.rules.proofs.Stage.Last.{Once, one}
+use Rattle.rules.specs.Lists.{In, Out, Once, one}
+use Rattle.rules.proofs.Lists.Members.{in-getD, getD-in, in-cons}
 use Rattle.columns.specs.Area.{col, Frame, among}
 use Rattle.columns.specs.Lists.{list, span, Holds}
 use Rattle.columns.proofs.Area.Columns.{length-col, getD-col, col-set, col-set-other}

@@ -8,9 +8,8 @@ use native.Mathlib.Omega.{arith}
 use native.Mathlib.Decide.{ℕ-discrete}
 use lib.Dec.{eqb}
 use lib.ListN.{length, getD, set, length-set, replicate, length-replicate, getD-replicate}
-use Rattle.rules.specs.Lists.{mem, insert}
-use Rattle.rules.proofs.Lists.Members.{In, Out, in-insert}
-use Rattle.rules.proofs.Stage.Last.{nobody}
+use Rattle.rules.specs.Lists.{mem, insert, In, Out, nobody}
+use Rattle.rules.proofs.Lists.Members.{in-insert}
 use Rattle.rules.proofs.Written.Words.{once-insert}
 use Rattle.columns.specs.Area.{put, Room, Frame, among}
 use Rattle.columns.specs.Lists.{list, bit, Marks, Marked, EnlistAt, Enlisted}

@@ -10,9 +10,9 @@ use borrow.Author.Tests.{eq-eqb, ne-eqb}
 use lib.Dec.{eqb}
 use lib.ListN.{length, getD, set, take, length-set, List·getD-append}
 use lib.Seq.{getD-at, getD-take, getD-set-same, getD-set-other}
-use Rattle.rules.specs.Lists.{mem, insert, swapOut}
-use Rattle.rules.proofs.Lists.Members.{In, Out, split, true-false, in-getD, getD-in, in-insert, in-insert-old}
-use Rattle.rules.proofs.Stage.Last.{nobody, once-swapOut}
+use Rattle.rules.specs.Lists.{mem, insert, swapOut, In, Out, nobody}
+use Rattle.rules.proofs.Lists.Members.{split, true-false, in-getD, getD-in, in-insert, in-insert-old}
+use Rattle.rules.proofs.Stage.Last.{once-swapOut}
 use Rattle.rules.proofs.Written.Words.{once-insert, swap-keeps}
 use Rattle.columns.specs.Fields.{WAITING, PLACE}
 use Rattle.columns.specs.Area.{Room, Frame, among}

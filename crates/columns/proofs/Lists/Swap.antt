@@ -8,10 +8,10 @@ use native.Mathlib.Decide.{ℕ-discrete}
 use borrow.Author.Tests.{ne-eqb}
 use lib.ListN.{length, getD, set, take, length-set, length-map}
 use lib.Seq.{ext-getD, length-take-le, getD-take, getD-set-same, getD-set-other}
-use Rattle.rules.specs.Lists.{mem, insert, upTo, init, lastOf, swapOut}
-use Rattle.rules.proofs.Lists.Members.{In, Out, split, true-false, eqb-same, in-here, in-there, in-getD, in-insert-old, insert-in}
+use Rattle.rules.specs.Lists.{mem, insert, upTo, init, lastOf, swapOut, In, Out, Once, nobody, one}
+use Rattle.rules.proofs.Lists.Members.{split, true-false, eqb-same, in-here, in-there, in-getD, in-insert-old, insert-in}
 use Rattle.rules.proofs.Lists.Lengths.{length-upTo}
-use Rattle.rules.proofs.Stage.Last.{Once, nobody, one, once-length, swapped}
+use Rattle.rules.proofs.Stage.Last.{once-length, swapped}
 
 pub once-place : {xs : List ℕ} → Once xs → (i j : ℕ) → i < length xs → j < length xs → getD xs i 0 ≡ getD xs j 0 → i ≡ j
 once-place nobody i j hi hj e = absurd (omega arith)

@@ -20,7 +20,8 @@ use Rattle.cells.proofs.Heights.{tall}
 use Rattle.checks.specs.declared.Verdict.{Verdict}
 use Rattle.checks.specs.Values.{Says}
 use Rattle.checks.proofs.Laws.Refusing.{refusal-1, refusal-2, refusal-3, refusal-23, refusal-5, refusal-0, height-first, pin-none}
-use Rattle.checks.proofs.Laws.Passed.{Passed, passed}
+use Rattle.checks.specs.Passed.{Passed}
+use Rattle.checks.proofs.Laws.Passed.{passed}
 use Rattle.fold.specs.declared.Answer.{Answer}
 use Rattle.fold.specs.declared.Answer.the-variants.{Folded, NoHeight, WrongSize, WrongGraph, Looped, WrongGiven}
 use Rattle.fold.specs.Answers.{numberFor, pinFor, Told}

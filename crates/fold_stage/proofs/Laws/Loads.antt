@@ -9,11 +9,11 @@ use lib.Dec.{eqb, ltb}
 use lib.ListN.{length, getD, set, take, drop, length-set}
 use lib.Seq.{getD-set-same, getD-set-other, getD-take, drop-cons, drop-length}
 use borrow.Author.Tests.{lt-ltb, le-ltb, eq-eqb, ne-eqb, ltb-true}
-use Rattle.rules.specs.Lists.{found, mem}
+use Rattle.rules.specs.Lists.{found, mem, In, Out}
 use Rattle.rules.specs.Cells.{empty}
 use Rattle.rules.specs.Graph.{leaf, graphOf, pinCount, ownBit}
 use Rattle.rules.specs.Fold.{asNumber, isLeaf, firstLoad, firstAt, lowest}
-use Rattle.rules.proofs.Lists.Members.{In, Out, split, in-cons, in-nil, in-getD, out-head, out-tail, eqb-true, eqb-false}
+use Rattle.rules.proofs.Lists.Members.{split, in-cons, in-nil, in-getD, out-head, out-tail, eqb-true, eqb-false}
 use Rattle.fold_stage.specs.Bits.{StageAt}
 use Rattle.fold_stage.specs.Loads.{held, seen, AreaAt, Loads, Spread, FirstAt, GivenAt, LeafLoads, GivenLoads, FirstLoads}
 use Rattle.fold_stage.proofs.Laws.Cells.{getD-inside}

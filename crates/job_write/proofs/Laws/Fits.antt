@@ -19,7 +19,7 @@ use Rattle.rules.proofs.Bools.{and-none}
 use Rattle.rules.proofs.Job.Kinds.{not-groups}
 use Rattle.rules.proofs.Job.Fields.{fitsIn}
 use Rattle.rules.proofs.Job.Records.{plain-at}
-use Rattle.rules.proofs.Job.Files.{Held}
+use Rattle.rules.specs.Inside.Files.{Held}
 use Rattle.records.specs.Values.{sizeAt}
 use Rattle.records.proofs.Reading.{every-step, every-end, read-step, read-end, read-cut, size-none, Stands, stands}
 use Rattle.job_write.specs.Fits.{counted, behind, RecordIs, Fitting, Judged}

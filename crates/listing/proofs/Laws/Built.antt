@@ -17,6 +17,8 @@ use Rattle.rules.specs.Traversal.{WordRule}
 use Rattle.rules.specs.Ending.{stage}
 use Rattle.rules.specs.Build.{Stage, Answer, refusal, whole, stages, build, cellsOf, wordsOf, countsOf, reply, refuse, stagesOf, Areas, areasAfter}
 use Rattle.rules.specs.Listing.{answerText}
+use Rattle.rules.specs.Loops.{Valid}
+use Rattle.rules.specs.Records as spec-records
 use Rattle.rules.proofs.Demand as demand
 use Rattle.rules.proofs.Stage.Refusals.{refused-some}
 use Rattle.rules.proofs.Build.Lengths.{Sized, length-padded}
@@ -75,7 +77,7 @@ module _ (K : ℕ) (ss : List Stage) (a : Areas) (need : ℕ) (each-sized : Size
       rw (p, q, w)
 
 -- what is printed of a build's answer and areas is the answer's text
-module _ (rule : WordRule) (K : ℕ) (g : List Node) (ok : demand.Valid g) (height : isHeight K ≡ true) (tall : 6 ≤ K) (small : length g ≤ empty) (given : List ℕ) (groups : List Group) (named : (q : ℕ) → demand.Ends q groups → q < length g)
+module _ (rule : WordRule) (K : ℕ) (g : List Node) (ok : Valid g) (height : isHeight K ≡ true) (tall : 6 ≤ K) (small : length g ≤ empty) (given : List ℕ) (groups : List Group) (named : (q : ℕ) → spec-records.Ends q groups → q < length g)
     (a : Areas) (need : ℕ) (out : List ℕ) where
   abbrev b : Answer
   b = build rule K g given groups (rooms K (length (a .plan)))

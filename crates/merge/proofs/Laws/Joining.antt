@@ -9,13 +9,13 @@ use lib.Dec.{ltb}
 use lib.ListN.{length, getD, drop}
 use lib.Seq.{getD-take, getD-drop}
 use borrow.Author.Tests.{ltb-true}
-use Rattle.rules.specs.Lists.{every}
+use Rattle.rules.specs.Lists.{every, In}
 use Rattle.rules.specs.Cells.{rooms}
 use Rattle.rules.specs.Graph.{graphOf}
 use Rattle.rules.specs.Records.{groupsOf}
 use Rattle.rules.specs.Traversal.{WordRule}
 use Rattle.rules.specs.Merge.{Common, Part, Result, MergeAnswer, turned, merged, merge, merging, original, mostStages, occupied, begun, splitBy, addPart, mergeAnswerOf, mergeReply, refuseMerge, groupListAfter}
-use Rattle.rules.proofs.Lists.Members.{In, split, in-cons, in-nil, true-false}
+use Rattle.rules.proofs.Lists.Members.{split, in-cons, in-nil, true-false}
 use Rattle.merge_unions.specs.Unions.{Places}
 use Rattle.merge_slots.specs.Slots.{gathered, listed, own, full}
 use Rattle.merge_slots.specs.Moves.{Begins}

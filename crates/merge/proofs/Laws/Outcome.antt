@@ -22,7 +22,8 @@ use Rattle.cells.specs.Answers.{orZero}
 use Rattle.cells.proofs.Heights.{orZero-true}
 use Rattle.checks.specs.declared.Verdict.{Verdict}
 use Rattle.checks.specs.Values.{Says}
-use Rattle.checks.proofs.Laws.Passed.{Passed, passed}
+use Rattle.checks.specs.Passed.{Passed}
+use Rattle.checks.proofs.Laws.Passed.{passed}
 use Rattle.placer.proofs.Laws.Laying.{padded-none}
 use Rattle.merge_checks.specs.Values.{groupList, areas}
 use Rattle.merge.specs.declared.Answer.{Answer}

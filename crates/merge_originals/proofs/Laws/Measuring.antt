@@ -10,12 +10,13 @@ use lib.ListN.{length, take, drop}
 use borrow.Author.Tests.{leb-true}
 use Rattle.rules.specs.Cells.{isHeight, empty, wordLimit, rooms}
 use Rattle.rules.specs.Graph.{graphOf}
-use Rattle.rules.specs.Records.{Group, groupsOf}
+use Rattle.rules.specs.Records.{Group, groupsOf, Ends, first, later}
 use Rattle.rules.specs.Traversal.{WordRule}
 use Rattle.rules.specs.Build as rules
 use Rattle.rules.specs.Merge.{Common, named, builtOf}
-use Rattle.rules.proofs.Lists.Members.{In, in-nil, in-here, in-there, and-true}
-use Rattle.rules.proofs.Demand.{Ends, first, later, build-few}
+use Rattle.rules.specs.Lists.{In}
+use Rattle.rules.proofs.Lists.Members.{in-nil, in-here, in-there, and-true}
+use Rattle.rules.proofs.Demand.{build-few}
 use Rattle.rules.proofs.Build.Bounds.{Few}
 use Rattle.placer.specs.declared.Answer.{Answer}
 use Rattle.placer.specs.Answers.{told}

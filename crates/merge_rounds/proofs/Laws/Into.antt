@@ -10,10 +10,11 @@ use Rattle.rules.specs.Traversal.{WordRule}
 use Rattle.rules.specs.Merge.{Common, Part, rankOf, Round, none, some, without, Merged, rounds}
 use Rattle.rules.proofs.Lists.Members.{true-false}
 use Rattle.merge_slots.specs.Slots.{listed, but, own, free, full, held}
-use Rattle.merge_slots.proofs.Laws.Accepts.{Ready}
+use Rattle.merge_slots.specs.Rounds.{Ready}
 use Rattle.merge_slots.proofs.Laws.Best.{but-same, but-other}
 use Rattle.merge_slots.proofs.Laws.Ranks.{without-slot}
-use Rattle.merge_slots.proofs.Laws.Rounds.{Bars, bars-same, bars-none, goes, round-begins, rounds-none, rounds-some, rounds-end, listed-same}
+use Rattle.merge_slots.specs.Rounds.{Bars, goes}
+use Rattle.merge_slots.proofs.Laws.Rounds.{bars-same, bars-none, round-begins, rounds-none, rounds-some, rounds-end, listed-same}
 use Rattle.merge_unions.specs.Unions.{Shares}
 use Rattle.merge_layout.specs.Layout.{owned}
 use Rattle.merge_trials.specs.Ranks.{AllAt, AllRanked}

@@ -21,8 +21,10 @@ use Rattle.merge_slots.specs.Slots.{best, but, own, free, ahead, held, full}
 use Rattle.merge_slots.specs.Moves.{seen, BestAt, Picked}
 use Rattle.merge_slots.proofs.Laws.Best.{Among, best-is}
 use Rattle.merge_slots.proofs.Laws.Stores.{barred}
-use Rattle.merge_slots.proofs.Laws.Accepts.{Ready, keys-agree, taken-full, taken-part, other-part}
-use Rattle.merge_slots.proofs.Laws.Rounds.{Bars, bars-more, bars-same, goes, round-none, round-ends, round-takes, round-bars}
+use Rattle.merge_slots.specs.Rounds.{Ready}
+use Rattle.merge_slots.proofs.Laws.Accepts.{keys-agree, taken-full, taken-part, other-part}
+use Rattle.merge_slots.specs.Rounds.{Bars, goes}
+use Rattle.merge_slots.proofs.Laws.Rounds.{bars-more, bars-same, round-none, round-ends, round-takes, round-bars}
 use Rattle.merge_layout.specs.Layout.{owned}
 use Rattle.merge_trials.specs.Ranks.{Stands}
 use Rattle.merge_trials.specs.Trials.{TryAt, Tried}

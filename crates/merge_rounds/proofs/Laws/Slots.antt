@@ -11,7 +11,8 @@ use Rattle.rules.specs.Traversal.{WordRule}
 use Rattle.rules.specs.Merge.{Common, merging, addPart, Result}
 use Rattle.merge_slots.specs.Slots.{gathered, listed, full}
 use Rattle.merge_slots.specs.Moves.{Opened}
-use Rattle.merge_slots.proofs.Laws.Rounds.{Merging, merging-none, merging-empty, merging-full, merging-done}
+use Rattle.merge_slots.specs.Rounds.{Merging}
+use Rattle.merge_slots.proofs.Laws.Rounds.{merging-none, merging-empty, merging-full, merging-done}
 use Rattle.merge_layout.specs.Layout.{owned}
 use Rattle.merge_trials.specs.Ranks.{Stays}
 use Rattle.merge_layout.proofs.Laws.Owned.{lent, back-owned}

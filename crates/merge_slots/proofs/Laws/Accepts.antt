@@ -9,6 +9,7 @@ use lib.Dec.{eqb, ltb}
 use lib.ListN.{length, getD, set, length-set}
 use lib.Seq.{getD-set-same, getD-set-other}
 use borrow.Author.Tests.{eq-eqb, ne-eqb, eqb-true, eqb-false}
+use Rattle.merge_slots.specs.Rounds.{Ready}
 use Rattle.rules.specs.Build.{Answer, reply}
 use Rattle.rules.specs.Merge.{Common, Part, Rank, before, rankOf, partOf, splitBy}
 use Rattle.rules.proofs.Lists.Members.{split}
@@ -18,10 +19,6 @@ use Rattle.merge_slots.proofs.Laws.Best.{but-same, but-other}
 use Rattle.merge_slots.proofs.Laws.Splits.{length-split}
 
 -- ---- keys
-
-pub record Ready (J : Common) (p : Part) (P : ℕ → Part) (n : ℕ) (o : List ℕ) (s : ℕ) : Type 0 where
-  pub grows : own 4 n o s ≡ rankOf J p (P s) .grows
-  pub union : own 5 n o s ≡ rankOf J p (P s) .union
 
 same-order : (o : ℕ → ℕ) (u : ℕ → ℕ) (a b : Rank) (s t : ℕ) → o s ≡ a .grows → u s ≡ a .union → s ≡ a .part .nr → o t ≡ b .grows → u t ≡ b .union → t ≡ b .part .nr
     → (ltb (o t) (o s) || eqb (o t) (o s) && (ltb (u t) (u s) || eqb (u t) (u s) && ltb t s)) ≡ before b a

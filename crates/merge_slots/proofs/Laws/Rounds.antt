@@ -6,6 +6,7 @@ use mathlib.Core.Path.{_≡_, refl, sym, ap, _∙_}
 use native.Mathlib.Omega.{arith}
 use lib.Dec.{eqb}
 use lib.ListN.{take}
+use Rattle.merge_slots.specs.Rounds.{Bars, goes, Merging, onto, after}
 use Rattle.rules.specs.Lists.{mem, nothing, found}
 use Rattle.rules.specs.Merge.{Common, Part, Rank, before, addRank, rankOf, ranking, accepted, builtOf, partOf, Round, none, some, attempt, without, addPart, Merged, rounds, Result, merging}
 use Rattle.rules.proofs.Bools.{and-none, and-right}
@@ -15,10 +16,6 @@ use Rattle.merge_slots.proofs.Laws.Best.{Among, gathered-in, gathered-o
 use Rattle.merge_slots.proofs.Laws.Ranks.{ranking-slots, attempt-none, attempt-some, attempt-next}
 
 -- ---- along the ranks
-
--- of the k slots from i on those are open that are full and not barred
-pub record Bars (full opens : ℕ → Bool) (k i : ℕ) (barred : List ℕ) : Type 0 where
-  pub is : (s : ℕ) → i ≤ s → s < i + k → opens s ≡ full s && not (mem s barred)
 
 bar-more : (s b : ℕ) (barred : List ℕ) → not (mem s (b ∷ barred)) ≡ not (mem s barred) && not (eqb s b)
 unfolding mem
@@ -39,33 +36,29 @@ pub bars-none : {full opens : ℕ → Bool} {k i : ℕ} → ((s : ℕ) → i ≤
 unfolding mem
 bars-none {full} e = record { is = λ s l u. e s l u ∙ sym (and-right (full s)) }
 
--- what a round gives from here on, with r ranks left
 module _ (J : Common) (p : Part) (P : ℕ → Part) (k i : ℕ) where
-  pub goes : (ℕ → Bool) → ℕ → List ℕ → ℕ → Round
-  goes opens r barred t = attempt J p (take r (gathered addRank (λ s. rankOf J p (P s)) opens k i)) barred t
-
   module _ (numbered : (s : ℕ) → P s .nr ≡ s) {full opens : ℕ → Bool} {barred : List ℕ} (B : Bars full opens k i barred) where
-    pub round-begins : (r t : ℕ) → attempt J p (take r (ranking J p barred (listed P full k i))) barred t ≡ goes opens r barred t
+    pub round-begins : (r t : ℕ) → attempt J p (take r (ranking J p barred (listed P full k i))) barred t ≡ goes J p P k i opens r barred t
     unfolding goes
     round-begins r t = rw (ranking-slots P numbered J p barred full k i) (ap (λ (l : List Rank). attempt J p (take r l) barred t) (gathered-same addRank (λ s. rankOf J p (P s)) (λ s. rankOf J p (P s)) (λ s. full s && not (mem s barred)) opens k i (λ s l u. sym (B .is s l u)) (λ s l u e. refl)))
 
   module _ (less : ℕ → ℕ → Bool) (opens : ℕ → Bool) where
-    pub round-none : (r : ℕ) (barred : List ℕ) (t : ℕ) → best less opens k i ≡ nothing → goes opens r barred t ≡ none barred t
+    pub round-none : (r : ℕ) (barred : List ℕ) (t : ℕ) → best less opens k i ≡ nothing → goes J p P k i opens r barred t ≡ none barred t
     unfolding goes
     round-none r barred t e = attempt-none J p P less opens k i r barred t e
 
-    pub round-ends : (barred : List ℕ) (t : ℕ) → goes opens 0 barred t ≡ none barred t
+    pub round-ends : (barred : List ℕ) (t : ℕ) → goes J p P k i opens 0 barred t ≡ none barred t
     unfolding goes attempt
     round-ends barred t = refl
 
     module _ (agrees : (s t : ℕ) → s < t → Among opens k i s → Among opens k i t → less t s ≡ before (rankOf J p (P t)) (rankOf J p (P s))) (b : ℕ) (e : best less opens k i ≡ found b) (r : ℕ) (barred : List ℕ) (t : ℕ) where
       pub round-takes : accepted (J .cap) (builtOf J (p .has ++ P b .has)) ≡ true
-          → goes opens (suc r) barred t ≡ some (P b .nr) (partOf (p .nr) (p .has ++ P b .has) (rankOf J p (P b) .union) (builtOf J (p .has ++ P b .has))) barred (suc t)
+          → goes J p P k i opens (suc r) barred t ≡ some (P b .nr) (partOf (p .nr) (p .has ++ P b .has) (rankOf J p (P b) .union) (builtOf J (p .has ++ P b .has))) barred (suc t)
       unfolding goes
       round-takes a = attempt-some J p P less opens k i agrees b e r barred t a
 
       pub round-bars : P b .nr ≡ b → accepted (J .cap) (builtOf J (p .has ++ P b .has)) ≡ false → (opens′ : ℕ → Bool) → ((s : ℕ) → i ≤ s → s < i + k → opens′ s ≡ but b opens s)
-          → goes opens (suc r) barred t ≡ goes opens′ r (b ∷ barred) (suc t)
+          → goes J p P k i opens (suc r) barred t ≡ goes J p P k i opens′ r (b ∷ barred) (suc t)
       unfolding goes
       round-bars n a opens′ o =
           attempt-next J p P less opens k i agrees b e r barred t a
@@ -88,11 +81,6 @@ module _ (J : Common) (f : ℕ) (p : Part) (later : List Part) (barred : List �
   rounds-end = refl
 
 -- ---- slot after slot
-
--- some partitions put before sorted ones
-unfoldable pub onto : List Part → List Part → List Part
-onto [] rs = rs
-onto (p ∷ ps) rs = addPart p (onto ps rs)
 
 onto-append : (ps qs rs : List Part) → onto (ps ++ qs) rs ≡ onto ps (onto qs rs)
 unfolding onto
@@ -135,9 +123,6 @@ onto-gathered P f (suc k) i = split (f i)
     (λ t. ap (λ (l : List Part). onto l []) (listed-one P f k i t) ∙ ap (addPart (P i)) (onto-gathered P f k (suc i)) ∙ sym (gathered-in addPart P f k i t))
     (λ t. ap (λ (l : List Part). onto l []) (listed-no P f k i t) ∙ onto-gathered P f k (suc i) ∙ sym (gathered-out addPart P f k i t))
 
-unfoldable pub after : List Part → Result → Result
-after ps r = record { parts = onto ps (r .parts); trials = r .trials }
-
 merging-next : (J : Common) (f : ℕ) (p : Part) (ps : List Part) (t : ℕ) (m : Merged) → rounds J (suc f) p ps [] t ≡ m → merging J (suc f) (p ∷ ps) t ≡ after (m .part ∷ []) (merging J f (m .later) (m .trials))
 unfolding merging after onto
 merging-next J f p ps t m e = rw e refl
@@ -150,12 +135,6 @@ nothing-merges J P f i (suc a) t = refl
 after-after : (ps qs : List Part) (r : Result) → after ps (after qs r) ≡ after (ps ++ qs) r
 unfolding after
 after-after ps qs r = rw (onto-append ps qs (r .parts)) refl
-
--- the slots before i are merged, with `left` rounds for what is left
-pub record Merging (J : Common) (n : ℕ) (whole : Result) (P : ℕ → Part) (f : ℕ → Bool) (i left t : ℕ) : Type 0 where
-  pub upto : i ≤ n
-  pub enough : n ≤ i + left
-  pub same : whole ≡ after (listed P f i 0) (merging J left (listed P f (n - i) i) t)
 
 pub merging-none : {J : Common} {n : ℕ} {P : ℕ → Part} {f : ℕ → Bool} → Merging J n (merging J n (listed P f n 0) 0) P f 0 n 0
 unfolding listed gathered after onto

@@ -12,7 +12,7 @@ use Rattle.rules.proofs.Lists.Members.{true-false}
 use Rattle.merge_unions.specs.Unions.{Shares, Measured}
 use Rattle.merge_slots.specs.Slots.{own, free, held}
 use Rattle.merge_slots.specs.Stores.{KeyAt, Ranked}
-use Rattle.merge_slots.proofs.Laws.Accepts.{Ready}
+use Rattle.merge_slots.specs.Rounds.{Ready}
 use Rattle.merge_slots.proofs.Laws.Bars.{same-or}
 use Rattle.merge_layout.specs.Layout.{owned}
 use Rattle.merge_trials.specs.Ranks.{groupsAt, Stands, Stays, RankAt, SlotRanked, AllAt, AllRanked}

@@ -8,10 +8,10 @@ use lib.Dec.{ltb}
 use lib.ListN.{length, take, drop, length-drop, take-append-drop}
 use lib.Seq.{length-take-le, drop-drop, take-take}
 use borrow.Author.Tests.{ltb-true}
-use Rattle.rules.specs.Lists.{sum}
+use Rattle.rules.specs.Lists.{sum, In}
 use Rattle.rules.specs.Records.{groupsOf}
 use Rattle.rules.specs.Merge.{splitBy}
-use Rattle.rules.proofs.Lists.Members.{In, every-in, in-nil, in-append-left, in-append-right}
+use Rattle.rules.proofs.Lists.Members.{every-in, in-nil, in-append-left, in-append-right}
 use Rattle.placer_start.specs.Opening.{Idle}
 use Rattle.rules.specs.Traversal.{WordRule}
 use Rattle.placer.specs.declared.Answer.{Answer}

@@ -7,9 +7,9 @@ use native.Mathlib.Omega.{arith}
 use native.Mathlib.Numerals.{add-one}
 use lib.ListN.{length, getD, take, drop, take-append-drop}
 use lib.Seq.{take-suc, take-all}
-use Rattle.rules.specs.Records.{Group, output, groupAt, wholeAt, endpointsOf, groupsOf, waitingOf}
-use Rattle.rules.proofs.Lists.Members.{In, in-getD}
-use Rattle.rules.proofs.Demand.{Ends, first, later}
+use Rattle.rules.specs.Records.{Group, output, groupAt, wholeAt, endpointsOf, groupsOf, waitingOf, Ends, first, later}
+use Rattle.rules.specs.Lists.{In}
+use Rattle.rules.proofs.Lists.Members.{in-getD}
 use Rattle.merge_unions.specs.Names.{picked, Names}
 use Rattle.merge_unions.proofs.Laws.Table.{located-kept}
 

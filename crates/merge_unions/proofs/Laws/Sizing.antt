@@ -10,12 +10,12 @@ use native.Mathlib.Omega.{arith}
 use borrow.Author.Tests.{ne-eqb}
 use lib.ListN.{length, getD, set, drop, length-reverse, drop-of-length-le}
 use lib.Seq.{drop-cons}
-use Rattle.rules.specs.Lists.{mem}
+use Rattle.rules.specs.Lists.{mem, Out}
 use Rattle.rules.specs.Graph.{graphOf, pinCount}
 use Rattle.rules.specs.Records.{Group, groupsOf, waitingOf}
 use Rattle.rules.specs.Traversal.{neededRuns, Setting, setting, traverse}
 use Rattle.rules.specs.Merge.{Common, sizeFor}
-use Rattle.rules.proofs.Lists.Members.{Out, eqb-same, in-getD}
+use Rattle.rules.proofs.Lists.Members.{eqb-same, in-getD}
 use Rattle.columns.specs.Fields.{ORDER, DONE, WAITING, LISTED, STACK, PHASE, PLACE}
 use Rattle.columns.specs.Area.{Room, Frame, among}
 use Rattle.columns.specs.Lists.{list, bit, Holds, Marks, Clear}

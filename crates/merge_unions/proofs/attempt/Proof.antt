@@ -41,7 +41,7 @@ wide-requires : tie.Need-wide-requires
 wide-requires c κs = search needs
 
 stages-requires : tie.Need-stages-requires
-stages-requires c κs = let A = c .before .before .before .before .before .before .before .before .before .before .before .before .before .before .before .before .before .before .before .before .before .before .pre in let v = c .before .before .before .before .before .before .before .before .before .before .before .before .before .before .before .before .before .before .before .before .before .before .args .rule in let B = c .before .before .before .before .before .before .before .before .before .before .before .begin-both .ensures in let e = c .before .before .before .before .before .before .before .opening .given .1 in record { C = course A refl B v e; at = try-stages A refl B v e (c .wide .ensures) (c .before .before .before .before .before .level-one-size .ensures) refl refl (omega (arith, c .before .before .before .before .before .before .before .before .before .before .before .before .before .before .before .before .before .before .before .before .before .before .good .1 .1 .1 .1 .1 .1 .1 .1 .1 .0 .1)) }
+stages-requires c κs = let A = c .before .before .before .before .before .before .before .before .before .before .before .before .before .before .before .before .before .before .before .before .before .before .pre in let v = c .before .before .before .before .before .before .before .before .before .before .before .before .before .before .before .before .before .before .before .before .before .before .args .rule in let B = c .before .before .before .before .before .before .before .before .before .before .before .begin-both .ensures in let e = c .before .before .before .before .before .before .before .opening .given .1 in record { it = course A refl B v e; at = try-stages A refl B v e (c .wide .ensures) (c .before .before .before .before .before .level-one-size .ensures) refl refl (omega (arith, c .before .before .before .before .before .before .before .before .before .before .before .before .before .before .before .before .before .before .before .before .before .before .good .1 .1 .1 .1 .1 .1 .1 .1 .1 .0 .1)) }
 
 same-length : tie.Need-same-length
 same-length c = search needs

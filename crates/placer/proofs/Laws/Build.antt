@@ -18,7 +18,7 @@ use Rattle.rules.specs.Build as rules
 use Rattle.rules.proofs.Lists.Members.{split, and-true}
 use Rattle.cells.specs.Answers.{orZero}
 use Rattle.cells.proofs.Heights.{orZero-true}
-use Rattle.checks.proofs.Laws.Passed.{Passed}
+use Rattle.checks.specs.Passed.{Passed}
 use Rattle.placer_start.specs.declared.Opening.{Opening}
 use Rattle.placer_start.specs.declared.Opening.the-variants.{Over, Ready}
 use Rattle.placer_start.specs.declared.reservation.Reservation.the-variants as reservation

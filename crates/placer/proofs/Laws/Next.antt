@@ -13,8 +13,8 @@ use Rattle.rules.specs.Placing.{tree}
 use Rattle.rules.specs.Traversal.{setting}
 use Rattle.rules.specs.Ending.{refused, stage, oneStage}
 use Rattle.rules.specs.Build as rules
-use Rattle.rules.specs.Lean.{blank}
-use Rattle.rules.proofs.Loops.{rank}
+use Rattle.rules.specs.Inside.Lean.{blank}
+use Rattle.rules.specs.Inside.Walks.{rank}
 use Rattle.rules.proofs.Demand.{graph}
 use Rattle.rules.proofs.Stage.Depth.{still-ready}
 use Rattle.rules.proofs.Build.Lengths.{length-padded}

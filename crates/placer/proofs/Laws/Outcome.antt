@@ -21,7 +21,8 @@ use Rattle.cells.specs.Answers.{orZero}
 use Rattle.cells.proofs.Heights.{orZero-true}
 use Rattle.checks.specs.declared.Verdict.{Verdict}
 use Rattle.checks.specs.Values.{Says}
-use Rattle.checks.proofs.Laws.Passed.{Passed, passed}
+use Rattle.checks.specs.Passed.{Passed}
+use Rattle.checks.proofs.Laws.Passed.{passed}
 use Rattle.placer.specs.declared.Answer.{Answer}
 use Rattle.placer.specs.Answers.{told, areas, outcome}
 use Rattle.placer.specs.Build.{PlaceAt, Placed}

@@ -28,7 +28,7 @@ wide-requires : tie.Need-wide-requires
 wide-requires c κs = search needs
 
 stages-requires : tie.Need-stages-requires
-stages-requires c κs = record { C = course (c .before .before .before .before .before .before .before .before .before .before .before .before .before .before .before .before .before .before .before .before .before .pre .at .passed) (try-blank (c .before .before .before .before .before .before .before .before .before .before .before .before .before .before .before .before .before .before .before .before .before .pre)) (c .before .before .before .before .before .before .before .before .before .before .before .before .before .pin-count .ensures) refl (c .before .before .before .before .before .before .before .before .before .before .begin .ensures) (c .before .before .before .before .before .before .before .before .before .before .before .before .before .before .before .before .before .before .before .before .before .args .rule) (c .before .before .before .before .before .before .opening .given .1) (c .before .before .before .before .before .before .before .before .before .before .begin .ensures .first _ _ (c .before .before .before .before .before .before .opening .given .1)); at = built-stages (c .before .before .before .before .before .before .before .before .before .before .before .before .before .before .before .before .before .before .before .before .before .pre .at .passed) (try-blank (c .before .before .before .before .before .before .before .before .before .before .before .before .before .before .before .before .before .before .before .before .before .pre)) (c .before .before .before .before .before .before .before .before .before .before .before .before .before .pin-count .ensures) refl (c .before .before .before .before .before .before .before .before .before .before .begin .ensures) (c .before .before .before .before .before .before .before .before .before .before .before .before .before .before .before .before .before .before .before .before .before .args .rule) (c .before .before .before .before .before .before .opening .given .1) (c .before .before .before .before .before .before .before .before .before .before .begin .ensures .first _ _ (c .before .before .before .before .before .before .opening .given .1)) (c .wide .ensures) (c .before .before .before .before .before .before .before .before .before .before .before .before .level-one-size .ensures) refl refl (omega (arith, c .before .before .before .before .before .before .before .before .before .before .before .before .before .before .before .before .before .before .before .before .before .good .1 .1 .1 .1 .1 .1 .1 .0 .1)) }
+stages-requires c κs = record { it = course (c .before .before .before .before .before .before .before .before .before .before .before .before .before .before .before .before .before .before .before .before .before .pre .at .passed) (try-blank (c .before .before .before .before .before .before .before .before .before .before .before .before .before .before .before .before .before .before .before .before .before .pre)) (c .before .before .before .before .before .before .before .before .before .before .before .before .before .pin-count .ensures) refl (c .before .before .before .before .before .before .before .before .before .before .begin .ensures) (c .before .before .before .before .before .before .before .before .before .before .before .before .before .before .before .before .before .before .before .before .before .args .rule) (c .before .before .before .before .before .before .opening .given .1) (c .before .before .before .before .before .before .before .before .before .before .begin .ensures .first _ _ (c .before .before .before .before .before .before .opening .given .1)); at = built-stages (c .before .before .before .before .before .before .before .before .before .before .before .before .before .before .before .before .before .before .before .before .before .pre .at .passed) (try-blank (c .before .before .before .before .before .before .before .before .before .before .before .before .before .before .before .before .before .before .before .before .before .pre)) (c .before .before .before .before .before .before .before .before .before .before .before .before .before .pin-count .ensures) refl (c .before .before .before .before .before .before .before .before .before .before .begin .ensures) (c .before .before .before .before .before .before .before .before .before .before .before .before .before .before .before .before .before .before .before .before .before .args .rule) (c .before .before .before .before .before .before .opening .given .1) (c .before .before .before .before .before .before .before .before .before .before .begin .ensures .first _ _ (c .before .before .before .before .before .before .opening .given .1)) (c .wide .ensures) (c .before .before .before .before .before .before .before .before .before .before .before .before .level-one-size .ensures) refl refl (omega (arith, c .before .before .before .before .before .before .before .before .before .before .before .before .before .before .before .before .before .before .before .before .before .good .1 .1 .1 .1 .1 .1 .1 .0 .1)) }
 
 same-length : tie.Need-same-length
 same-length c = search needs

@@ -6,11 +6,12 @@ use Prim.Native.Nat.{ℕ, suc, _+_, _-_, _*_, _<_, _≤_}
 use native.Mathlib.Omega.{arith}
 use lib.ListN.{length, getD, set, length-set}
 use lib.Seq.{getD-set-same, getD-set-other}
-use Rattle.rules.specs.Lists.{mem}
-use Rattle.rules.proofs.Lists.Members.{In, in-here, in-append-right}
+use Rattle.rules.specs.Lists.{mem, In}
+use Rattle.rules.proofs.Lists.Members.{in-here, in-append-right}
 use Rattle.columns.specs.Fields.{RANKED, RECORDS}
 use Rattle.columns.proofs.Area.Frames.{frame-none, frame-then, frame-set, frame-set-tail}
-use Rattle.placer_start.specs.Reservation.{Some, Every, codeOf, nextOf, Chain, none, link, ChainAt, Knows, Touched, LinkAt, Linked}
+use Rattle.rules.specs.Inside.Some.{Some, Every}
+use Rattle.placer_start.specs.Reservation.{codeOf, nextOf, Chain, none, link, ChainAt, Knows, Touched, LinkAt, Linked}
 use Rattle.placer_start.proofs.Laws.Given.{mem-snoc}
 
 -- ---- walking

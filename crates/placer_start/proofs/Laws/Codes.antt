@@ -8,10 +8,11 @@ use native.Mathlib.Decide.{ℕ-discrete}
 use borrow.Author.Tests.{ne-eqb}
 use lib.Dec.{eqb}
 use lib.ListN.{length, getD}
-use Rattle.rules.specs.Lists.{mem, insert}
+use Rattle.rules.specs.Lists.{mem, insert, In, Out}
 use Rattle.rules.specs.Reservation.{Activation, codesAt}
-use Rattle.rules.proofs.Lists.Members.{In, Out, split, eqb-false, in-cons, in-nil, in-insert, in-insert-old, in-distinct, distinct-in}
-use Rattle.rules.proofs.Reservation.Counting.{codes-same, codes-other, codes-none, pinsMet, repeats-first, repeats-old, repeats-more}
+use Rattle.rules.proofs.Lists.Members.{split, eqb-false, in-cons, in-nil, in-insert, in-insert-old, in-distinct, distinct-in}
+use Rattle.rules.specs.Inside.Counts.{pinsMet}
+use Rattle.rules.proofs.Reservation.Counting.{codes-same, codes-other, codes-none, repeats-first, repeats-old, repeats-more}
 use Rattle.columns.specs.Fields.{RANKED}
 use Rattle.columns.proofs.Lists.Swap.{insert-old, insert-new}
 use Rattle.placer_start.specs.Reservation.{Chain, ChainAt, LinkAt, Linked, Chains, CodeAt, Coded}

@@ -13,8 +13,10 @@ use Rattle.rules.specs.Cells.{wordLimit}
 use Rattle.rules.specs.Graph.{pinOf, inversionOf}
 use Rattle.rules.specs.Records.{Group, output, flipFlop, memory, stagedPin, sizeOf, groupAt, endpointsOf}
 use Rattle.rules.specs.Reservation.{Activation, activations, duplicates, memories, reserved, reservable}
-use Rattle.rules.proofs.Lists.Members.{In, in-here, in-there}
-use Rattle.rules.proofs.Reservation.Counting.{repeats, memories-snoc, duplicates-repeats, activations-append}
+use Rattle.rules.specs.Lists.{In}
+use Rattle.rules.proofs.Lists.Members.{in-here, in-there}
+use Rattle.rules.specs.Inside.Counts.{repeats}
+use Rattle.rules.proofs.Reservation.Counting.{memories-snoc, duplicates-repeats, activations-append}
 use Rattle.records.specs.declared.Kind.{Kind}
 use Rattle.records.specs.declared.Kind.the-variants as kinds
 use Rattle.records.specs.declared.Kind.the-variants.{Output, FlipFlop, StagedPin, Unknown}

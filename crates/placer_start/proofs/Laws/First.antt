@@ -15,10 +15,11 @@ use Rattle.rules.specs.Reservation.{reserved, reservable}
 use Rattle.rules.specs.Checks.{planSized, workSize, areasSized, refusalOf}
 use Rattle.rules.specs.Traversal.{neededRuns, setting}
 use Rattle.rules.proofs.Lists.Members.{split, and-true}
-use Rattle.rules.proofs.Loops.{rank}
+use Rattle.rules.specs.Inside.Walks.{rank}
 use Rattle.rules.proofs.Demand.{graph, graph-few}
-use Rattle.rules.proofs.Stage.Depth as depth
-use Rattle.checks.proofs.Laws.Passed.{Passed, passed}
+use Rattle.rules.specs.Inside.Walks as spec-walks
+use Rattle.checks.specs.Passed.{Passed}
+use Rattle.checks.proofs.Laws.Passed.{passed}
 use Rattle.columns.proofs.Area.Lent.{length-laid, at-laid}
 use Rattle.columns.proofs.Lists.Entries.{holds-below}
 use Rattle.stage_walk.specs.Stands.{Context, Begun}
@@ -64,7 +65,7 @@ checked-begin K gates given records plan words counts v e ew =
 -- ---- after it
 
 module _ {K : ℕ} {sized : Bool} {gates given records : List ℕ} (P : Passed K sized gates given records) {n : ℕ} {gs : List Group} {w : List ℕ} (F : First (pinCount gates) n given gs w) where
-  pub first-ready : depth.Ready (graphOf gates) (rank (graphOf gates)) (waitingOf gs [])
+  pub first-ready : spec-walks.Ready (graphOf gates) (rank (graphOf gates)) (waitingOf gs [])
   first-ready = record { once = F .waiting .once; bounded = λ x i. let h : x < length (graphOf gates) = rw (P .pins) (holds-below (F .waiting .held) x i) in (h, graph-few (graphOf gates) (P .valid) x h) }
 
   pub first-low : 6 ≤ K

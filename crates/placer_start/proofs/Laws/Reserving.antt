@@ -9,11 +9,10 @@ use lib.Dec.{leb, ltb}
 use lib.ListN.{length, drop}
 use lib.Pow.{pow-pos}
 use Rattle.rules.specs.Cells.{wordLimit}
-use Rattle.rules.specs.Records.{Group, groups, read, groupAt, groupsOf}
+use Rattle.rules.specs.Records.{Group, groups, read, groupAt, groupsOf, Ends, first}
 use Rattle.rules.specs.Lists.{insertAll, distinct}
 use Rattle.rules.specs.Reservation.{activations, codesAt, extraAt, duplicates, memories, reserved, reservable}
 use Rattle.rules.proofs.Lists.Members.{split, and-true, true-false}
-use Rattle.rules.proofs.Demand.{Ends, first}
 use Rattle.rules.proofs.Reservation.Counting.{duplicates-grow, memories-grow}
 use Rattle.records.specs.Values.{sizeAt}
 use Rattle.records.proofs.Reading.{Stands, standing}
@@ -21,7 +20,8 @@ use Rattle.checks.proofs.Laws.Passed.{Next, read-next, read-last, rest-below}
 use Rattle.columns.proofs.Area.Frames.{frame-room}
 use Rattle.placer_start.specs.declared.reservation.Count.{Count}
 use Rattle.placer_start.specs.declared.reservation.Reservation.the-variants.{Over, Words}
-use Rattle.placer_start.specs.Reservation.{Some, Every, none, Touched, Chains, Counts, CountAt, Counted, Few, SetAside, Judged, reservationOf, ReserveAt, Reserved}
+use Rattle.rules.specs.Inside.Some.{Some, Every}
+use Rattle.placer_start.specs.Reservation.{none, Touched, Chains, Counts, CountAt, Counted, Few, SetAside, Judged, reservationOf, ReserveAt, Reserved}
 use Rattle.placer_start.proofs.Laws.Chains.{touched-none, touched-then}
 
 -- ---- what the rules say of more records

@@ -9,9 +9,8 @@ use lib.ListN.{length, getD, drop, drop-of-length-le}
 use lib.Seq.{drop-cons}
 use borrow.Author.Tests.{lt-ltb}
 use Rattle.rules.specs.Lists.{keep, insertAll}
-use Rattle.rules.specs.Records.{Group, groups, read, groupAt, endpointsOf, waitingOf, groupsOf}
+use Rattle.rules.specs.Records.{Group, groups, read, groupAt, endpointsOf, waitingOf, groupsOf, Ends}
 use Rattle.rules.proofs.Lists.Members.{split}
-use Rattle.rules.proofs.Demand.{Ends}
 use Rattle.records.specs.Values.{sizeAt, endpointAt}
 use Rattle.records.proofs.Reading.{Stands, standing, size-endpoints, endpoint-is}
 use Rattle.checks.proofs.Laws.Passed.{Next, read-next, read-last, endpoint-below, rest-below}

@@ -19,7 +19,8 @@ use Rattle.rules.specs.Build as rules
 use Rattle.rules.specs.Listing.{answerText, jobText}
 use Rattle.rules.proofs.Lists.Members.{split, and-true}
 use Rattle.cells.specs.Answers.{orZero}
-use Rattle.checks.proofs.Laws.Passed.{Passed, passed}
+use Rattle.checks.specs.Passed.{Passed}
+use Rattle.checks.proofs.Laws.Passed.{passed}
 use Rattle.placer.specs.declared.Answer.{Answer}
 use Rattle.placer.specs.Answers.{told, areas, outcome}
 use Rattle.listing.specs.Listing.{written, answered}

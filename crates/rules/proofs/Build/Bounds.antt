@@ -15,11 +15,11 @@ use Rattle.rules.specs.Ending.{oneStage}
 use Rattle.rules.specs.Depth.{depth, remaining}
 use Rattle.rules.specs.Build.{Stage, Answer, refusal, whole, stages, build, reply, refuse}
 use Rattle.rules.proofs.Lists.Members.{in-here, split, eqb-true, eqb-false}
-use Rattle.rules.proofs.Walk.Traverse.{Ranked}
+use Rattle.rules.specs.Inside.Walks.{Ranked, Graph, Ready}
 use Rattle.rules.proofs.Walk.Levels.{over-least}
-use Rattle.rules.proofs.Needed.Needs.{Graph, falls-always}
+use Rattle.rules.proofs.Needed.Needs.{falls-always}
 use Rattle.rules.proofs.Stage.Staged.{remaining-least}
-use Rattle.rules.proofs.Stage.Depth.{Ready, still-ready, falls, ends, stage-cases}
+use Rattle.rules.proofs.Stage.Depth.{still-ready, falls, ends, stage-cases}
 use Rattle.rules.proofs.Written.Writes.{more-whole}
 use Rattle.rules.proofs.Build.Lengths.{sizes}
 

@@ -18,11 +18,12 @@ use Rattle.rules.specs.Build.{Stage, refusal, whole, stages, cellsOf, wo
 use Rattle.rules.specs.Fold.{bitAt, asNumber, stageBits, foldFrom, loadFrom}
 use Rattle.rules.proofs.Lists.Members.{split, and-true}
 use Rattle.rules.proofs.Lists.Lengths.{length-upTo}
-use Rattle.rules.proofs.Needed.Needs.{Graph, Sound, setting-sound}
+use Rattle.rules.specs.Inside.Walks.{Graph, Sound, Ready}
+use Rattle.rules.proofs.Needed.Needs.{setting-sound}
 use Rattle.rules.proofs.Needed.Lacks.{leb-true}
 use Rattle.rules.proofs.Tree.Invariant.{final}
 use Rattle.rules.proofs.Stage.Staged.{the-end, not-refused}
-use Rattle.rules.proofs.Stage.Depth.{Ready, still-ready, stage-cases}
+use Rattle.rules.proofs.Stage.Depth.{still-ready, stage-cases}
 use Rattle.rules.proofs.Written.Writes.{more-whole}
 
 -- ---- a stage

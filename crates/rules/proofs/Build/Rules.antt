@@ -6,7 +6,7 @@ use mathlib.Core.Bool.{true, not}
 use mathlib.Core.List.{List, [], _∷_, _++_}
 use native.Mathlib.Omega.{arith}
 use lib.ListN.{length}
-use Rattle.rules.specs.Lists.{mem}
+use Rattle.rules.specs.Lists.{mem, In}
 use Rattle.rules.specs.Cells.{empty, wordLimit}
 use Rattle.rules.specs.Graph.{Node, below}
 use Rattle.rules.specs.Records.{Group, waitingOf}
@@ -16,11 +16,12 @@ use Rattle.rules.specs.Placing.{treeOf, neededOf, filledPlan}
 use Rattle.rules.specs.Ending.{inNeed, lastStage, stage, oneStage}
 use Rattle.rules.specs.Depth.{depth, remaining}
 use Rattle.rules.specs.Build.{Stage, Answer, refusal, whole, more, stages, build}
-use Rattle.rules.proofs.Lists.Members.{In, split, and-true, keep-in, in-append-left}
-use Rattle.rules.proofs.Needed.Needs.{Graph, setting-sound}
+use Rattle.rules.proofs.Lists.Members.{split, and-true, keep-in, in-append-left}
+use Rattle.rules.specs.Inside.Walks.{Graph, Ready}
+use Rattle.rules.proofs.Needed.Needs.{setting-sound}
 use Rattle.rules.proofs.Needed.Lower.{Served}
 use Rattle.rules.proofs.Stage.Staged.{Ended, served, the-end, waits-less, remaining-least, half-height, two-step, length-filledPlan}
-use Rattle.rules.proofs.Stage.Depth.{Ready, stage-cases, still-ready, ends}
+use Rattle.rules.proofs.Stage.Depth.{stage-cases, still-ready, ends}
 use Rattle.rules.proofs.Stage.Under.{same-plan, last-cases, Kept, kept}
 use Rattle.rules.proofs.Written.Writes.{more-whole}
 

@@ -7,17 +7,18 @@ use native.Mathlib.Omega.{arith}
 use native.Mathlib.Nat.{suc-mul}
 use lib.ListN.{length, getD, take, drop, List·getD-append}
 use lib.Seq.{getD-take, getD-append-add, take-append-seam, drop-append-seam}
-use Rattle.rules.specs.Lists.{mem}
+use Rattle.rules.specs.Lists.{mem, In}
 use Rattle.rules.specs.Cells.{filled, empty}
 use Rattle.rules.specs.Graph.{Node, leaf, pinOf, ownBit, value}
 use Rattle.rules.specs.Placing.{tree}
 use Rattle.rules.specs.Build.{Stage, stageOf, cellsOf}
 use Rattle.rules.specs.Fold.{asNumber, stageBits, foldFrom, loadFrom}
-use Rattle.rules.proofs.Lists.Members.{In, split}
+use Rattle.rules.proofs.Lists.Members.{split}
 use Rattle.rules.proofs.Build.Lengths.{length-stageBits}
 use Rattle.rules.proofs.Fold.Bits.{getD-stageBits}
 use Rattle.rules.proofs.Tree.Held.{node}
-use Rattle.rules.proofs.Demand.{Valid, Right}
+use Rattle.rules.specs.Loops.{Valid}
+use Rattle.rules.proofs.Demand.{Right}
 
 -- ---- numbers behind the pins' bits count for nothing
 

@@ -9,19 +9,19 @@ use native.Mathlib.Nat.{pow-succ'}
 use lib.Dec.{eqb}
 use lib.ListN.{length, getD, take, drop, length-take, length-drop}
 use lib.Seq.{getD-take, getD-drop}
-use Rattle.rules.specs.Lists.{mem, nothing, found}
+use Rattle.rules.specs.Lists.{mem, nothing, found, In, Out, Sub}
 use Rattle.rules.specs.Cells.{filled, empty, levelOf, rowStart}
 use Rattle.rules.specs.Graph.{Node, leaf, gate, pinOf, operands, ownBit, literalBit, gateBit, value}
 use Rattle.rules.specs.Traversal.{Setting, levelAt}
 use Rattle.rules.specs.Fold.{cellBit, bitAt, firstAt, lowest, loadFrom}
 use Rattle.rules.proofs.Cells.Positions.{position-placed}
-use Rattle.rules.proofs.Lists.Members.{In, Out, split, eqb-true, eqb-false, eqb-same, in-here, in-there}
-use Rattle.rules.proofs.Walk.Reverse.{Sub, out-sub, in-below}
-use Rattle.rules.proofs.Needed.Needs.{Sound, Graph}
+use Rattle.rules.proofs.Lists.Members.{split, eqb-true, eqb-false, eqb-same, in-here, in-there}
+use Rattle.rules.proofs.Walk.Reverse.{out-sub, in-below}
+use Rattle.rules.specs.Inside.Walks.{Sound, Graph, Marked}
 use Rattle.rules.proofs.Tree.Loads.{Fine, rows}
 use Rattle.rules.proofs.Stage.Puts.{cell}
 use Rattle.rules.proofs.Stage.Staged.{two-step}
-use Rattle.rules.proofs.Tree.Sane.{Step, copies, splits, Sane, Marked}
+use Rattle.rules.specs.Inside.Plans.{Step, copies, splits, Sane}
 use Rattle.rules.proofs.Tree.Held.{node}
 
 -- ---- where a pin stands first

@@ -8,7 +8,7 @@ use native.Mathlib.Omega.{arith}
 use native.Mathlib.Nat.{one-le-pow}
 use lib.Dec.{eqb}
 use lib.ListN.{length, getD}
-use Rattle.rules.specs.Lists.{mem}
+use Rattle.rules.specs.Lists.{mem, In, Sub}
 use Rattle.rules.specs.Cells.{filled, empty, rowAt}
 use Rattle.rules.specs.Graph.{Node, leaf, gate, pinOf, operands, below, value}
 use Rattle.rules.specs.Traversal.{WordRule, Setting, setting, levelAt}
@@ -16,17 +16,18 @@ use Rattle.rules.specs.Placing.{place}
 use Rattle.rules.specs.Ending.{stage, oneStage}
 use Rattle.rules.specs.Depth.{depth}
 use Rattle.rules.specs.Fold.{bitAt, loadFrom}
-use Rattle.rules.proofs.Lists.Members.{In, split, true-false, eqb-true, in-here, in-there}
+use Rattle.rules.proofs.Lists.Members.{split, true-false, eqb-true, in-here, in-there}
 use Rattle.rules.proofs.Walk.Levels.{over-above}
-use Rattle.rules.proofs.Walk.Reverse.{Sub, in-below}
-use Rattle.rules.proofs.Needed.Needs.{Sound, Graph, setting-sound}
+use Rattle.rules.proofs.Walk.Reverse.{in-below}
+use Rattle.rules.specs.Inside.Walks.{Sound, Graph, Ready, Marked}
+use Rattle.rules.proofs.Needed.Needs.{setting-sound}
 use Rattle.rules.proofs.Tree.Held.{tree-in, node}
 use Rattle.rules.proofs.Stage.Staged.{Ended, the-end}
-use Rattle.rules.proofs.Stage.Depth.{Ready}
 use Rattle.rules.proofs.Stage.Flat.{blank-replicate}
-use Rattle.rules.proofs.Tree.Invariant.{Placeable, final}
+use Rattle.rules.specs.Inside.Plans.{Placeable, Sane}
+use Rattle.rules.proofs.Tree.Invariant.{final}
 use Rattle.rules.proofs.Tree.Loads.{Fine, fine-kept, fine-first, level-is}
-use Rattle.rules.proofs.Tree.Sane.{Sane, Marked, sane-kept, sane-first, frame}
+use Rattle.rules.proofs.Tree.Sane.{sane-kept, sane-first, frame}
 use Rattle.rules.proofs.Fold.Folds.{position-good, load-good}
 
 pub mark : (g : List Node) (r : ℕ → ℕ) → Graph g r → length g ≤ empty → (n a b : ℕ) → getD g n leaf ≡ gate a b → (filled (pinOf a) ≡ true) × (filled (pinOf b) ≡ true)

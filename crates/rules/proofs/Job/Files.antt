@@ -7,6 +7,7 @@ use native.Mathlib.Omega.{arith}
 use lib.Dec.{leb, ltb, eqb}
 use lib.ListN.{length, take, drop, replicate, length-append, length-drop, length-replicate}
 use borrow.Author.Tests.{lt-ltb, ltb-true, le-leb, leb-true, eq-eqb, eqb-true}
+use Rattle.rules.specs.Inside.Files.{Held}
 use Rattle.rules.specs.Lists.{every, gather}
 use Rattle.rules.specs.Cells.{empty}
 use Rattle.rules.specs.Graph.{Node, leaf, gate, nodeOf, graphOf, pinCount}
@@ -91,13 +92,6 @@ turns b0 e =
     })
 
 -- ---- a job whose numbers fit
-
-pub record Held (J : Job) (gs : List Group) : Type 0 where
-  pub read : read (J .records) ≡ groups gs
-  pub gates : gatesFit (J .gates) ≡ true
-  pub few : ltb (length (J .given)) (2 ^ 16) ≡ true
-  pub given : every pinFits (J .given) ≡ true
-  pub groups : groupsFit gs ≡ true
 
 record Sizes (J : Job) : Type 0 where
   height : J .height ≤ 10

@@ -8,21 +8,20 @@ use native.Mathlib.Omega.{arith}
 use native.Mathlib.Nat.{mul-le-mul-left, one-le-pow}
 use lib.ListN.{length}
 use borrow.Author.Tests.{ltb-true}
-use Rattle.rules.specs.Lists.{mem, count, nothing, found}
+use Rattle.rules.specs.Lists.{mem, count, nothing, found, In, Sub}
 use Rattle.rules.specs.Cells.{empty, filled, row, rowAt}
 use Rattle.rules.specs.Traversal.{Setting, levelAt, greatest}
 use Rattle.rules.specs.Placing.{treeOf, neededOf, roomy, cellAt, pinAt, placed, fill, filledPlan}
 use Rattle.rules.specs.Ending.{inNeed, untouched}
-use Rattle.rules.specs.Lean.{blank, candidates, firstFree, wanted, roomFor, recount, Filling, sweep, lean, leanPlan, lowWaiting, highWaiting}
-use Rattle.rules.proofs.Lists.Members.{In, split, in-here, in-append, in-append-right, in-cons, in-nil}
-use Rattle.rules.proofs.Walk.Reverse.{Sub}
-use Rattle.rules.proofs.Needed.Needs.{Sound}
+use Rattle.rules.specs.Inside.Lean.{blank, candidates, firstFree, wanted, roomFor, recount, Filling, sweep, lean, leanPlan, lowWaiting, highWaiting}
+use Rattle.rules.proofs.Lists.Members.{split, in-here, in-append, in-append-right, in-cons, in-nil}
+use Rattle.rules.specs.Inside.Walks.{Sound, Marked, Work}
 use Rattle.rules.proofs.Stage.Puts.{cell}
 use Rattle.rules.proofs.Tree.Loads.{rows}
-use Rattle.rules.proofs.Tree.Sane.{Marked}
-use Rattle.rules.proofs.Tree.Invariant.{Placeable, row-empty}
+use Rattle.rules.specs.Inside.Plans.{Placeable, Fair, Going}
+use Rattle.rules.proofs.Tree.Invariant.{row-empty}
 use Rattle.rules.proofs.Stage.Fuel.{vacant, count-length, row-length, one-filled, turns, down, fill-more, fill-any}
-use Rattle.rules.proofs.Tree.Fair.{Fair, fair-first, fair-down, fair-kept, grows, joins, listed-filled}
+use Rattle.rules.proofs.Tree.Fair.{fair-first, fair-down, fair-kept, grows, joins, listed-filled}
 use Rattle.rules.proofs.Needed.Lacks.{fewer, same-needed, same-inNeed, same-untouched, true-ltb}
 use Rattle.rules.proofs.Lean.Pick.{candidate, pin-first, free-past}
 
@@ -33,13 +32,31 @@ room-mono X m n pl h e =
     let k : ℕ = max (count filled (row (X .K) 1 pl)) (length (treeOf X pl)) in
     true-ltb (m + k) (2 ^ (X .K - 1)) (omega (arith, ltb-true (n + k) (2 ^ (X .K - 1)) e))
 
-module _ (X : Setting) (r : ℕ → ℕ) (f : ℕ) (S : Sound X r f) (M : Marked X) (small : length (X .g) ≤ empty) where
-  -- rule 7 by the count, and by a bound
-  pub same-room : {h : ℕ} {pl : List ℕ} → Fair X r f S h pl → roomy X pl ≡ roomFor X (length (wanted X pl)) pl
-  unfolding roomy roomFor
-  same-room k = rw (same-needed X r f S M k)
+module _ (W : Work) where
+  abbrev X : Setting
+  X = W .X
 
-  pub recount-none : {h : ℕ} {pl : List ℕ} → Fair X r f S h pl → (b : ℕ) → recount X b pl ≡ nothing → roomy X pl ≡ false
+  abbrev r : ℕ → ℕ
+  r = W .r
+
+  abbrev f : ℕ
+  f = W .f
+
+  abbrev S : Sound X r f
+  S = W .S
+
+  abbrev M : Marked X
+  M = W .M
+
+  abbrev small : length (X .g) ≤ empty
+  small = W .small
+
+  -- rule 7 by the count, and by a bound
+  pub same-room : {h : ℕ} {pl : List ℕ} → Fair X h pl → roomy X pl ≡ roomFor X (length (wanted X pl)) pl
+  unfolding roomy roomFor
+  same-room k = rw (same-needed W k)
+
+  pub recount-none : {h : ℕ} {pl : List ℕ} → Fair X h pl → (b : ℕ) → recount X b pl ≡ nothing → roomy X pl ≡ false
   unfolding recount
   recount-none {h} {pl} k b e = split (roomFor X b pl)
       (λ d. absurd (let c : found b ≡ nothing = rw (d, recount) at e in let z : _≡_ {A = ℕ} 0 1 = cc in omega arith))
@@ -47,7 +64,7 @@ module _ (X : Setting) (r : ℕ → ℕ) (f : ℕ) (S : Sound X r f) (M : Marked
       (λ c. absurd (let a : found (length (wanted X pl)) ≡ nothing = rw (d, c, recount) at e in let z : _≡_ {A = ℕ} 0 1 = cc in omega arith))
       (λ c. same-room k ∙ c))
 
-  pub recount-found : {h : ℕ} {pl : List ℕ} → Fair X r f S h pl → (b c : ℕ) → length (wanted X pl) ≤ b → recount X b pl ≡ found c → (roomy X pl ≡ true) × (length (wanted X pl) ≤ c)
+  pub recount-found : {h : ℕ} {pl : List ℕ} → Fair X h pl → (b c : ℕ) → length (wanted X pl) ≤ b → recount X b pl ≡ found c → (roomy X pl ≡ true) × (length (wanted X pl) ≤ c)
   unfolding recount
   recount-found {h} {pl} k b c m e = split (roomFor X b pl)
       (λ d. let a : found b ≡ found c = rw (d, recount) at e in let z : b ≡ c = cc in (same-room k ∙ room-mono X (length (wanted X pl)) b pl m d, omega arith))
@@ -75,7 +92,7 @@ module _ (X : Setting) (r : ℕ → ℕ) (f : ℕ) (S : Sound X r f) (M : Marked
       low (suc t) (suc zero) b = refl
       low (suc t) (suc (suc h)) b = absurd (omega arith)
 
-  module _ (l : ℕ) (high : suc (suc l) ≤ X .K) (pl : List ℕ) (F : Fair X r f S (suc (suc l)) pl) where
+  module _ (l : ℕ) (high : suc (suc l) ≤ X .K) (pl : List ℕ) (F : Fair X (suc (suc l)) pl) where
     abbrev h : ℕ
     h = suc (suc l)
 
@@ -106,60 +123,52 @@ module _ (X : Setting) (r : ℕ → ℕ) (f : ℕ) (S : Sound X r f) (M : Marked
     unfolding fill placed
     turn-placed p n e d i v q =
         let a : Placeable X pl h p n = at-cell p n e i v in
-        let o = one-filled X r f S small h p n pl high (F .len) (a .row) (a .end) (a .free) (listed-filled X r f S small n i) in
-        one-more ∙ rw (e, d, q, fill) (any-fuel (turns X r f S small h pl) h (placed X h p n pl) high (fair-kept X r f S M small h p n F a .len) (omega (arith, o)))
+        let o = one-filled X r f S small h p n pl high (F .len) (a .row) (a .end) (a .free) (listed-filled W n i) in
+        one-more ∙ rw (e, d, q, fill) (any-fuel (turns X r f S small h pl) h (placed X h p n pl) high (fair-kept W h p n F a .len) (omega (arith, o)))
 
-  -- what holds while a level's candidates are gone through: those before ns are placed, and b bounds the needed pins
-  pub record Going (h : ℕ) (ns : List ℕ) (b : ℕ) (pl : List ℕ) : Type 0 where
-    pub fair : Fair X r f S h pl
-    pub before : List ℕ
-    pub whole : candidates X h ≡ before ++ ns
-    pub gone : Sub before (treeOf X pl)
-    pub enough : length (wanted X pl) ≤ b
-
-  pub going-first : (h b : ℕ) (pl : List ℕ) → Fair X r f S h pl → length (wanted X pl) ≤ b → Going h (candidates X h) b pl
+  pub going-first : (h b : ℕ) (pl : List ℕ) → Fair X h pl → length (wanted X pl) ≤ b → Going X h (candidates X h) b pl
   going-first h b pl F m = record { fair = F; before = []; whole = refl; gone = λ q e. in-nil q e; enough = m }
 
-  pub choice : {h b : ℕ} {ns pl : List ℕ} → Going h ns b pl → 1 ≤ h → pinAt X h pl ≡ firstFree (treeOf X pl) ns
-  choice {h} {b} {ns} {pl} G low = pin-first X r f S M small (G .fair) h low ∙ rw (G .whole) (free-past (treeOf X pl) (G .before) ns (G .gone))
+  pub choice : {h b : ℕ} {ns pl : List ℕ} → Going X h ns b pl → 1 ≤ h → pinAt X h pl ≡ firstFree (treeOf X pl) ns
+  choice {h} {b} {ns} {pl} G low = pin-first W (G .fair) h low ∙ rw (G .whole) (free-past (treeOf X pl) (G .before) ns (G .gone))
 
-  head-in : {h b n : ℕ} {ns pl : List ℕ} → Going h (n ∷ ns) b pl → In n (X .seen) × (levelAt X n ≡ h)
-  head-in {h} {b} {n} {ns} G = candidate X r f S M small h n (rw (G .whole) (in-append-right n (G .before) (n ∷ ns) (in-here n ns)))
+  head-in : {h b n : ℕ} {ns pl : List ℕ} → Going X h (n ∷ ns) b pl → In n (X .seen) × (levelAt X n ≡ h)
+  head-in {h} {b} {n} {ns} G = candidate W h n (rw (G .whole) (in-append-right n (G .before) (n ∷ ns) (in-here n ns)))
 
-  longer : {h b n : ℕ} {ns pl : List ℕ} (G : Going h (n ∷ ns) b pl) → candidates X h ≡ (G .before ++ (n ∷ [])) ++ ns
+  longer : {h b n : ℕ} {ns pl : List ℕ} (G : Going X h (n ∷ ns) b pl) → candidates X h ≡ (G .before ++ (n ∷ [])) ++ ns
   longer {h} {b} {n} {ns} G = G .whole ∙ sym (append-assoc (G .before) (n ∷ []) ns)
 
   all-gone : (before : List ℕ) (n : ℕ) (tr : List ℕ) → Sub before tr → In n tr → Sub (before ++ (n ∷ [])) tr
   all-gone before n tr h i q e = elim (in-append q before (n ∷ []) e) [ inl d ↦ h q d | inr d ↦ elim (in-cons q n [] d) [ inl c ↦ rw c i | inr c ↦ in-nil q c ] ]
 
   -- a placed candidate is passed over
-  pub going-skip : {h b n : ℕ} {ns pl : List ℕ} → Going h (n ∷ ns) b pl → In n (treeOf X pl) → Going h ns b pl
+  pub going-skip : {h b n : ℕ} {ns pl : List ℕ} → Going X h (n ∷ ns) b pl → In n (treeOf X pl) → Going X h ns b pl
   going-skip {h} {b} {n} {ns} {pl} G i = record { fair = G .fair; before = G .before ++ (n ∷ []); whole = longer G; gone = all-gone (G .before) n (treeOf X pl) (G .gone) i; enough = G .enough }
 
   -- placing takes nothing out and adds no needed pin
-  pub fewer-needed : {h p n : ℕ} {pl : List ℕ} → Fair X r f S h pl → Placeable X pl h p n → length (wanted X (placed X h p n pl)) ≤ length (wanted X pl)
-  fewer-needed {h} {p} {n} {pl} F a = fewer X pl (placed X h p n pl) (grows X r f S M small h p n F a)
+  pub fewer-needed : {h p n : ℕ} {pl : List ℕ} → Fair X h pl → Placeable X pl h p n → length (wanted X (placed X h p n pl)) ≤ length (wanted X pl)
+  fewer-needed {h} {p} {n} {pl} F a = fewer X pl (placed X h p n pl) (grows W h p n F a)
 
   -- a candidate is placed
-  pub going-placed : {h b n : ℕ} {ns pl : List ℕ} → Going h (n ∷ ns) b pl → (p c : ℕ) → Placeable X pl h p n → length (wanted X (placed X h p n pl)) ≤ c → Going h ns c (placed X h p n pl)
+  pub going-placed : {h b n : ℕ} {ns pl : List ℕ} → Going X h (n ∷ ns) b pl → (p c : ℕ) → Placeable X pl h p n → length (wanted X (placed X h p n pl)) ≤ c → Going X h ns c (placed X h p n pl)
   going-placed {h} {b} {n} {ns} {pl} G p c a m = record {
-    fair = fair-kept X r f S M small h p n (G .fair) a;
+    fair = fair-kept W h p n (G .fair) a;
     before = G .before ++ (n ∷ []);
     whole = longer G;
-    gone = all-gone (G .before) n (treeOf X (placed X h p n pl)) (λ q e. grows X r f S M small h p n (G .fair) a q (G .gone q e)) (joins X r f S M small h p n (G .fair) a);
+    gone = all-gone (G .before) n (treeOf X (placed X h p n pl)) (λ q e. grows W h p n (G .fair) a q (G .gone q e)) (joins W h p n (G .fair) a);
     enough = m;
   }
 
   -- what one level comes to
   pub record Swept (l : ℕ) (pl : List ℕ) (s : Filling) : Type 0 where
     pub same : ends (suc (suc l)) pl ≡ ends (suc l) (s .plan)
-    pub fair : Fair X r f S (suc l) (s .plan)
+    pub fair : Fair X (suc l) (s .plan)
     pub enough : length (wanted X (s .plan)) ≤ s .most
 
-  stops : (l b : ℕ) (ns pl : List ℕ) → Going (suc (suc l)) ns b pl → ends (suc (suc l)) pl ≡ ends (suc l) pl → Swept l pl (record { most = b; plan = pl })
-  stops l b ns pl G e = record { same = e; fair = fair-down X r f S M small (suc l) (G .fair); enough = G .enough }
+  stops : (l b : ℕ) (ns pl : List ℕ) → Going X (suc (suc l)) ns b pl → ends (suc (suc l)) pl ≡ ends (suc l) pl → Swept l pl (record { most = b; plan = pl })
+  stops l b ns pl G e = record { same = e; fair = fair-down W (suc l) (G .fair); enough = G .enough }
 
-  pub swept : (l : ℕ) → suc (suc l) ≤ X .K → (ns : List ℕ) (b : ℕ) (pl : List ℕ) → Going (suc (suc l)) ns b pl → Swept l pl (sweep X (suc (suc l)) ns b pl)
+  pub swept : (l : ℕ) → suc (suc l) ≤ X .K → (ns : List ℕ) (b : ℕ) (pl : List ℕ) → Going X (suc (suc l)) ns b pl → Swept l pl (sweep X (suc (suc l)) ns b pl)
   unfolding sweep firstFree
   swept l high [] b pl G = stops l b [] pl G (turn-no-pin l high pl (G .fair) (choice G (omega arith)))
   swept l high (n ∷ ns) b pl G = split (mem n (treeOf X pl))
@@ -170,7 +179,7 @@ module _ (X : Setting) (r : ℕ → ℕ) (f : ℕ) (S : Sound X r f) (M : Marked
       let d : pinAt X (suc (suc l)) pl ≡ found n = choice G (omega arith) ∙ rw (o, firstFree) in
       let i = head-in G in
       let a : Placeable X pl (suc (suc l)) p n = at-cell l high pl (G .fair) p n e (i .0) (i .1) in
-      let F2 : Fair X r f S (suc (suc l)) (placed X (suc (suc l)) p n pl) = fair-kept X r f S M small (suc (suc l)) p n (G .fair) a in
+      let F2 : Fair X (suc (suc l)) (placed X (suc (suc l)) p n pl) = fair-kept W (suc (suc l)) p n (G .fair) a in
       let m : length (wanted X (placed X (suc (suc l)) p n pl)) ≤ b = omega (arith, fewer-needed (G .fair) a, G .enough) in
       cell (recount X b (placed X (suc (suc l)) p n pl))
       (λ c. rw (o, e, c, sweep) (stops l b (n ∷ ns) pl G (turn-no-room l high pl (G .fair) p n e d (recount-none F2 b c))))
@@ -180,10 +189,10 @@ module _ (X : Setting) (r : ℕ → ℕ) (f : ℕ) (S : Sound X r f) (M : Marked
       rw (o, e, c, sweep) (record { same = turn-placed l high pl (G .fair) p n e d (i .0) (i .1) (q .0) ∙ s .same; fair = s .fair; enough = s .enough }))))
 
   -- level by level
-  pub lean-ends : (h : ℕ) → h ≤ X .K → (b : ℕ) (pl : List ℕ) → Fair X r f S h pl → length (wanted X pl) ≤ b → (lean X h b pl ≡ ends h pl) × Fair X r f S 0 (lean X h b pl)
+  pub lean-ends : (h : ℕ) → h ≤ X .K → (b : ℕ) (pl : List ℕ) → Fair X h pl → length (wanted X pl) ≤ b → (lean X h b pl ≡ ends h pl) × Fair X 0 (lean X h b pl)
   unfolding lean
   lean-ends zero high b pl F m = (sym (ends-low 0 pl (omega arith)), F)
-  lean-ends (suc zero) high b pl F m = (sym (ends-low 1 pl (omega arith)), fair-down X r f S M small 0 F)
+  lean-ends (suc zero) high b pl F m = (sym (ends-low 1 pl (omega arith)), fair-down W 0 F)
   lean-ends (suc (suc l)) high b pl F m =
       let s : Swept l pl (sweep X (suc (suc l)) (candidates X (suc (suc l))) b pl) = swept l high (candidates X (suc (suc l))) b pl (going-first (suc (suc l)) b pl F m) in
       let k = lean-ends (suc l) (omega arith) (sweep X (suc (suc l)) (candidates X (suc (suc l))) b pl .most) (sweep X (suc (suc l)) (candidates X (suc (suc l))) b pl .plan) (s .fair) (s .enough) in
@@ -196,20 +205,20 @@ module _ (X : Setting) (r : ℕ → ℕ) (f : ℕ) (S : Sound X r f) (M : Marked
   pub lean-plan : leanPlan X ≡ filledPlan X
   unfolding leanPlan filledPlan blank
   lean-plan =
-      let F : Fair X r f S top (blank X) = fair-first X r f S M small top in
+      let F : Fair X top (blank X) = fair-first W top in
       let e : lean X top (length (wanted X (blank X))) (blank X) ≡ ends top (blank X) = lean-ends top (omega arith) (length (wanted X (blank X))) (blank X) F (omega arith) .0 in
       e ∙ sym (any-fuel (2 ^ (X .K) + X .K) top (blank X) (omega arith) (F .len)
       (omega (arith, count-length vacant (row (X .K) top (blank X)), row-length X r f S small top (blank X) (omega arith) (F .len), rows (X .K) top (omega arith), mul-le-mul-left (rowAt (X .K) top) (one-le-pow top 2 (omega arith)))))
 
-  pub lean-fair : Fair X r f S 0 (leanPlan X)
+  pub lean-fair : Fair X 0 (leanPlan X)
   unfolding leanPlan
-  lean-fair = lean-ends top (omega arith) (length (wanted X (blank X))) (blank X) (fair-first X r f S M small top) (omega arith) .1
+  lean-fair = lean-ends top (omega arith) (length (wanted X (blank X))) (blank X) (fair-first W top) (omega arith) .1
 
-  pub filled-fair : Fair X r f S 0 (filledPlan X)
+  pub filled-fair : Fair X 0 (filledPlan X)
   filled-fair = rw lean-plan at lean-fair
 
   -- level 1 is still fair, for rules 8 and 9
-  lean-one : (h : ℕ) → 1 ≤ h → h ≤ X .K → (b : ℕ) (pl : List ℕ) → Fair X r f S h pl → length (wanted X pl) ≤ b → Fair X r f S 1 (lean X h b pl)
+  lean-one : (h : ℕ) → 1 ≤ h → h ≤ X .K → (b : ℕ) (pl : List ℕ) → Fair X h pl → length (wanted X pl) ≤ b → Fair X 1 (lean X h b pl)
   unfolding lean
   lean-one zero low high b pl F m = absurd (omega arith)
   lean-one (suc zero) low high b pl F m = F
@@ -217,21 +226,21 @@ module _ (X : Setting) (r : ℕ → ℕ) (f : ℕ) (S : Sound X r f) (M : Marked
       let s : Swept l pl (sweep X (suc (suc l)) (candidates X (suc (suc l))) b pl) = swept l high (candidates X (suc (suc l))) b pl (going-first (suc (suc l)) b pl F m) in
       lean-one (suc l) (omega arith) (omega arith) (sweep X (suc (suc l)) (candidates X (suc (suc l))) b pl .most) (sweep X (suc (suc l)) (candidates X (suc (suc l))) b pl .plan) (s .fair) (s .enough)
 
-  lean-any : (h : ℕ) → h ≤ X .K → (b : ℕ) → length (wanted X (blank X)) ≤ b → Fair X r f S 1 (lean X h b (blank X))
+  lean-any : (h : ℕ) → h ≤ X .K → (b : ℕ) → length (wanted X (blank X)) ≤ b → Fair X 1 (lean X h b (blank X))
   unfolding lean
-  lean-any zero high b m = fair-first X r f S M small 1
-  lean-any (suc h) high b m = lean-one (suc h) (omega arith) high b (blank X) (fair-first X r f S M small (suc h)) m
+  lean-any zero high b m = fair-first W 1
+  lean-any (suc h) high b m = lean-one (suc h) (omega arith) high b (blank X) (fair-first W (suc h)) m
 
-  pub lean-tidy : Fair X r f S 1 (leanPlan X)
+  pub lean-tidy : Fair X 1 (leanPlan X)
   unfolding leanPlan
   lean-tidy = lean-any top (omega arith) (length (wanted X (blank X))) (omega arith)
 
   -- what rules 8 to 11 read of it
   pub lean-needed : neededOf X (filledPlan X) ≡ wanted X (leanPlan X)
-  lean-needed = rw lean-plan (same-needed X r f S M filled-fair)
+  lean-needed = rw lean-plan (same-needed W filled-fair)
 
   pub lean-inNeed : inNeed X (filledPlan X) ≡ lowWaiting X (leanPlan X)
-  lean-inNeed = rw lean-plan (same-inNeed X r f S M filled-fair)
+  lean-inNeed = rw lean-plan (same-inNeed W filled-fair)
 
   pub lean-untouched : untouched X (filledPlan X) ≡ highWaiting X (leanPlan X)
-  lean-untouched = rw lean-plan (same-untouched X r f S M filled-fair)
+  lean-untouched = rw lean-plan (same-untouched W filled-fair)

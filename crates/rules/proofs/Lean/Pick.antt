@@ -8,16 +8,16 @@ use native.Mathlib.Omega.{arith}
 use lib.Dec.{eqb, ltb}
 use lib.ListN.{length, getD}
 use borrow.Author.Tests.{ltb-true, ltb-false}
-use Rattle.rules.specs.Lists.{mem, keep, Found, nothing, found}
+use Rattle.rules.specs.Lists.{mem, keep, Found, nothing, found, In, Out}
 use Rattle.rules.specs.Cells.{empty}
 use Rattle.rules.specs.Traversal.{Setting, levelAt}
 use Rattle.rules.specs.Placing.{choose, treeOf, reverseOf, pinAt}
-use Rattle.rules.specs.Lean.{startLevels, rankIn, rank, levelList, candidates, scan, firstFree}
-use Rattle.rules.proofs.Lists.Members.{In, Out, split, eqb-true, in-here, in-there, in-cons, in-nil, keep-in}
-use Rattle.rules.proofs.Needed.Needs.{Sound}
+use Rattle.rules.specs.Inside.Lean.{startLevels, rankIn, rank, levelList, candidates, scan, firstFree}
+use Rattle.rules.proofs.Lists.Members.{split, eqb-true, in-here, in-there, in-cons, in-nil, keep-in}
+use Rattle.rules.specs.Inside.Walks.{Sound, Marked, Work}
 use Rattle.rules.proofs.Stage.Puts.{cell}
-use Rattle.rules.proofs.Tree.Sane.{Marked}
-use Rattle.rules.proofs.Tree.Fair.{Fair, same-reverse}
+use Rattle.rules.specs.Inside.Plans.{Fair}
+use Rattle.rules.proofs.Tree.Fair.{same-reverse}
 use Rattle.rules.proofs.Needed.Lacks.{true-ltb, false-ltb, has-level}
 
 and-no : (b : Bool) → b && false ≡ false
@@ -136,7 +136,25 @@ module _ (tr rl : List ℕ) where
   first-best nothing h = refl
   first-best (found q) h = rw (true-ltb 0 (getD rl q 0) (h q refl), better)
 
-module _ (X : Setting) (r : ℕ → ℕ) (f : ℕ) (S : Sound X r f) (M : Marked X) (small : length (X .g) ≤ empty) where
+module _ (W : Work) where
+  abbrev X : Setting
+  X = W .X
+
+  abbrev r : ℕ → ℕ
+  r = W .r
+
+  abbrev f : ℕ
+  f = W .f
+
+  abbrev S : Sound X r f
+  S = W .S
+
+  abbrev M : Marked X
+  M = W .M
+
+  abbrev small : length (X .g) ≤ empty
+  small = W .small
+
   pub level-in : (h q : ℕ) → In q (levelList X h) → In q (X .seen) × (levelAt X q ≡ h)
   unfolding levelList
   level-in h q e = let k = keep-in _ q (X .order) e in (S .listed q (k .0), eqb-true (levelAt X q) h (k .1))
@@ -146,12 +164,12 @@ module _ (X : Setting) (r : ℕ → ℕ) (f : ℕ) (S : Sound X r f) (M : Marked
   candidate h q e = level-in h q (rank-in (startLevels X) (levelList X h) q e)
 
   -- by a scan
-  pub pin-scan : {k : ℕ} {pl : List ℕ} → Fair X r f S k pl → (h : ℕ) → 1 ≤ h → pinAt X h pl ≡ scan (treeOf X pl) (startLevels X) (levelList X h) 0 nothing
+  pub pin-scan : {k : ℕ} {pl : List ℕ} → Fair X k pl → (h : ℕ) → 1 ≤ h → pinAt X h pl ≡ scan (treeOf X pl) (startLevels X) (levelList X h) 0 nothing
   unfolding pinAt levelList
-  pin-scan {k} {pl} F h b = choose-scan X (treeOf X pl) (reverseOf X pl) (startLevels X) h (X .order) (λ p i l o. same-reverse X r f S M small F p (omega arith) o) 0 nothing
+  pin-scan {k} {pl} F h b = choose-scan X (treeOf X pl) (reverseOf X pl) (startLevels X) h (X .order) (λ p i l o. same-reverse W F p (omega arith) o) 0 nothing
 
   -- in the ranked list
-  pub pin-first : {k : ℕ} {pl : List ℕ} → Fair X r f S k pl → (h : ℕ) → 1 ≤ h → pinAt X h pl ≡ firstFree (treeOf X pl) (candidates X h)
+  pub pin-first : {k : ℕ} {pl : List ℕ} → Fair X k pl → (h : ℕ) → 1 ≤ h → pinAt X h pl ≡ firstFree (treeOf X pl) (candidates X h)
   unfolding candidates
   pin-first {k} {pl} F h b = pin-scan F h b ∙ scan-rank (treeOf X pl) (startLevels X) (levelList X h) 0 nothing ∙
       first-best (treeOf X pl) (startLevels X) (firstFree (treeOf X pl) (rank (startLevels X) (levelList X h)))
@@ -159,4 +177,4 @@ module _ (X : Setting) (r : ℕ → ℕ) (f : ℕ) (S : Sound X r f) (M : Marked
       let i = free-in (treeOf X pl) (rank (startLevels X) (levelList X h)) q e in
       let c = level-in h q (rank-in (startLevels X) (levelList X h) q (i .0)) in
       let l : 1 ≤ levelAt X q = omega (arith, c .1) in
-      omega (arith, has-level X r f S M F q (c .0) (i .1) l, same-reverse X r f S M small F q l (i .1)))
+      omega (arith, has-level W F q (c .0) (i .1) l, same-reverse W F q l (i .1)))

@@ -5,13 +5,13 @@ use mathlib.Core.Bool.{true, false}
 use mathlib.Core.List.{List, [], _∷_, _++_}
 use native.Mathlib.Omega.{arith}
 use lib.ListN.{length, getD, set, replicate, length-set}
-use Rattle.rules.specs.Lists.{mem}
+use Rattle.rules.specs.Lists.{mem, In, Out, Sub}
 use Rattle.rules.specs.Graph.{Node, below}
 use Rattle.rules.specs.Traversal.{thread, raise, lift, Setting, levelAt, reverseLevels}
-use Rattle.rules.specs.Lean.{startLevels}
-use Rattle.rules.proofs.Lists.Members.{In, Out, split, true-false, in-here, in-there, in-append-right, out-append}
-use Rattle.rules.proofs.Walk.Reverse.{Sub, out-sub, below-sub, nat, length-lift, lift-out}
-use Rattle.rules.proofs.Needed.Needs.{Sound}
+use Rattle.rules.specs.Inside.Lean.{startLevels}
+use Rattle.rules.proofs.Lists.Members.{split, true-false, in-here, in-there, in-append-right, out-append}
+use Rattle.rules.proofs.Walk.Reverse.{out-sub, below-sub, nat, length-lift, lift-out}
+use Rattle.rules.specs.Inside.Walks.{Sound}
 use Rattle.rules.proofs.Tree.Cone.{over-level}
 
 -- raising looks only at the number that it raises

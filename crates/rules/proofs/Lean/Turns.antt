@@ -4,19 +4,19 @@ use mathlib.Core.Path.{_≡_, refl, ap, subst}
 use mathlib.Core.Bool.{true, false}
 use mathlib.Core.List.{List, [], _∷_}
 use lib.ListN.{length, replicate}
-use Rattle.rules.specs.Lists.{mem, isNil, nothing, found}
+use Rattle.rules.specs.Lists.{mem, isNil, nothing, found, In, Out}
 use Rattle.rules.specs.Cells.{empty, filled}
 use Rattle.rules.specs.Graph.{Node}
 use Rattle.rules.specs.Traversal.{WordRule, Setting, setting}
 use Rattle.rules.specs.Placing.{tree, treeOf, reverseOf, cellAt, placed, filledPlan}
 use Rattle.rules.specs.Ending.{sparseRuns, putRuns, putRest, lastStage, written, rest, finish, oneStage}
-use Rattle.rules.specs.Lean.{blank, startLevels, candidates, wanted, roomFor, recount, Filling, sweep, lean, onward, leanPlan, lowWaiting, highWaiting}
-use Rattle.rules.proofs.Lists.Members.{In, Out, split, true-false, in-here}
-use Rattle.rules.proofs.Needed.Needs.{Sound, Graph, setting-sound}
+use Rattle.rules.specs.Inside.Lean.{blank, startLevels, candidates, wanted, roomFor, recount, Filling, sweep, lean, onward, leanPlan, lowWaiting, highWaiting}
+use Rattle.rules.proofs.Lists.Members.{split, true-false, in-here}
+use Rattle.rules.specs.Inside.Walks.{Sound, Graph, Marked, Work}
+use Rattle.rules.proofs.Needed.Needs.{setting-sound}
 use Rattle.rules.proofs.Tree.Held.{tree-in}
 use Rattle.rules.proofs.Stage.Flat.{blank-replicate}
 use Rattle.rules.proofs.Fold.Whole.{mark}
-use Rattle.rules.proofs.Tree.Sane.{Marked}
 use Rattle.rules.proofs.Lean.Lean.{lean-plan, lean-needed, lean-inNeed, lean-untouched}
 
 -- rule 7: first by the bound, then by a count
@@ -79,21 +79,39 @@ unfolding reverseOf startLevels
 blank-levels X = rw blank-tree
 
 -- what rules 8 to 11 read
-module _ (X : Setting) (r : ℕ → ℕ) (f : ℕ) (S : Sound X r f) (M : Marked X) (small : length (X .g) ≤ empty) where
+module _ (W : Work) where
+  abbrev X : Setting
+  X = W .X
+
+  abbrev r : ℕ → ℕ
+  r = W .r
+
+  abbrev f : ℕ
+  f = W .f
+
+  abbrev S : Sound X r f
+  S = W .S
+
+  abbrev M : Marked X
+  M = W .M
+
+  abbrev small : length (X .g) ≤ empty
+  small = W .small
+
   pub lean-last : lastStage X (filledPlan X) ≡ isNil (highWaiting X (leanPlan X))
   unfolding lastStage
-  lean-last = rw (lean-untouched X r f S M small)
+  lean-last = rw (lean-untouched W)
 
   pub lean-written : written X (filledPlan X) ≡ putRuns X (isNil (highWaiting X (leanPlan X))) (sparseRuns (X .K) (leanPlan X)) (record { plan = leanPlan X; left = lowWaiting X (leanPlan X); real = []; words = [] })
   unfolding written
-  lean-written = rw (lean-last, lean-inNeed X r f S M small, lean-plan X r f S M small)
+  lean-written = rw (lean-last, lean-inNeed W, lean-plan W)
 
   pub lean-rest : rest X (filledPlan X) ≡ putRest X (wanted X (leanPlan X)) (written X (filledPlan X) .real) (written X (filledPlan X) .plan)
   unfolding rest
-  lean-rest = rw (lean-needed X r f S M small)
+  lean-rest = rw (lean-needed W)
 
 -- a stage of a graph
 pub lean-stage : (rule : WordRule) (K : ℕ) (g : List Node) (r : ℕ → ℕ) → Graph g r → length g ≤ empty → (done waiting : List ℕ) → ((x : ℕ) → In x waiting → (x < length g) × (r x < length g)) →
     (room : ℕ) → oneStage rule K g done waiting room ≡ finish (setting rule K g done waiting) room (leanPlan (setting rule K g done waiting))
 unfolding oneStage setting
-lean-stage rule K g r G small done waiting bounded room = rw (lean-plan (setting rule K g done waiting) r (length g) (setting-sound rule K g r G done waiting bounded) (mark g r G small) small)
+lean-stage rule K g r G small done waiting bounded room = rw (lean-plan (record { X = setting rule K g done waiting; r = r; f = length g; S = setting-sound rule K g r G done waiting bounded; M = mark g r G small; small = small }))

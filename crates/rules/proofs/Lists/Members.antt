@@ -7,13 +7,7 @@ use mathlib.Core.List.{List, [], _∷_, _++_, map, reverse, reverseAux}
 use native.Mathlib.Omega.{arith}
 use lib.Dec.{T, eqb, eqb→eq, eqb-refl}
 use lib.ListN.{length, getD}
-use Rattle.rules.specs.Lists.{mem, every, keep, insert, insertAll, distinct, count, gather, lastOf, init, swapOut, swapOutAll}
-
-abbrev pub In : ℕ → List ℕ → Type 0
-In p xs = mem p xs ≡ true
-
-abbrev pub Out : ℕ → List ℕ → Type 0
-Out p xs = mem p xs ≡ false
+use Rattle.rules.specs.Lists.{mem, every, keep, insert, insertAll, distinct, count, gather, lastOf, init, swapOut, swapOutAll, In, Out}
 
 pub split : {P : Type 0} (b : Bool) → (b ≡ true → P) → (b ≡ false → P) → P
 split true t f = t refl

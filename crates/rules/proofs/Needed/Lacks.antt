@@ -8,21 +8,22 @@ use native.Mathlib.Omega.{arith}
 use lib.Dec.{eqb, ltb, leb, lt→ltb, le→leb, leb→le}
 use lib.ListN.{length, getD}
 use borrow.Author.Tests.{ltb-true, ltb-false}
-use Rattle.rules.specs.Lists.{mem, keep, distinct, gather}
+use Rattle.rules.specs.Cells.{empty}
+use Rattle.rules.specs.Lists.{mem, keep, distinct, gather, In, Out, Sub, nobody}
 use Rattle.rules.specs.Graph.{below}
 use Rattle.rules.specs.Traversal.{Setting, levelAt}
 use Rattle.rules.specs.Placing.{asked, asks, needed, treeOf, reverseOf, neededOf}
 use Rattle.rules.specs.Ending.{inNeed, untouched}
-use Rattle.rules.specs.Lean.{lacks, wanted, lowWaiting, highWaiting}
-use Rattle.rules.proofs.Lists.Members.{In, Out, split, T→true, true→T, true-false, and-true, in-here, in-there, in-nil, in-keep, keep-in, in-distinct, distinct-in, in-gather, gather-in}
-use Rattle.rules.proofs.Walk.Traverse.{start}
-use Rattle.rules.proofs.Walk.Reverse.{Sub, out-sub, nat, reached}
-use Rattle.rules.proofs.Needed.Needs.{Sound, asked-low}
-use Rattle.rules.proofs.Stage.Last.{nobody, once-length}
+use Rattle.rules.specs.Inside.Lean.{lacks, wanted, lowWaiting, highWaiting}
+use Rattle.rules.proofs.Lists.Members.{split, T→true, true→T, true-false, and-true, in-here, in-there, in-nil, in-keep, keep-in, in-distinct, distinct-in, in-gather, gather-in}
+use Rattle.rules.specs.Loops.{start}
+use Rattle.rules.proofs.Walk.Reverse.{out-sub, nat, reached}
+use Rattle.rules.specs.Inside.Walks.{Sound, Marked, Work}
+use Rattle.rules.proofs.Needed.Needs.{asked-low}
+use Rattle.rules.proofs.Stage.Last.{once-length}
 use Rattle.rules.proofs.Written.Words.{once-insertAll}
-use Rattle.rules.proofs.Tree.Sane.{Marked}
 use Rattle.rules.proofs.Tree.Cone.{unplaced}
-use Rattle.rules.proofs.Tree.Fair.{Fair}
+use Rattle.rules.specs.Inside.Plans.{Fair}
 
 pub gather-ext : (f g : ℕ → List ℕ) (xs : List ℕ) → ((x : ℕ) → In x xs → f x ≡ g x) → gather f xs ≡ gather g xs
 unfolding gather
@@ -104,9 +105,27 @@ module _ (X : Setting) where
   unfolding asked keep
   asks-nothing tr p o z = rw (z, o, keep)
 
-module _ (X : Setting) (r : ℕ → ℕ) (f : ℕ) (S : Sound X r f) (M : Marked X) where
+module _ (W : Work) where
+  abbrev X : Setting
+  X = W .X
+
+  abbrev r : ℕ → ℕ
+  r = W .r
+
+  abbrev f : ℕ
+  f = W .f
+
+  abbrev S : Sound X r f
+  S = W .S
+
+  abbrev M : Marked X
+  M = W .M
+
+  abbrev small : length (X .g) ≤ empty
+  small = W .small
+
   -- an unplaced listed pin has a reverse level if it is a gate, or waits
-  pub has-level : {h : ℕ} {pl : List ℕ} → Fair X r f S h pl → (p : ℕ) → In p (X .seen) → Out p (treeOf X pl) → 1 ≤ levelAt X p → 0 < getD (reverseOf X pl) p 0
+  pub has-level : {h : ℕ} {pl : List ℕ} → Fair X h pl → (p : ℕ) → In p (X .seen) → Out p (treeOf X pl) → 1 ≤ levelAt X p → 0 < getD (reverseOf X pl) p 0
   unfolding reverseOf treeOf
   has-level {h} {pl} k p i o l = reached X (S .visited .topo) (S .bound) (S .visited .has) (treeOf X pl)
       (unplaced X r f S M pl (k .len) (k .sane) (k .tall) (k .zeroth) (elim (S .visited .new p i) [ inl c ↦ in-nil p c | inr c ↦ c ]) l o)
@@ -115,7 +134,7 @@ module _ (X : Setting) (r : ℕ → ℕ) (f : ℕ) (S : Sound X r f) (M : Marked
   unfolding reverseOf
   waits-level pl p i = reached X (S .visited .topo) (S .bound) (S .visited .has) (treeOf X pl) (start i)
 
-  same-asks : {h : ℕ} {pl : List ℕ} → Fair X r f S h pl → (p : ℕ) → In p (X .seen) → asks X (treeOf X pl) (reverseOf X pl) p ≡ lacks X (treeOf X pl) p
+  same-asks : {h : ℕ} {pl : List ℕ} → Fair X h pl → (p : ℕ) → In p (X .seen) → asks X (treeOf X pl) (reverseOf X pl) p ≡ lacks X (treeOf X pl) p
   unfolding asks lacks
   same-asks {h} {pl} k p i = split (mem p (treeOf X pl))
       (λ e. split (ltb 0 (getD (reverseOf X pl) p 0)) (λ d. rw (d, e, asks, lacks)) (λ d. rw (d, e, asks, lacks)))
@@ -126,7 +145,7 @@ module _ (X : Setting) (r : ℕ → ℕ) (f : ℕ) (S : Sound X r f) (M : Marked
       (λ m z. rw (true-ltb 0 (getD (reverseOf X pl) p 0) (has-level k p i e (omega arith)), e, asks, lacks)))
 
   -- S5
-  pub same-needed : {h : ℕ} {pl : List ℕ} → Fair X r f S h pl → neededOf X pl ≡ wanted X pl
+  pub same-needed : {h : ℕ} {pl : List ℕ} → Fair X h pl → neededOf X pl ≡ wanted X pl
   unfolding neededOf needed wanted
   same-needed {h} {pl} k = ap distinct (gather-ext (asks X (treeOf X pl) (reverseOf X pl)) (lacks X (treeOf X pl)) (X .order) (λ p i. same-asks k p (S .listed p i)))
 
@@ -135,10 +154,10 @@ module _ (X : Setting) (r : ℕ → ℕ) (f : ℕ) (S : Sound X r f) (M : Marked
   by-level pl p i o = same-truth (mem p (wanted X pl)) (leb (levelAt X p) 1) (λ e. true-leb (levelAt X p) 1 (wanted-low X pl p e))
       (λ e. in-wanted X pl p p (S .ordered p (S .visited .has p i)) o (asks-itself X (treeOf X pl) p (levelAt X p) i (leb-true (levelAt X p) 1 e)))
 
-  pub same-inNeed : {h : ℕ} {pl : List ℕ} → Fair X r f S h pl → inNeed X pl ≡ lowWaiting X pl
+  pub same-inNeed : {h : ℕ} {pl : List ℕ} → Fair X h pl → inNeed X pl ≡ lowWaiting X pl
   unfolding inNeed lowWaiting
   same-inNeed {h} {pl} k = rw (same-needed k) (keep-ext _ _ (X .waiting) (λ p i. split (mem p (treeOf X pl)) (λ e. rw e) (λ e. rw (e, by-level pl p i e))))
 
-  pub same-untouched : {h : ℕ} {pl : List ℕ} → Fair X r f S h pl → untouched X pl ≡ highWaiting X pl
+  pub same-untouched : {h : ℕ} {pl : List ℕ} → Fair X h pl → untouched X pl ≡ highWaiting X pl
   unfolding untouched highWaiting
   same-untouched {h} {pl} k = rw (same-needed k) (keep-ext _ _ (X .waiting) (λ p i. split (mem p (treeOf X pl)) (λ e. rw e) (λ e. rw (e, by-level pl p i e, above-one (levelAt X p)))))

@@ -4,16 +4,17 @@ use mathlib.Core.Path.{_≡_, refl}
 use mathlib.Core.Logic.{inl, inr}
 use mathlib.Core.List.{List, [], _∷_, _++_}
 use native.Mathlib.Omega.{arith}
-use Rattle.rules.specs.Lists.{mem}
+use Rattle.rules.specs.Lists.{mem, In, Out, Sub}
 use Rattle.rules.specs.Graph.{below}
 use Rattle.rules.specs.Traversal.{over, Setting}
 use Rattle.rules.specs.Placing.{asked, treeOf, neededOf}
 use Rattle.rules.specs.Depth.{depth}
-use Rattle.rules.proofs.Lists.Members.{In, Out, split, true-false, in-here, in-append-left, in-append-right, in-append, out-append, in-keep}
-use Rattle.rules.proofs.Walk.Traverse.{From, start, step, Ranked}
+use Rattle.rules.proofs.Lists.Members.{split, true-false, in-here, in-append-left, in-append-right, in-append, out-append, in-keep}
+use Rattle.rules.specs.Loops.{From, start, step}
+use Rattle.rules.specs.Inside.Walks.{Ranked, Sound}
 use Rattle.rules.proofs.Walk.Levels.{depth-at, over-above, over-least}
-use Rattle.rules.proofs.Walk.Reverse.{Sub, out-sub, below-in, in-below, below-sub, from-sub, from-in}
-use Rattle.rules.proofs.Needed.Needs.{Sound, need}
+use Rattle.rules.proofs.Walk.Reverse.{out-sub, below-in, in-below, below-sub, from-sub, from-in}
+use Rattle.rules.proofs.Needed.Needs.{need}
 
 -- pl2 holds what pl holds, and all that pl leaves needed
 pub record Served (X : Setting) (pl pl2 : List ℕ) : Type 0 where

@@ -6,31 +6,18 @@ use mathlib.Core.Bool.{true, not, _&&_}
 use mathlib.Core.List.{List, [], _∷_, _++_}
 use lib.Dec.{ltb, lt→ltb, eqb}
 use lib.ListN.{length, getD}
-use Rattle.rules.specs.Lists.{mem, gather}
+use Rattle.rules.specs.Lists.{mem, gather, In, Out, Sub}
 use Rattle.rules.specs.Graph.{Node, below}
 use Rattle.rules.specs.Traversal.{WordRule, traverse, Setting, setting, levelAt, reverseLevels}
 use Rattle.rules.specs.Placing.{asked, asks, needed, treeOf, reverseOf, neededOf}
 use Rattle.rules.specs.Depth.{depth}
-use Rattle.rules.proofs.Lists.Members.{In, Out, split, T→true, in-cons, in-nil, in-append-right, in-distinct, in-gather, in-reverse, reverse-in, keep-in, gather-in, distinct-in, eqb-true, and-true}
-use Rattle.rules.proofs.Walk.Traverse.{From, start, step, Ranked, Visited, traverse-good, from-rank}
+use Rattle.rules.proofs.Lists.Members.{split, T→true, in-cons, in-nil, in-append-right, in-distinct, in-gather, in-reverse, reverse-in, keep-in, gather-in, distinct-in, eqb-true, and-true}
+use Rattle.rules.specs.Loops.{From, start, step}
+use Rattle.rules.specs.Inside.Walks.{Ranked, Visited, Sound, Graph}
+use Rattle.rules.proofs.Walk.Traverse.{traverse-good, from-rank}
 use Rattle.rules.proofs.Walk.Levels.{levels-good}
-use Rattle.rules.proofs.Walk.Reverse.{Sub, below-sub, from-sub, from-in, topo-closed, reached}
+use Rattle.rules.proofs.Walk.Reverse.{below-sub, from-sub, from-in, topo-closed, reached}
 use native.Mathlib.Omega.{arith}
-
--- what is known of a stage's work, with ranks r and more fuel f than any listed pin's rank
-pub record Sound (X : Setting) (r : ℕ → ℕ) (f : ℕ) : Type 0 where
-  pub ranked : Ranked (X .g) (X .done) r
-  pub visited : Visited (X .g) (X .done) (X .waiting) [] (X .seen)
-  pub ordered : Sub (X .seen) (X .order)
-  pub listed : Sub (X .order) (X .seen)
-  pub bound : (x : ℕ) → In x (X .seen) → x < length (X .g)
-  pub fuel : (x : ℕ) → In x (X .seen) → r x < f
-  pub level : (x : ℕ) → In x (X .seen) → levelAt X x ≡ depth f (X .g) (X .done) x
-
--- the graph's rule: operands are pins of the graph, of a lower rank
-pub record Graph (g : List Node) (r : ℕ → ℕ) : Type 0 where
-  pub falls : Ranked g [] r
-  pub inside : (p x : ℕ) → In x (below g [] p) → x < length g
 
 nothing-in : (ys : List ℕ) → Sub [] ys
 nothing-in ys q e = in-nil q e

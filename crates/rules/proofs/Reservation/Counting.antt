@@ -7,11 +7,11 @@ use mathlib.Core.List.{List, [], _∷_, _++_, map, append-nil, append-assoc}
 use native.Mathlib.Omega.{arith}
 use lib.Dec.{eqb, ltb}
 use lib.ListN.{length, length-append}
-use Rattle.rules.specs.Lists.{mem, keep, insert, insertAll, distinct}
+use Rattle.rules.specs.Inside.Counts.{pinsMet, repeats}
+use Rattle.rules.specs.Lists.{mem, keep, insert, insertAll, distinct, In, Out, Once, nobody, one}
 use Rattle.rules.specs.Records.{Group, output, flipFlop, memory, stagedPin, endpointsOf, waitingOf}
 use Rattle.rules.specs.Reservation.{Activation, activations, codesAt, extraAt, duplicates, memories}
-use Rattle.rules.proofs.Lists.Members.{In, Out, split, eqb-true, eqb-same, eqb-false, true-false, in-cons, in-nil, out-head, out-tail, in-distinct}
-use Rattle.rules.proofs.Stage.Last.{Once, nobody, one}
+use Rattle.rules.proofs.Lists.Members.{split, eqb-true, eqb-same, eqb-false, true-false, in-cons, in-nil, out-head, out-tail, in-distinct}
 use Rattle.rules.proofs.Written.Words.{once-insertAll}
 
 -- ---- lists
@@ -62,9 +62,6 @@ module _ (a : Activation) where
 
 -- ---- the pins met
 
-abbrev pub pinsMet : List Activation → List ℕ
-pinsMet ys = distinct (map (λ (a : Activation). a .pin) ys)
-
 pins-snoc : (ys : List Activation) (a : Activation) → pinsMet (ys ++ (a ∷ [])) ≡ insert (a .pin) (pinsMet ys)
 unfolding distinct
 pins-snoc ys a = ap (λ (l : List ℕ). insertAll l []) (map-snoc (λ (b : Activation). b .pin) ys a) ∙ insertAll-snoc (map (λ (b : Activation). b .pin) ys) (a .pin) []
@@ -82,9 +79,6 @@ codes-none p (y ∷ ys) cs o =
     rw (n, codesAt) (codes-none p ys cs (out-tail p (y .pin) (map (λ (b : Activation). b .pin) ys) o))
 
 -- ---- the duplicates of some activations
-
-abbrev pub repeats : List Activation → ℕ
-repeats ys = extraAt (pinsMet ys) ys
 
 extra-snoc : (ps : List ℕ) (p : ℕ) (ys : List Activation) → extraAt (ps ++ (p ∷ [])) ys ≡ extraAt ps ys + pred (length (codesAt p ys []))
 unfolding extraAt

@@ -5,12 +5,11 @@ use mathlib.Core.Bool.{Bool, true, false, _&&_, _||_}
 use mathlib.Core.List.{List, [], _∷_, _++_}
 use lib.Dec.{ltb, leb}
 use lib.ListN.{length, getD}
-use Rattle.rules.specs.Lists.{nothing, found, mem, keep, insert, insertAll}
+use Rattle.rules.specs.Lists.{nothing, found, mem, keep, insert, insertAll, In, Out}
 use Rattle.rules.specs.Cells.{empty, filled, rowAt, row, firstEmpty}
 use Rattle.rules.specs.Traversal.{Setting}
 use Rattle.rules.specs.Placing.{tree, place}
 use Rattle.rules.specs.Ending.{Sparse, Put, meet, fillIn, putCell, putCells, putRun, goesOn, putRuns, full, plan, putRest, wordsIn, refused, close, inTree, lastStage, written, rest, moreWords, ending, finish}
-use Rattle.rules.proofs.Lists.Members.{In, Out}
 
 module _ (X : Setting) where
   -- ---- 8. one cell

@@ -14,11 +14,13 @@ use Rattle.rules.specs.Ending.{Stage?, refused, stage, oneStage}
 use Rattle.rules.specs.Build.{Stage, Answer, refusal, whole, more, stages}
 use Rattle.rules.specs.States.{state, afterFrom}
 use Rattle.rules.specs.Depth.{remaining}
-use Rattle.rules.proofs.Lists.Members.{In, split, eqb-true, eqb-false}
-use Rattle.rules.proofs.Needed.Needs.{Graph, setting-sound}
+use Rattle.rules.specs.Lists.{In, Once}
+use Rattle.rules.proofs.Lists.Members.{split, eqb-true, eqb-false}
+use Rattle.rules.specs.Inside.Walks.{Graph, Ready}
+use Rattle.rules.proofs.Needed.Needs.{setting-sound}
 use Rattle.rules.proofs.Stage.Staged.{half-height, remaining-above, remaining-falls, waits-less, the-end}
 use Rattle.rules.proofs.Stage.Over.{stage-over, seven-or-eight}
-use Rattle.rules.proofs.Stage.Last.{Once, once-swapOutAll}
+use Rattle.rules.proofs.Stage.Last.{once-swapOutAll}
 use Rattle.rules.proofs.Stage.Flat.{none-wait}
 
 pub stage-cases : {P : Type 0} (x : Stage?) → ((n : ℕ) → x ≡ refused n → P) → ((plan2 words realised waiting2 : List ℕ) → x ≡ stage plan2 words realised waiting2 → P) → P
@@ -33,11 +35,6 @@ pub more-refused : (s : Stage) (a : Answer) (n k : ℕ) → more s a ≡ refusal
 unfolding more
 more-refused s (refusal m j) n k e = e
 more-refused s (whole ss) n k e = absurd (let z : _≡_ {A = ℕ} 0 1 = cc in omega arith)
-
--- a state between stages
-pub record Ready (g : List Node) (r : ℕ → ℕ) (waiting : List ℕ) : Type 0 where
-  pub once : Once waiting
-  pub bounded : (x : ℕ) → In x waiting → (x < length g) × (r x < length g)
 
 module _ (rule : WordRule) (K : ℕ) (g : List Node) (r : ℕ → ℕ) (G : Graph g r) (tall : 6 ≤ K) (small : length g ≤ empty) where
   module _ (done waiting : List ℕ) (R : Ready g r waiting) (room : ℕ) (plan2 words realised waiting2 : List ℕ) (e : oneStage rule K g done waiting room ≡ stage plan2 words realised waiting2) where

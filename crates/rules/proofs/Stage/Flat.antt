@@ -7,22 +7,23 @@ use mathlib.Core.List.{List, [], _∷_, map}
 use native.Mathlib.Omega.{arith}
 use lib.ListN.{length, getD, drop, replicate, length-replicate, length-take, length-drop}
 use lib.Seq.{getD-set-other, getD-take, getD-drop}
-use Rattle.rules.specs.Lists.{mem, isNil, found}
+use Rattle.rules.specs.Lists.{mem, isNil, found, In, Out, Sub, Once}
 use Rattle.rules.specs.Cells.{filled, empty, firstEmpty, rowAt, row}
 use Rattle.rules.specs.Graph.{below}
 use Rattle.rules.specs.Traversal.{Setting, levelAt, greatest}
 use Rattle.rules.specs.Placing.{place, tree, treeOf, neededOf, fill, filledPlan, asked}
 use Rattle.rules.specs.Ending.{sparseRuns, Plan?, full, plan, putRest, inNeed, untouched, lastStage, written, rest}
 use Rattle.rules.specs.Depth.{depth}
-use Rattle.rules.proofs.Lists.Members.{In, Out, split, true-false, in-here, in-there, in-nil, in-keep, keep-in, keep-none}
-use Rattle.rules.proofs.Walk.Traverse.{From, start, step}
+use Rattle.rules.proofs.Lists.Members.{split, true-false, in-here, in-there, in-nil, in-keep, keep-in, keep-none}
+use Rattle.rules.specs.Loops.{From, start, step}
 use Rattle.rules.proofs.Walk.Levels.{depth-at, over-above}
-use Rattle.rules.proofs.Walk.Reverse.{Sub, from-in}
-use Rattle.rules.proofs.Needed.Needs.{Sound, need}
+use Rattle.rules.proofs.Walk.Reverse.{from-in}
+use Rattle.rules.specs.Inside.Walks.{Sound}
+use Rattle.rules.proofs.Needed.Needs.{need}
 use Rattle.rules.proofs.Tree.Held.{tree-in, firstEmpty-found, length-place1, place1-other}
 use Rattle.rules.proofs.Stage.Puts.{cell, Keeps, runs-fit, lowest}
 use Rattle.rules.proofs.Stage.Staged.{Ended, written-keeps, need-filled, two-step}
-use Rattle.rules.proofs.Stage.Last.{Once, all-out, Counts, runs-count, Solid, runs-solid, Blank, blank-take, blank-drop, starts, runsFrom-start}
+use Rattle.rules.proofs.Stage.Last.{all-out, Counts, runs-count, Solid, runs-solid, Blank, blank-take, blank-drop, starts, runsFrom-start}
 
 greatest-zero : (h : ℕ → ℕ) (xs : List ℕ) → ((x : ℕ) → In x xs → h x ≡ 0) → greatest (map h xs) 0 ≡ 0
 unfolding greatest

@@ -8,12 +8,12 @@ use native.Mathlib.Omega.{arith}
 use native.Mathlib.Nat.{pow-succ', mul-le-mul-left, one-le-pow}
 use lib.ListN.{length, getD, drop, replicate, length-take, length-drop, length-replicate}
 use lib.Seq.{getD-take, getD-drop, ext-getD}
-use Rattle.rules.specs.Lists.{count, nothing}
+use Rattle.rules.specs.Lists.{count, nothing, In}
 use Rattle.rules.specs.Cells.{filled, empty, rowAt, row}
 use Rattle.rules.specs.Traversal.{Setting, levelAt, greatest}
 use Rattle.rules.specs.Placing.{place, placed, treeOf, reverseOf, cellAt, pinAt, roomy, fill, filledPlan}
-use Rattle.rules.proofs.Lists.Members.{In, split}
-use Rattle.rules.proofs.Needed.Needs.{Sound}
+use Rattle.rules.proofs.Lists.Members.{split}
+use Rattle.rules.specs.Inside.Walks.{Sound}
 use Rattle.rules.proofs.Stage.Puts.{cell}
 use Rattle.rules.proofs.Stage.Lengths.{len-place}
 use Rattle.rules.proofs.Stage.Staged.{two-step, small-filled}

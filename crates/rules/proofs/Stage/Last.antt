@@ -8,14 +8,15 @@ use native.Mathlib.Omega.{arith}
 use lib.Dec.{eqb, ltb, leb}
 use lib.ListN.{length, getD, take, drop, length-map}
 use lib.Seq.{getD-set-same, getD-set-other, getD-drop}
-use Rattle.rules.specs.Lists.{mem, count, init, lastOf, swapOut, swapOutAll}
+use Rattle.rules.specs.Lists.{mem, count, init, lastOf, swapOut, swapOutAll, In, Out, Sub, Once, nobody, one}
 use Rattle.rules.specs.Cells.{filled, empty, rowAt}
 use Rattle.rules.specs.Traversal.{WordRule, everyRun, neededRuns, Setting}
 use Rattle.rules.specs.Ending.{Put, meet, fillIn, putCell, putCells, Sparse, putRun, allows, goesOn, putRuns, addSparse, sparseFrom, plan}
-use Rattle.rules.proofs.Lists.Members.{In, Out, split, true-false, eqb-true, eqb-false, in-here, in-there, in-cons, in-nil, out-head, out-tail, in-insert, in-insert-old, in-insertAll-old, init-in, last-in, map-in}
-use Rattle.rules.proofs.Walk.Reverse.{Sub, out-sub}
+use Rattle.rules.proofs.Lists.Members.{split, true-false, eqb-true, eqb-false, in-here, in-there, in-cons, in-nil, out-head, out-tail, in-insert, in-insert-old, in-insertAll-old, init-in, last-in, map-in}
+use Rattle.rules.proofs.Walk.Reverse.{out-sub}
 use Rattle.rules.proofs.Tree.Held.{place1-other}
-use Rattle.rules.proofs.Stage.Puts.{list, Keeps, cell-keeps, cells-keep, Runs, none, more}
+use Rattle.rules.specs.Inside.Counts.{Runs, none, more}
+use Rattle.rules.proofs.Stage.Puts.{list, Keeps, cell-keeps, cells-keep}
 use Rattle.rules.proofs.Stage.Branches.{cells-idle}
 
 -- taking out shortens by one, whatever is taken out
@@ -33,11 +34,6 @@ pub length-swapOutAll : (ps xs : List ℕ) → length (swapOutAll ps xs) ≡ len
 unfolding swapOutAll
 length-swapOutAll [] xs = omega arith
 length-swapOutAll (p ∷ ps) xs = omega (arith, length-swapOutAll ps (swapOut p xs), length-swapOut p xs)
-
--- a list without repeats that lies in another is no longer
-pub data Once : List ℕ → Type 0 where
-  nobody : Once []
-  one : {x : ℕ} {xs : List ℕ} → Out x xs → Once xs → Once (x ∷ xs)
 
 unfoldable drops : ℕ → List ℕ → List ℕ
 drops p [] = []

@@ -8,13 +8,13 @@ use native.Mathlib.Omega.{arith}
 use lib.Dec.{eqb, ltb, leb}
 use lib.ListN.{length, getD, take, drop, length-take, length-drop}
 use lib.Seq.{getD-set-same, getD-set-other, getD-take, getD-drop}
-use Rattle.rules.specs.Lists.{mem, count, Found, nothing, found}
+use Rattle.rules.specs.Inside.Counts.{Runs, none, more}
+use Rattle.rules.specs.Lists.{mem, count, Found, nothing, found, In, Sub}
 use Rattle.rules.specs.Cells.{filled, empty, firstEmpty, rowAt, row}
 use Rattle.rules.specs.Traversal.{Setting}
 use Rattle.rules.specs.Placing.{place, tree}
 use Rattle.rules.specs.Ending.{Put, meet, fillIn, putCell, putCells, Sparse, putRun, goesOn, putRuns, addSparse, sparseFrom, sparseRuns, Plan?, full, plan, putRest}
-use Rattle.rules.proofs.Lists.Members.{In, split, in-here, in-there, in-cons, in-nil, keep-in, insert-in, insertAll-in, or-true}
-use Rattle.rules.proofs.Walk.Reverse.{Sub}
+use Rattle.rules.proofs.Lists.Members.{split, in-here, in-there, in-cons, in-nil, keep-in, insert-in, insertAll-in, or-true}
 use Rattle.rules.proofs.Tree.Held.{in-tree, tree-grows, length-place1, place1-other, firstEmpty-found}
 
 pub list : {P : Type 0} (xs : List ℕ) → (xs ≡ [] → P) → ((y : ℕ) (ys : List ℕ) → xs ≡ y ∷ ys → P) → P
@@ -24,11 +24,6 @@ list (y ∷ ys) n c = c y ys refl
 pub cell : {P : Type 0} (x : Found) → (x ≡ nothing → P) → ((c : ℕ) → x ≡ found c → P) → P
 cell nothing n f = n refl
 cell (found c) n f = f c refl
-
--- runs that lie inside level 1
-pub data Runs (m : ℕ) : List Sparse → Type 0 where
-  none : Runs m []
-  more : {r : Sparse} {rs : List Sparse} → r .start + 32 ≤ m → Runs m rs → Runs m (r ∷ rs)
 
 addRun-fits : (m : ℕ) (r : Sparse) → r .start + 32 ≤ m → {rs : List Sparse} → Runs m rs → Runs m (addSparse r rs)
 unfolding addSparse

@@ -8,17 +8,17 @@ use native.Mathlib.Omega.{arith}
 use native.Mathlib.Numerals.{add-one}
 use lib.Dec.{eqb, ltb, leb}
 use lib.ListN.{length, replicate, length-replicate}
-use Rattle.rules.specs.Lists.{mem, insertAll, swapOutAll, found}
+use Rattle.rules.specs.Lists.{mem, insertAll, swapOutAll, found, In, Sub}
 use Rattle.rules.specs.Cells.{filled, empty, firstEmpty, rowAt, row}
 use Rattle.rules.specs.Graph.{Node}
 use Rattle.rules.specs.Traversal.{WordRule, Setting, setting, greatest, levelAt}
 use Rattle.rules.specs.Placing.{tree, treeOf, neededOf, filledPlan}
 use Rattle.rules.specs.Ending.{Plan?, full, plan, refused, stage, inNeed, inTree, lastStage, written, rest, moreWords, ending, close, finish, oneStage}
 use Rattle.rules.specs.Depth.{depth, remaining}
-use Rattle.rules.proofs.Lists.Members.{In, split, eqb-true, in-nil, in-here, in-there, in-cons, keep-in, and-true, swapOutAll-in, in-insertAll-old}
-use Rattle.rules.proofs.Walk.Traverse.{From, start}
-use Rattle.rules.proofs.Walk.Reverse.{Sub}
-use Rattle.rules.proofs.Needed.Needs.{Sound, Graph, setting-sound, need-listed}
+use Rattle.rules.proofs.Lists.Members.{split, eqb-true, in-nil, in-here, in-there, in-cons, keep-in, and-true, swapOutAll-in, in-insertAll-old}
+use Rattle.rules.specs.Loops.{From, start}
+use Rattle.rules.specs.Inside.Walks.{Sound, Graph}
+use Rattle.rules.proofs.Needed.Needs.{setting-sound, need-listed}
 use Rattle.rules.proofs.Needed.Lower.{Served, lowers, holds}
 use Rattle.rules.proofs.Stage.Puts.{cell, Keeps, runs-keep, runs-fit, rest-holds}
 use Rattle.rules.proofs.Stage.Lengths.{len-fill}

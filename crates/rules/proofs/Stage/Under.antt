@@ -8,17 +8,17 @@ use native.Mathlib.Omega.{arith}
 use lib.Dec.{ltb, leb, eqb}
 use lib.ListN.{length, getD, set, take, drop, length-append}
 use borrow.Author.Tests.{ltb-true, ltb-false, leb-true, leb-false}
-use Rattle.rules.specs.Lists.{Found, nothing, found, mem, count, isNil, insertAll, swapOutAll, distinct, gather}
+use Rattle.rules.specs.Lists.{Found, nothing, found, mem, count, isNil, insertAll, swapOutAll, distinct, gather, In, Once}
 use Rattle.rules.specs.Cells.{empty, filled, levelOneSize, rowAt, row, firstEmpty}
 use Rattle.rules.specs.Graph.{leaf, pinOf}
 use Rattle.rules.specs.Traversal.{WordRule, everyRun, neededRuns, Setting, levelAt, reverseLevels}
 use Rattle.rules.specs.Placing.{choose, place, asked, asks, needed, tree, treeOf, reverseOf, neededOf, roomy, cellAt, pinAt, placed, fill, filledPlan}
 use Rattle.rules.specs.Ending.{Sparse, addSparse, sparseFrom, sparseRuns, Put, meet, fillIn, putCell, putCells, putRun, allows, goesOn, putRuns, putRest, plan, stage, finish, ending, close, inTree, inNeed, untouched, lastStage, written, rest, moreWords}
-use Rattle.rules.proofs.Lists.Members.{In, split, and-true, true-false, in-nil, in-keep, in-insertAll, in-insertAll-old}
+use Rattle.rules.proofs.Lists.Members.{split, and-true, true-false, in-nil, in-keep, in-insertAll, in-insertAll-old}
 use Rattle.rules.proofs.Tree.Held.{node}
 use Rattle.rules.proofs.Stage.Puts.{list, cell}
 use Rattle.rules.proofs.Stage.Branches.{cells-idle, finish-last, finish-more}
-use Rattle.rules.proofs.Stage.Last.{Once, all-out, runs-count}
+use Rattle.rules.proofs.Stage.Last.{all-out, runs-count}
 use Rattle.rules.proofs.Stage.Staged.{not-refused}
 
 -- a stage's setting under another word rule

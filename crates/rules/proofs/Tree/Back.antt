@@ -14,13 +14,14 @@ use Rattle.rules.specs.Cells.{empty, filled, rowAt}
 use Rattle.rules.specs.Graph.{leaf, pinOf}
 use Rattle.rules.specs.Traversal.{Setting, levelAt}
 use Rattle.rules.specs.Placing.{place, placed, takeBack}
-use Rattle.rules.proofs.Lists.Members.{In, split, true-false, eqb-true}
-use Rattle.rules.proofs.Needed.Needs.{Sound}
+use Rattle.rules.specs.Lists.{In}
+use Rattle.rules.proofs.Lists.Members.{split, true-false, eqb-true}
+use Rattle.rules.specs.Inside.Walks.{Sound, Marked, Work}
 use Rattle.rules.proofs.Stage.Staged.{two-step}
 use Rattle.rules.proofs.Tree.Loads.{wide, rows, first, second}
-use Rattle.rules.proofs.Tree.Sane.{Marked, frame}
-use Rattle.rules.proofs.Tree.Invariant.{Placeable}
-use Rattle.rules.proofs.Tree.Fair.{Fair, Under, apart, bare, listed-filled}
+use Rattle.rules.proofs.Tree.Sane.{frame}
+use Rattle.rules.specs.Inside.Plans.{Placeable, Fair, Under}
+use Rattle.rules.proofs.Tree.Fair.{apart, bare, listed-filled}
 use Rattle.rules.proofs.Tree.Held.{node}
 
 pub not-filled : (c : ℕ) → filled c ≡ false → c ≡ empty
@@ -76,7 +77,25 @@ module _ (X : Setting) where
       (λ x y z. rw (d, z, place) (back-place h w p k (2 * u) (c + 2 * u) (pinOf y) (place X k (2 * u) (c + u) (pinOf x) (set pl c n)) n2
       ∙ ap (place X k (2 * u) (c + 2 * u) (pinOf y)) (back-place h w p k (2 * u) (c + u) (pinOf x) (set pl c n) n1 ∙ ap (place X k (2 * u) (c + u) (pinOf x)) s))))
 
-module _ (X : Setting) (r : ℕ → ℕ) (f : ℕ) (S : Sound X r f) (small : length (X .g) ≤ empty) where
+module _ (W : Work) where
+  abbrev X : Setting
+  X = W .X
+
+  abbrev r : ℕ → ℕ
+  r = W .r
+
+  abbrev f : ℕ
+  f = W .f
+
+  abbrev S : Sound X r f
+  S = W .S
+
+  abbrev M : Marked X
+  M = W .M
+
+  abbrev small : length (X .g) ≤ empty
+  small = W .small
+
   back-whole : (h w p n : ℕ) (pl : List ℕ) → w ≤ p → p < w + w → w * 2 ^ h ≡ 2 ^ (X .K) → length pl ≡ 2 ^ (X .K + 1) → In n (X .seen) → Under w p pl → takeBack h w p (place X h w p n pl) ≡ pl
   unfolding takeBack place
   back-whole zero w p n pl a b e l i u = set-set pl p n empty ∙ set-empty pl p (let z : p + 0 * w ≡ p = omega arith in rw z at (u 0))
@@ -92,7 +111,7 @@ module _ (X : Setting) (r : ℕ → ℕ) (f : ℕ) (S : Sound X r f) (small : le
       let z2 : filled (getD pl (p + 2 * w) empty) ≡ false = let z : p + 2 * w + 0 * (2 * w) ≡ p + 2 * w = omega arith in rw z at (u2 0) in
       let back : set (set pl p n) p empty ≡ pl = set-set pl p n empty ∙ set-empty pl p u0 in
       let top : getD (set pl p n) p empty ≡ n = getD-set-same pl p n empty (omega (arith, two-step (X .K), wide w h)) in
-      let g : filled n ≡ true = listed-filled X r f S small n i in
+      let g : filled n ≡ true = listed-filled W n i in
       split (ltb (levelAt X n) (suc h))
       (λ d.
       let pl1 : List ℕ = place X h (2 * w) (p + w) n (set pl p n) in
@@ -125,6 +144,6 @@ module _ (X : Setting) (r : ℕ → ℕ) (f : ℕ) (S : Sound X r f) (small : le
       ap (takeBack (suc h) w p) o ∙ q))
 
   -- a placing that leaves no room is taken back
-  pub taken-back : (M : Marked X) (h p n : ℕ) {pl : List ℕ} → Fair X r f S h pl → Placeable X pl h p n → takeBack h (rowAt (X .K) h) p (placed X h p n pl) ≡ pl
+  pub taken-back : (h p n : ℕ) {pl : List ℕ} → Fair X h pl → Placeable X pl h p n → takeBack h (rowAt (X .K) h) p (placed X h p n pl) ≡ pl
   unfolding placed
-  taken-back M h p n {pl} F a = back-whole h (rowAt (X .K) h) p n pl (a .row) (a .end) (rows (X .K) h (a .high)) (F .len) (a .listed) (bare X r f S M small h p n F a)
+  taken-back h p n {pl} F a = back-whole h (rowAt (X .K) h) p n pl (a .row) (a .end) (rows (X .K) h (a .high)) (F .len) (a .listed) (bare W h p n F a)

@@ -9,24 +9,25 @@ use native.Mathlib.Nat.{pow-succ'}
 use lib.Dec.{ltb}
 use lib.ListN.{length, getD, set}
 use borrow.Author.Tests.{ltb-true, ltb-false}
-use Rattle.rules.specs.Lists.{mem}
+use Rattle.rules.specs.Lists.{mem, In, Out}
 use Rattle.rules.specs.Cells.{filled, empty, rowAt}
 use Rattle.rules.specs.Graph.{leaf, gate, pinOf, operands, below}
 use Rattle.rules.specs.Traversal.{Setting, levelAt, reverseLevels}
 use Rattle.rules.specs.Placing.{place, tree, treeOf, filledPlan}
 use Rattle.rules.specs.Depth.{depth}
-use Rattle.rules.proofs.Lists.Members.{In, Out, split, true-false, in-cons, in-nil, out-append}
-use Rattle.rules.proofs.Walk.Traverse.{From, start, step}
+use Rattle.rules.proofs.Lists.Members.{split, true-false, in-cons, in-nil, out-append}
+use Rattle.rules.specs.Loops.{From, start, step}
 use Rattle.rules.proofs.Walk.Reverse.{below-in, in-below, from-in, topo-closed, reached}
 use Rattle.rules.proofs.Walk.Levels.{over-above}
 use Rattle.rules.proofs.Fold.Whole.{zero-kept, above-zero}
-use Rattle.rules.proofs.Needed.Needs.{Sound}
+use Rattle.rules.specs.Inside.Walks.{Sound, Marked}
 use Rattle.rules.proofs.Tree.Held.{tree-in, in-tree, node}
 use Rattle.rules.proofs.Stage.Flat.{blank-replicate}
 use Rattle.rules.proofs.Stage.Staged.{two-step}
-use Rattle.rules.proofs.Tree.Invariant.{Placeable, filled-inv}
+use Rattle.rules.specs.Inside.Plans.{Placeable, Step, copies, splits, Sane, Tall}
+use Rattle.rules.proofs.Tree.Invariant.{filled-inv}
 use Rattle.rules.proofs.Tree.Loads.{wide, rows, set-either, first, second, level-is}
-use Rattle.rules.proofs.Tree.Sane.{Step, copies, splits, Sane, Marked, same-row, sane-kept, sane-first}
+use Rattle.rules.proofs.Tree.Sane.{same-row, sane-kept, sane-first}
 
 double : (w m k : ℕ) → w * (2 * m) ≡ k → (2 * w) * m ≡ k
 double w m k e = omega arith
@@ -50,23 +51,19 @@ over-level X r f S q x s i =
     omega (arith, S .level x j, level-is X r f S q s, over-above (depth f (X .g) (X .done)) (below (X .g) (X .done) q) x i)
 
 module _ (X : Setting) (r : ℕ → ℕ) (f : ℕ) (S : Sound X r f) where
-  -- a cell of level h holds a listed pin of level h or lower
-  abbrev pub Tall : List ℕ → Type 0
-  Tall pl = (h w q : ℕ) → w * 2 ^ h ≡ 2 ^ (X .K) → w ≤ q → q < w + w → filled (getD pl q empty) ≡ true → In (getD pl q empty) (X .seen) × (levelAt X (getD pl q empty) ≤ h)
-
-  set-tall : (pl : List ℕ) (h w p n : ℕ) → w * 2 ^ h ≡ 2 ^ (X .K) → w ≤ p → p < w + w → Tall pl → In n (X .seen) → levelAt X n ≤ h → Tall (set pl p n)
+  set-tall : (pl : List ℕ) (h w p n : ℕ) → w * 2 ^ h ≡ 2 ^ (X .K) → w ≤ p → p < w + w → Tall X pl → In n (X .seen) → levelAt X n ≤ h → Tall X (set pl p n)
   set-tall pl h w p n e a b k i l h2 w2 q e2 a2 b2 g = elim (set-either pl p n q empty) [
     | inl d ↦ rw (d .1) (i, elim (same-row (2 ^ (X .K)) h h2 w w2 e e2) [ inl c ↦ omega arith | inr c ↦ elim c [ inl y ↦ absurd (omega (arith, d .0)) | inr y ↦ absurd (omega (arith, d .0)) ] ])
     | inr d ↦ rw d (k h2 w2 q e2 a2 b2 (rw d at g))
   ]
 
-  place-tall : (h w p n : ℕ) (pl : List ℕ) → w * 2 ^ h ≡ 2 ^ (X .K) → w ≤ p → p < w + w → In n (X .seen) → levelAt X n ≤ h → Tall pl → Tall (place X h w p n pl)
+  place-tall : (h w p n : ℕ) (pl : List ℕ) → w * 2 ^ h ≡ 2 ^ (X .K) → w ≤ p → p < w + w → In n (X .seen) → levelAt X n ≤ h → Tall X pl → Tall X (place X h w p n pl)
   unfolding place
   place-tall zero w p n pl e a b i l k = set-tall pl zero w p n e a b k i l
   place-tall (suc h) w p n pl e a b i l k =
       let e1 : w * (2 * 2 ^ h) ≡ 2 ^ (X .K) = rw (pow-succ' 2 h) at e in
       let e2 : (2 * w) * 2 ^ h ≡ 2 ^ (X .K) = omega arith in
-      let k2 : Tall (set pl p n) = set-tall pl (suc h) w p n e a b k i l in
+      let k2 : Tall X (set pl p n) = set-tall pl (suc h) w p n e a b k i l in
       split (ltb (levelAt X n) (suc h))
       (λ d. rw (d, place) (place-tall h (2 * w) (p + w) n (set pl p n) e2 (omega arith) (omega arith) i (omega (arith, ltb-true (levelAt X n) (suc h) d)) k2))
       (λ d. node (getD (X .g) n leaf) (λ c. rw (d, c, place) k2)
@@ -77,10 +74,10 @@ module _ (X : Setting) (r : ℕ → ℕ) (f : ℕ) (S : Sound X r f) where
       rw (d, c, place) (place-tall h (2 * w) (p + 2 * w) (pinOf y) (place X h (2 * w) (p + w) (pinOf x) (set pl p n)) e2 (omega arith) (omega arith) (m2 .0) (omega (arith, m2 .1))
       (place-tall h (2 * w) (p + w) (pinOf x) (set pl p n) e2 (omega arith) (omega arith) (m1 .0) (omega (arith, m1 .1)) k2))))
 
-  pub tall-kept : (pl : List ℕ) (h p n : ℕ) → length pl ≡ 2 ^ (X .K + 1) → Tall pl → Placeable X pl h p n → Tall (place X h (rowAt (X .K) h) p n pl)
+  pub tall-kept : (pl : List ℕ) (h p n : ℕ) → length pl ≡ 2 ^ (X .K + 1) → Tall X pl → Placeable X pl h p n → Tall X (place X h (rowAt (X .K) h) p n pl)
   tall-kept pl h p n l k a = place-tall h (rowAt (X .K) h) p n pl (rows (X .K) h (a .high)) (a .row) (a .end) (a .listed) (a .level) k
 
-  module _ (M : Marked X) (pl : List ℕ) (len : length pl ≡ 2 ^ (X .K + 1)) (sane : Sane X (λ q. ⊥) pl) (tall : Tall pl) where
+  module _ (M : Marked X) (pl : List ℕ) (len : length pl ≡ 2 ^ (X .K + 1)) (sane : Sane X (λ q. ⊥) pl) (tall : Tall X pl) where
     inside : (h w q x : ℕ) → w * 2 ^ suc h ≡ 2 ^ (X .K) → q < w + w → getD pl q empty ≡ x → filled x ≡ true → In x (tree (X .K) pl)
     inside h w q x e b z g = let e1 : w * (2 * 2 ^ h) ≡ 2 ^ (X .K) = rw (pow-succ' 2 h) at e in in-tree (X .K) pl q x (omega (arith, wide w h)) (omega (arith, wide w h, two-step (X .K))) z g
 
@@ -129,7 +126,7 @@ module _ (X : Setting) (r : ℕ → ℕ) (f : ℕ) (S : Sound X r f) (M : Marked
   unfolding treeOf
   has-reverse p i l o =
       let a = filled-inv X r f S height (Sane X (λ q. ⊥)) (sane-kept X r f S M) (sane-first X r f S M (2 ^ (X .K + 1))) in
-      let b = filled-inv X r f S height (Tall X r f S) (tall-kept X r f S) (λ h w q e c d g. true-false g (blank-replicate (2 ^ (X .K + 1)) q)) in
+      let b = filled-inv X r f S height (Tall X) (tall-kept X r f S) (λ h w q e c d g. true-false g (blank-replicate (2 ^ (X .K + 1)) q)) in
       let z = filled-inv X r f S height (λ pl. filled (getD pl 0 empty) ≡ false) (zero-kept X) (blank-replicate (2 ^ (X .K + 1)) 0) in
       reached X (S .visited .topo) (S .bound) (S .visited .has) (tree (X .K) (filledPlan X))
       (unplaced X r f S M (filledPlan X) (a .0) (a .1) (b .1) (z .1) (elim (S .visited .new p i) [ inl c ↦ in-nil p c | inr c ↦ c ]) l o)

@@ -12,11 +12,11 @@ use Rattle.rules.specs.Cells.{empty, filled, row, rowAt, firstEmpty}
 use Rattle.rules.specs.Traversal.{Setting}
 use Rattle.rules.specs.Placing.{cellAt, placed}
 use Rattle.rules.proofs.Lists.Members.{split, eqb-true, eqb-false}
-use Rattle.rules.proofs.Needed.Needs.{Sound}
-use Rattle.rules.proofs.Tree.Sane.{Marked, head}
-use Rattle.rules.proofs.Tree.Invariant.{Placeable}
+use Rattle.rules.specs.Inside.Walks.{Sound, Marked, Work}
+use Rattle.rules.proofs.Tree.Sane.{head}
+use Rattle.rules.specs.Inside.Plans.{Placeable, Fair, Behind}
 use Rattle.rules.proofs.Stage.Fuel.{row-length, row-at}
-use Rattle.rules.proofs.Tree.Fair.{Fair, stays, listed-filled}
+use Rattle.rules.proofs.Tree.Fair.{stays, listed-filled}
 
 first-at : (i k : ℕ) (cs : List ℕ) → k < length cs → ((j : ℕ) → j < k → filled (getD cs j empty) ≡ true) → filled (getD cs k empty) ≡ false → firstEmpty i cs ≡ found (i + k)
 unfolding firstEmpty
@@ -29,10 +29,6 @@ unfolding firstEmpty
 first-none i [] h = refl
 first-none i (c ∷ cs) h = rw (h 0 (omega arith), firstEmpty) (first-none (suc i) cs (λ j d. h (suc j) (omega arith)))
 
--- the row's cells before c are filled
-abbrev pub Behind : Setting → ℕ → ℕ → List ℕ → Type 0
-Behind X h c pl = (q : ℕ) → rowAt (X .K) h ≤ q → q < c → filled (getD pl q empty) ≡ true
-
 pub behind-first : (X : Setting) (h : ℕ) (pl : List ℕ) → Behind X h (rowAt (X .K) h) pl
 behind-first X h pl q a b = absurd (omega arith)
 
@@ -40,7 +36,25 @@ behind-first X h pl q a b = absurd (omega arith)
 pub behind-step : (X : Setting) (h c : ℕ) (pl : List ℕ) → Behind X h c pl → filled (getD pl c empty) ≡ true → Behind X h (suc c) pl
 behind-step X h c pl k e q a b = split (eqb q c) (λ d. rw (eqb-true q c d) e) (λ d. let n : q ≢ c = eqb-false q c d in k q a (omega arith))
 
-module _ (X : Setting) (r : ℕ → ℕ) (f : ℕ) (S : Sound X r f) (M : Marked X) (small : length (X .g) ≤ empty) (h : ℕ) (high : h ≤ X .K) where
+module _ (W : Work) (h : ℕ) (high : h ≤ W .X .K) where
+  abbrev X : Setting
+  X = W .X
+
+  abbrev r : ℕ → ℕ
+  r = W .r
+
+  abbrev f : ℕ
+  f = W .f
+
+  abbrev S : Sound X r f
+  S = W .S
+
+  abbrev M : Marked X
+  M = W .M
+
+  abbrev small : length (X .g) ≤ empty
+  small = W .small
+
   at : (pl : List ℕ) (j : ℕ) → j < rowAt (X .K) h → getD (row (X .K) h pl) j empty ≡ getD pl (rowAt (X .K) h + j) empty
   at pl j b = row-at X r f S small h pl j b
 
@@ -61,7 +75,7 @@ module _ (X : Setting) (r : ℕ → ℕ) (f : ℕ) (S : Sound X r f) (M : Marked
       first-none (rowAt (X .K) h) (row (X .K) h pl) (λ j d. rw (at pl j (omega arith)) (k (rowAt (X .K) h + j) (omega arith) (omega arith)))
 
   -- past the cell that is filled
-  pub behind-placed : (pl : List ℕ) (c n : ℕ) → Fair X r f S h pl → Placeable X pl h c n → Behind X h c pl → c < length pl → Behind X h (suc c) (placed X h c n pl)
+  pub behind-placed : (pl : List ℕ) (c n : ℕ) → Fair X h pl → Placeable X pl h c n → Behind X h c pl → c < length pl → Behind X h (suc c) (placed X h c n pl)
   unfolding placed
-  behind-placed pl c n F a k b = behind-step X h c (placed X h c n pl) (λ q x y. rw (stays X r f S M small h c n F a q (k q x y)) (k q x y))
-      (rw (head X h (rowAt (X .K) h) c n pl (omega (arith, a .row, a .end)) b) (listed-filled X r f S small n (a .listed)))
+  behind-placed pl c n F a k b = behind-step X h c (placed X h c n pl) (λ q x y. rw (stays W h c n F a q (k q x y)) (k q x y))
+      (rw (head X h (rowAt (X .K) h) c n pl (omega (arith, a .row, a .end)) b) (listed-filled W n (a .listed)))

@@ -14,19 +14,20 @@ use Rattle.rules.specs.Cells.{filled, empty, rowAt}
 use Rattle.rules.specs.Graph.{leaf, pinOf}
 use Rattle.rules.specs.Traversal.{Setting, levelAt}
 use Rattle.rules.specs.Placing.{place, placed, treeOf, reverseOf}
-use Rattle.rules.specs.Lean.{blank, startLevels}
-use Rattle.rules.proofs.Lists.Members.{In, Out, split, true-false}
-use Rattle.rules.proofs.Walk.Reverse.{Sub, below-in}
-use Rattle.rules.proofs.Needed.Needs.{Sound}
+use Rattle.rules.specs.Inside.Lean.{blank, startLevels}
+use Rattle.rules.specs.Lists.{In, Out, Sub}
+use Rattle.rules.proofs.Lists.Members.{split, true-false}
+use Rattle.rules.proofs.Walk.Reverse.{below-in}
+use Rattle.rules.specs.Inside.Walks.{Sound, Marked, Work}
 use Rattle.rules.proofs.Stage.Lengths.{len-place}
 use Rattle.rules.proofs.Tree.Held.{tree-in, in-tree, node}
 use Rattle.rules.proofs.Stage.Flat.{blank-replicate}
 use Rattle.rules.proofs.Stage.Staged.{two-step, small-filled}
 use Rattle.rules.proofs.Fold.Whole.{zero-kept}
-use Rattle.rules.proofs.Tree.Invariant.{Placeable}
+use Rattle.rules.specs.Inside.Plans.{Placeable, Sane, Tall, Under, TidyAt, Tidy, Fair}
 use Rattle.rules.proofs.Tree.Loads.{wide, rows, first, second}
-use Rattle.rules.proofs.Tree.Sane.{Sane, Marked, frame, head, sane-kept, sane-first}
-use Rattle.rules.proofs.Tree.Cone.{Tall, tall-kept, cone}
+use Rattle.rules.proofs.Tree.Sane.{frame, head, sane-kept, sane-first}
+use Rattle.rules.proofs.Tree.Cone.{tall-kept, cone}
 use Rattle.rules.proofs.Lean.Steady.{Closed, steady}
 
 -- cells of two subtrees of one row
@@ -51,18 +52,6 @@ row-same m (suc h) w v d e =
     let c : v * (2 * 2 ^ h) ≡ m = rw (pow-succ' 2 h) at e in
     omega (arith, row-same m h (2 * w) (2 * v) (omega arith) (omega arith))
 
--- the cell p of the row w, and all under it, are empty
-abbrev pub Under : ℕ → ℕ → List ℕ → Type 0
-Under w p pl = (i : ℕ) → filled (getD pl (p + i * w) empty) ≡ false
-
--- under an empty cell of level j everything is empty
-abbrev pub TidyAt : Setting → ℕ → List ℕ → Type 0
-TidyAt X j pl = (v q : ℕ) → v * 2 ^ j ≡ 2 ^ (X .K) → v ≤ q → q < v + v → filled (getD pl q empty) ≡ false → Under v q pl
-
--- and so at all levels up to h
-abbrev pub Tidy : Setting → ℕ → List ℕ → Type 0
-Tidy X h pl = (j : ℕ) → j ≤ h → TidyAt X j pl
-
 set-tidy : (X : Setting) (h w p n : ℕ) (pl : List ℕ) → w * 2 ^ suc h ≡ 2 ^ (X .K) → p < w + w → Tidy X (suc h) pl → Tidy X h (set pl p n)
 set-tidy X h w p n pl e b k j c v q d x y g i =
     let far : w + w ≤ v = lower-row (2 ^ (X .K)) (suc h) j w v e d (omega arith) in
@@ -80,7 +69,25 @@ mend-tidy X h w p pl pl2 e a b k low fr top j c v q d x y g = split (ltb j h)
     let g0 : filled (getD pl q empty) ≡ false = rw (fr q (λ i o. off 0 i (omega arith))) at g in
     rw s (λ i. rw (fr (q + i * w) (off i)) (k h (omega arith) w q e (omega arith) (omega arith) g0 i)))
 
-module _ (X : Setting) (r : ℕ → ℕ) (f : ℕ) (S : Sound X r f) (small : length (X .g) ≤ empty) where
+module _ (W : Work) where
+  abbrev X : Setting
+  X = W .X
+
+  abbrev r : ℕ → ℕ
+  r = W .r
+
+  abbrev f : ℕ
+  f = W .f
+
+  abbrev S : Sound X r f
+  S = W .S
+
+  abbrev M : Marked X
+  M = W .M
+
+  abbrev small : length (X .g) ≤ empty
+  small = W .small
+
   pub listed-filled : (n : ℕ) → In n (X .seen) → filled n ≡ true
   listed-filled n i = small-filled n (omega (arith, S .bound n i))
 
@@ -109,16 +116,7 @@ module _ (X : Setting) (r : ℕ → ℕ) (f : ℕ) (S : Sound X r f) (small : le
       mend-tidy X (suc h) w p pl (place X (suc h) w p n pl) e a b k (λ j c. low j (omega arith)) (frame X (suc h) w p n pl)
       (rw (head X (suc h) w p n pl (omega arith) (omega (arith, two-step (X .K), wide w h))) (listed-filled n i))
 
--- what holds of a plan while level h is filled
-pub record Fair (X : Setting) (r : ℕ → ℕ) (f : ℕ) (S : Sound X r f) (h : ℕ) (pl : List ℕ) : Type 0 where
-  pub len : length pl ≡ 2 ^ (X .K + 1)
-  pub sane : Sane X (λ q. ⊥) pl
-  pub tall : Tall X r f S pl
-  pub zeroth : filled (getD pl 0 empty) ≡ false
-  pub tidy : Tidy X h pl
-
-module _ (X : Setting) (r : ℕ → ℕ) (f : ℕ) (S : Sound X r f) (M : Marked X) (small : length (X .g) ≤ empty) where
-  pub fair-first : (h : ℕ) → Fair X r f S h (blank X)
+  pub fair-first : (h : ℕ) → Fair X h (blank X)
   unfolding blank
   fair-first h = record {
     len = length-replicate (2 ^ (X .K + 1)) empty;
@@ -128,51 +126,51 @@ module _ (X : Setting) (r : ℕ → ℕ) (f : ℕ) (S : Sound X r f) (M : Marked
     tidy = λ j b v q e a c g i. blank-replicate (2 ^ (X .K + 1)) (q + i * v);
   }
 
-  pub fair-down : (h : ℕ) {pl : List ℕ} → Fair X r f S (suc h) pl → Fair X r f S h pl
+  pub fair-down : (h : ℕ) {pl : List ℕ} → Fair X (suc h) pl → Fair X h pl
   fair-down h k = record { len = k .len; sane = k .sane; tall = k .tall; zeroth = k .zeroth; tidy = λ j b. k .tidy j (omega arith) }
 
   -- the cell that is filled next has only empty cells under it
-  pub bare : (h p n : ℕ) {pl : List ℕ} → Fair X r f S h pl → Placeable X pl h p n → Under (rowAt (X .K) h) p pl
+  pub bare : (h p n : ℕ) {pl : List ℕ} → Fair X h pl → Placeable X pl h p n → Under (rowAt (X .K) h) p pl
   bare h p n k a = k .tidy h (omega arith) (rowAt (X .K) h) p (rows (X .K) h (a .high)) (a .row) (a .end) (a .free)
 
-  pub fair-kept : (h p n : ℕ) {pl : List ℕ} → Fair X r f S h pl → Placeable X pl h p n → Fair X r f S h (placed X h p n pl)
+  pub fair-kept : (h p n : ℕ) {pl : List ℕ} → Fair X h pl → Placeable X pl h p n → Fair X h (placed X h p n pl)
   unfolding placed
   fair-kept h p n {pl} k a = record {
     len = len-place X h (rowAt (X .K) h) p n pl ∙ k .len;
     sane = sane-kept X r f S M pl h p n (k .len) (k .sane) a;
     tall = tall-kept X r f S pl h p n (k .len) (k .tall) a;
     zeroth = zero-kept X pl h p n (k .len) (k .zeroth) a;
-    tidy = place-tidy X r f S small h (rowAt (X .K) h) p n pl (rows (X .K) h (a .high)) (a .row) (a .end) (k .len) (a .listed) (k .tidy) (bare h p n k a);
+    tidy = place-tidy h (rowAt (X .K) h) p n pl (rows (X .K) h (a .high)) (a .row) (a .end) (k .len) (a .listed) (k .tidy) (bare h p n k a);
   }
 
   -- filled cells keep their pins
-  pub stays : (h p n : ℕ) {pl : List ℕ} → Fair X r f S h pl → Placeable X pl h p n → (q : ℕ) → filled (getD pl q empty) ≡ true → getD (placed X h p n pl) q empty ≡ getD pl q empty
+  pub stays : (h p n : ℕ) {pl : List ℕ} → Fair X h pl → Placeable X pl h p n → (q : ℕ) → filled (getD pl q empty) ≡ true → getD (placed X h p n pl) q empty ≡ getD pl q empty
   unfolding placed
   stays h p n {pl} k a q e = frame X h (rowAt (X .K) h) p n pl q (λ i d. true-false (subst (λ (x : ℕ). filled (getD pl x empty) ≡ true) d e) (bare h p n k a i))
 
   -- placing takes nothing out of the tree
-  pub grows : (h p n : ℕ) {pl : List ℕ} → Fair X r f S h pl → Placeable X pl h p n → Sub (treeOf X pl) (treeOf X (placed X h p n pl))
+  pub grows : (h p n : ℕ) {pl : List ℕ} → Fair X h pl → Placeable X pl h p n → Sub (treeOf X pl) (treeOf X (placed X h p n pl))
   unfolding treeOf placed
   grows h p n {pl} k a q e =
       let t = tree-in (X .K) pl q e in
       in-tree (X .K) (place X h (rowAt (X .K) h) p n pl) (t .0) q (t .1) (rw len-place (t .2)) (stays h p n k a (t .0) (rw (t .3) (t .4)) ∙ t .3) (t .4)
 
   -- and puts the pin into it
-  pub joins : (h p n : ℕ) {pl : List ℕ} → Fair X r f S h pl → Placeable X pl h p n → In n (treeOf X (placed X h p n pl))
+  pub joins : (h p n : ℕ) {pl : List ℕ} → Fair X h pl → Placeable X pl h p n → In n (treeOf X (placed X h p n pl))
   unfolding treeOf placed
   joins zero p n k a = absurd (omega (arith, a .low))
   joins (suc h) p n {pl} k a =
       let w : ℕ = rowAt (X .K) (suc h) in
       let e : w * (2 * 2 ^ h) ≡ 2 ^ (X .K) = rw (pow-succ' 2 h) at (rows (X .K) (suc h) (a .high)) in
       let b : p < 2 ^ (X .K) = omega (arith, a .end, wide w h) in
-      in-tree (X .K) (place X (suc h) w p n pl) p n b (rw (len-place, k .len) (omega (arith, two-step (X .K)))) (head X (suc h) w p n pl (omega (arith, a .row, a .end)) (rw (k .len) (omega (arith, two-step (X .K))))) (listed-filled X r f S small n (a .listed))
+      in-tree (X .K) (place X (suc h) w p n pl) p n b (rw (len-place, k .len) (omega (arith, two-step (X .K)))) (head X (suc h) w p n pl (omega (arith, a .row, a .end)) (rw (k .len) (omega (arith, two-step (X .K))))) (listed-filled n (a .listed))
 
   -- placed pins of level 2 or more have placed operands
-  pub closed : {h : ℕ} {pl : List ℕ} → Fair X r f S h pl → Closed X r f S (treeOf X pl)
+  pub closed : {h : ℕ} {pl : List ℕ} → Fair X h pl → Closed X r f S (treeOf X pl)
   unfolding treeOf
   closed {h} {pl} k p x s i l e = cone X r f S M pl (k .len) (k .sane) (k .tall) p e (k .zeroth) l x (below-in (X .g) (X .done) p x i .1)
 
   -- S1
-  pub same-reverse : {h : ℕ} {pl : List ℕ} → Fair X r f S h pl → (x : ℕ) → 1 ≤ levelAt X x → Out x (treeOf X pl) → getD (reverseOf X pl) x 0 ≡ getD (startLevels X) x 0
+  pub same-reverse : {h : ℕ} {pl : List ℕ} → Fair X h pl → (x : ℕ) → 1 ≤ levelAt X x → Out x (treeOf X pl) → getD (reverseOf X pl) x 0 ≡ getD (startLevels X) x 0
   unfolding reverseOf
   same-reverse {h} {pl} k x l o = steady X r f S (treeOf X pl) (closed k) x l o

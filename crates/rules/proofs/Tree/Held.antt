@@ -8,13 +8,12 @@ use native.Mathlib.Omega.{arith}
 use lib.Dec.{ltb}
 use lib.ListN.{length, getD, set, take, length-set, length-take}
 use lib.Seq.{getD-set-other, getD-take}
-use Rattle.rules.specs.Lists.{keep, found}
+use Rattle.rules.specs.Lists.{keep, found, In, Sub}
 use Rattle.rules.specs.Cells.{filled, empty, firstEmpty}
 use Rattle.rules.specs.Graph.{Node, leaf, gate, pinOf}
 use Rattle.rules.specs.Traversal.{Setting, levelAt}
 use Rattle.rules.specs.Placing.{place, tree}
-use Rattle.rules.proofs.Lists.Members.{In, split, true-false, in-keep, keep-in, in-distinct, distinct-in, in-getD, getD-in}
-use Rattle.rules.proofs.Walk.Reverse.{Sub}
+use Rattle.rules.proofs.Lists.Members.{split, true-false, in-keep, keep-in, in-distinct, distinct-in, in-getD, getD-in}
 
 pub in-tree : (K : ℕ) (pl : List ℕ) (i q : ℕ) → i < 2 ^ K → i < length pl → getD pl i empty ≡ q → filled q ≡ true → In q (tree K pl)
 unfolding tree

@@ -8,26 +8,19 @@ use native.Mathlib.Omega.{arith}
 use lib.Dec.{eqb, ltb, leb}
 use lib.ListN.{length, getD, drop, replicate, length-replicate, length-take, length-drop}
 use lib.Seq.{getD-take, getD-drop}
-use Rattle.rules.specs.Lists.{mem, gather, Found, nothing, found}
+use Rattle.rules.specs.Inside.Plans.{Placeable}
+use Rattle.rules.specs.Lists.{mem, gather, Found, nothing, found, In}
 use Rattle.rules.specs.Cells.{filled, empty, firstEmpty, rowAt, row}
 use Rattle.rules.specs.Traversal.{Setting, levelAt}
 use Rattle.rules.specs.Placing.{place, placed, tree, treeOf, reverseOf, neededOf, needed, asks, choose, cellAt, pinAt, roomy, fill, filledPlan}
 use Rattle.rules.specs.Ending.{Put, meet, fillIn, putCell, putCells, Sparse, putRun, goesOn, putRuns, Plan?, full, plan, putRest, inNeed, lastStage, written, rest}
-use Rattle.rules.proofs.Lists.Members.{In, split, eqb-true, and-true, in-here, in-there, in-nil, keep-in, gather-in, distinct-in}
-use Rattle.rules.proofs.Needed.Needs.{Sound, need-listed, asked-low}
+use Rattle.rules.proofs.Lists.Members.{split, eqb-true, and-true, in-here, in-there, in-nil, keep-in, gather-in, distinct-in}
+use Rattle.rules.specs.Inside.Walks.{Sound}
+use Rattle.rules.proofs.Needed.Needs.{need-listed, asked-low}
 use Rattle.rules.proofs.Tree.Held.{firstEmpty-found}
-use Rattle.rules.proofs.Stage.Puts.{list, cell, Runs, none, more, runs-fit}
+use Rattle.rules.specs.Inside.Counts.{Runs, none, more}
+use Rattle.rules.proofs.Stage.Puts.{list, cell, runs-fit}
 use Rattle.rules.proofs.Stage.Lengths.{len-place}
-
--- pin n may be placed at the empty cell p of level h
-pub record Placeable (X : Setting) (pl : List ℕ) (h p n : ℕ) : Type 0 where
-  pub low : 1 ≤ h
-  pub high : h ≤ X .K
-  pub row : rowAt (X .K) h ≤ p
-  pub end : p < rowAt (X .K) h + rowAt (X .K) h
-  pub free : filled (getD pl p empty) ≡ false
-  pub listed : In n (X .seen)
-  pub level : levelAt X n ≤ h
 
 -- the lowest empty cell of a row
 pub row-empty : (K h : ℕ) (pl : List ℕ) (c : ℕ) → firstEmpty (rowAt K h) (row K h pl) ≡ found c → (rowAt K h ≤ c) × (c < rowAt K h + rowAt K h) × (filled (getD pl c empty) ≡ false)

@@ -9,22 +9,24 @@ use native.Mathlib.Nat.{pow-succ', mul-le-mul-left, one-le-pow, add-zero, add-su
 use lib.Dec.{ltb}
 use lib.ListN.{length, getD, set, replicate}
 use borrow.Author.Tests.{ltb-true, ltb-false}
-use Rattle.rules.specs.Lists.{mem}
+use Rattle.rules.specs.Lists.{mem, In, Out}
 use Rattle.rules.specs.Cells.{filled, empty, rowAt}
 use Rattle.rules.specs.Graph.{Node, leaf, gate, pinOf, operands, below}
 use Rattle.rules.specs.Traversal.{WordRule, over, Setting, setting, levelAt}
 use Rattle.rules.specs.Placing.{place}
 use Rattle.rules.specs.Ending.{stage, oneStage}
 use Rattle.rules.specs.Depth.{depth}
-use Rattle.rules.proofs.Lists.Members.{In, Out, split, true-false, in-here, in-there, in-nil}
+use Rattle.rules.proofs.Lists.Members.{split, true-false, in-here, in-there, in-nil}
 use Rattle.rules.proofs.Walk.Levels.{depth-at, over-above}
 use Rattle.rules.proofs.Walk.Reverse.{in-below, topo-closed}
-use Rattle.rules.proofs.Needed.Needs.{Sound, Graph, setting-sound}
-use Rattle.rules.proofs.Walk.Traverse.{From}
+use Rattle.rules.specs.Inside.Walks.{Sound, Graph, Ready}
+use Rattle.rules.proofs.Needed.Needs.{setting-sound}
+use Rattle.rules.specs.Loops.{From}
 use Rattle.rules.proofs.Stage.Staged.{the-end, stage-holds}
-use Rattle.rules.proofs.Stage.Depth.{Ready, still-ready}
+use Rattle.rules.proofs.Stage.Depth.{still-ready}
 use Rattle.rules.proofs.Stage.Flat.{blank-replicate}
-use Rattle.rules.proofs.Tree.Invariant.{Placeable, final}
+use Rattle.rules.specs.Inside.Plans.{Placeable}
+use Rattle.rules.proofs.Tree.Invariant.{final}
 use Rattle.rules.proofs.Tree.Held.{node}
 
 pub wide : (w h : ℕ) → w + w ≤ w * (2 * 2 ^ h)

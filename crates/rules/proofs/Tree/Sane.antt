@@ -14,9 +14,10 @@ use Rattle.rules.specs.Cells.{filled, empty, rowAt}
 use Rattle.rules.specs.Graph.{leaf, gate, pinOf}
 use Rattle.rules.specs.Traversal.{Setting, levelAt}
 use Rattle.rules.specs.Placing.{place}
-use Rattle.rules.proofs.Lists.Members.{In, Out, split, true-false, eqb-true, eqb-false}
-use Rattle.rules.proofs.Needed.Needs.{Sound}
-use Rattle.rules.proofs.Tree.Invariant.{Placeable}
+use Rattle.rules.specs.Lists.{In, Out}
+use Rattle.rules.proofs.Lists.Members.{split, true-false, eqb-true, eqb-false}
+use Rattle.rules.specs.Inside.Walks.{Sound, Marked}
+use Rattle.rules.specs.Inside.Plans.{Placeable, Step, copies, splits, Sane}
 use Rattle.rules.proofs.Stage.Flat.{blank-replicate}
 use Rattle.rules.proofs.Stage.Staged.{two-step}
 use Rattle.rules.proofs.Stage.Lengths.{len-place}
@@ -62,22 +63,9 @@ head X (suc h) w p n pl b l =
     (λ d. node (getD (X .g) n leaf) (λ c. rw (d, c, place) s)
     (λ x y c. rw (d, c, place) (frame X h (2 * w) (p + 2 * w) (pinOf y) _ p n2 ∙ frame X h (2 * w) (p + w) (pinOf x) (set pl p n) p n1 ∙ s)))
 
--- what the cell at q does, w being its row's size
-pub data Step (X : Setting) (pl : List ℕ) (w q : ℕ) : Type 0 where
-  copies : getD pl (q + w) empty ≡ getD pl q empty → Step X pl w q
-  splits : {a b : ℕ} → Out (getD pl q empty) (X .done) → getD (X .g) (getD pl q empty) leaf ≡ gate a b → getD pl (q + w) empty ≡ pinOf a → getD pl (q + 2 * w) empty ≡ pinOf b → Step X pl w q
-
--- every filled cell above level 0 but those exempt
-abbrev pub Sane : Setting → (ℕ → Type 0) → List ℕ → Type 0
-Sane X E pl = (h w q : ℕ) → w * 2 ^ suc h ≡ 2 ^ (X .K) → w ≤ q → q < w + w → (E q → ⊥) → filled (getD pl q empty) ≡ true → Step X pl w q
-
 -- the cell p is empty, or the cells above it are exempt
 abbrev Free : Setting → (ℕ → Type 0) → List ℕ → ℕ → Type 0
 Free X E pl p = (filled (getD pl p empty) ≡ false) ⊎ ((h w q : ℕ) → w * 2 ^ suc h ≡ 2 ^ (X .K) → w ≤ q → q < w + w → (q + w ≡ p) ⊎ (q + 2 * w ≡ p) → E q)
-
--- operands of gates are no empty marks
-abbrev pub Marked : Setting → Type 0
-Marked X = (n a b : ℕ) → getD (X .g) n leaf ≡ gate a b → (filled (pinOf a) ≡ true) × (filled (pinOf b) ≡ true)
 
 module _ (X : Setting) (r : ℕ → ℕ) (f : ℕ) (S : Sound X r f) (M : Marked X) where
   not-there : (E : ℕ → Type 0) (pl : List ℕ) (p : ℕ) → Free X E pl p → (h w q c v : ℕ) → w * 2 ^ suc h ≡ 2 ^ (X .K) → w ≤ q → q < w + w → (E q → ⊥) → (q + w ≡ c) ⊎ (q + 2 * w ≡ c) → getD pl c empty ≡ v → filled v ≡ true → c ≢ p

@@ -9,14 +9,13 @@ use lib.Dec.{eqb, ltb}
 use lib.ListN.{length, getD, set, take, drop, length-set, length-take, length-drop}
 use lib.Seq.{getD-set-same, getD-set-other, take-set-lt, take-set-le, drop-set-lt, drop-set-add, getD-take, getD-drop}
 use borrow.Author.Tests.{ltb-true}
-use Rattle.rules.specs.Lists.{mem, keep, distinct, count}
+use Rattle.rules.specs.Lists.{mem, keep, distinct, count, In, Out, Sub, Once, nobody, one}
 use Rattle.rules.specs.Cells.{empty, filled, rowAt, row}
 use Rattle.rules.specs.Placing.{tree}
-use Rattle.rules.specs.Lean.{cellsHolding}
-use Rattle.rules.proofs.Lists.Members.{In, Out, split, true-false, eqb-true, eqb-false, in-here, in-there, in-cons, in-nil, in-keep, keep-in, in-distinct, distinct-in}
-use Rattle.rules.proofs.Walk.Reverse.{Sub}
+use Rattle.rules.specs.Inside.Lean.{cellsHolding}
+use Rattle.rules.proofs.Lists.Members.{split, true-false, eqb-true, eqb-false, in-here, in-there, in-cons, in-nil, in-keep, keep-in, in-distinct, distinct-in}
 use Rattle.rules.proofs.Tree.Held.{in-tree, tree-in}
-use Rattle.rules.proofs.Stage.Last.{Once, nobody, one, once-length}
+use Rattle.rules.proofs.Stage.Last.{once-length}
 use Rattle.rules.proofs.Written.Words.{once-insertAll}
 use Rattle.rules.proofs.Tree.Loads.{set-either}
 use Rattle.rules.proofs.Needed.Lacks.{same-truth, true-ltb}

@@ -9,7 +9,7 @@ use Rattle.rules.specs.Lists.{insertAll, distinct, gather}
 use Rattle.rules.specs.Graph.{Node, below}
 use Rattle.rules.specs.Traversal.{thread, raise, lift, Setting, reverseLevels}
 use Rattle.rules.specs.Placing.{treeOf}
-use Rattle.rules.specs.Lean.{startLevels, buckets, levelList, candidates, lacks, wanted}
+use Rattle.rules.specs.Inside.Lean.{startLevels, buckets, levelList, candidates, lacks, wanted}
 use Rattle.rules.proofs.Walk.Reverse.{nat}
 use Rattle.rules.proofs.Tree.Loads.{set-either}
 use Rattle.rules.proofs.Lean.Buckets.{rank-buckets}

@@ -9,8 +9,9 @@ use lib.Seq.{getD-set-same, getD-set-other}
 use Rattle.rules.specs.Graph.{Node, below}
 use Rattle.rules.specs.Traversal.{over, levels}
 use Rattle.rules.specs.Depth.{depth}
-use Rattle.rules.proofs.Lists.Members.{In, in-here, in-there, in-cons, in-nil, in-out}
-use Rattle.rules.proofs.Walk.Traverse.{Topo, none, more, Ranked}
+use Rattle.rules.specs.Lists.{In}
+use Rattle.rules.proofs.Lists.Members.{in-here, in-there, in-cons, in-nil, in-out}
+use Rattle.rules.specs.Inside.Walks.{Topo, none, more, Ranked}
 
 pub over-ext : (m n : ℕ → ℕ) (xs : List ℕ) → ((x : ℕ) → In x xs → m x ≡ n x) → over m xs ≡ over n xs
 unfolding over

@@ -6,11 +6,12 @@ use mathlib.Core.List.{List, [], _∷_, _++_}
 use native.Mathlib.Omega.{arith}
 use lib.ListN.{length, getD, set, replicate, length-set, length-replicate}
 use lib.Seq.{getD-set-same, getD-set-other}
-use Rattle.rules.specs.Lists.{mem}
+use Rattle.rules.specs.Lists.{mem, In, Out, Sub}
 use Rattle.rules.specs.Graph.{Node, leaf, operands, below}
 use Rattle.rules.specs.Traversal.{thread, raise, lift, Setting, reverseLevels}
-use Rattle.rules.proofs.Lists.Members.{In, Out, split, true-false, in-there, in-cons, in-nil, out-head, out-tail, in-append-right}
-use Rattle.rules.proofs.Walk.Traverse.{Topo, none, more, From, start, step}
+use Rattle.rules.proofs.Lists.Members.{split, true-false, in-there, in-cons, in-nil, out-head, out-tail, in-append-right}
+use Rattle.rules.specs.Inside.Walks.{Topo, none, more}
+use Rattle.rules.specs.Loops.{From, start, step}
 
 -- what is followed from a pin when more pins stop
 pub below-in : (g : List Node) (stop : List ℕ) (p x : ℕ) → In x (below g stop p) → Out p stop × In x (operands (getD g p leaf))
@@ -20,9 +21,6 @@ below-in g stop p x e = split (mem p stop) (λ d. in-nil x (rw (d, below) at e))
 pub in-below : (g : List Node) (stop : List ℕ) (p x : ℕ) → Out p stop → In x (operands (getD g p leaf)) → In x (below g stop p)
 unfolding below
 in-below g stop p x d e = rw (d, below) e
-
-abbrev pub Sub : List ℕ → List ℕ → Type 0
-Sub xs ys = (q : ℕ) → In q xs → In q ys
 
 pub out-sub : (xs ys : List ℕ) → Sub xs ys → (q : ℕ) → Out q ys → Out q xs
 out-sub xs ys h q d = split (mem q xs) (λ e. true-false (h q e) d) (λ e. e)

@@ -3,31 +3,12 @@ use Prim.Native.Nat.{ℕ, zero, suc, _<_}
 use mathlib.Core.Logic.{_⊎_, inl, inr}
 use mathlib.Core.List.{List, [], _∷_}
 use native.Mathlib.Omega.{arith}
-use Rattle.rules.specs.Lists.{mem}
+use Rattle.rules.specs.Inside.Walks.{Topo, none, more, Ranked, Visited}
+use Rattle.rules.specs.Loops.{From, start, step}
+use Rattle.rules.specs.Lists.{mem, In, Out}
 use Rattle.rules.specs.Graph.{Node, below}
 use Rattle.rules.specs.Traversal.{thread, visit, traverse}
-use Rattle.rules.proofs.Lists.Members.{In, Out, split, true-false, in-here, in-there, in-cons, in-nil}
-
--- a list, last pin first: no pin twice, and what is followed from a pin comes before it
-pub data Topo (g : List Node) (done : List ℕ) : List ℕ → Type 0 where
-  none : Topo g done []
-  more : {p : ℕ} {s : List ℕ} → Out p s → ((x : ℕ) → In x (below g done p) → In x s) → Topo g done s → Topo g done (p ∷ s)
-
--- pin q is reached from one of some pins
-pub data From (g : List Node) (done ps : List ℕ) : ℕ → Type 0 where
-  start : {q : ℕ} → In q ps → From g done ps q
-  step : {q x : ℕ} → From g done ps q → In x (below g done q) → From g done ps x
-
--- a rank that falls along what is followed
-abbrev pub Ranked : List Node → List ℕ → (ℕ → ℕ) → Type 0
-Ranked g done r = (p x : ℕ) → In x (below g done p) → r x < r p
-
--- t is s with all that is reached from ps
-pub record Visited (g : List Node) (done ps s t : List ℕ) : Type 0 where
-  pub topo : Topo g done t
-  pub has : (q : ℕ) → In q ps → In q t
-  pub kept : (q : ℕ) → In q s → In q t
-  pub new : (q : ℕ) → In q t → In q s ⊎ From g done ps q
+use Rattle.rules.proofs.Lists.Members.{split, true-false, in-here, in-there, in-cons, in-nil}
 
 pub from-mono : (g : List Node) (done ps qs : List ℕ) → ((x : ℕ) → In x ps → From g done qs x) → {q : ℕ} → From g done ps q → From g done qs q
 from-mono g done ps qs h (start {q = q} e) = h q e

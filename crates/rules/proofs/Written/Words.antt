@@ -10,16 +10,16 @@ use lib.Dec.{eqb, ltb, leb}
 use lib.ListN.{length, getD, take, drop, length-take, length-drop}
 use lib.Seq.{getD-set-same, getD-set-other, getD-take, getD-drop}
 use borrow.Author.Tests.{ltb-true, ltb-false}
-use Rattle.rules.specs.Lists.{mem, keep, insert, insertAll, count, init, lastOf, swapOut, swapOutAll}
+use Rattle.rules.specs.Lists.{mem, keep, insert, insertAll, count, init, lastOf, swapOut, swapOutAll, In, Out, Sub, Once, nobody, one}
 use Rattle.rules.specs.Cells.{filled, empty, firstEmpty, rowAt, row}
 use Rattle.rules.specs.Traversal.{Setting}
 use Rattle.rules.specs.Placing.{place, tree}
 use Rattle.rules.specs.Ending.{Put, meet, fillIn, putCell, putCells, Sparse, putRun, goesOn, putRuns, addSparse, sparseFrom, sparseRuns, Plan?, full, plan, putRest, inTree, lastStage, written, rest, wordsIn, wordsUp, moreWords, stage, ending, close, finish}
-use Rattle.rules.proofs.Lists.Members.{In, Out, split, true-false, eqb-true, in-here, in-there, in-cons, in-nil, in-append-left, in-append-right, out-append, eqb-same, out-head, out-tail, keep-in, insert-in, insertAll-in, in-insert, in-insert-old}
-use Rattle.rules.proofs.Walk.Reverse.{Sub}
+use Rattle.rules.proofs.Lists.Members.{split, true-false, eqb-true, in-here, in-there, in-cons, in-nil, in-append-left, in-append-right, out-append, eqb-same, out-head, out-tail, keep-in, insert-in, insertAll-in, in-insert, in-insert-old}
 use Rattle.rules.proofs.Tree.Held.{length-place1, place1-other}
-use Rattle.rules.proofs.Stage.Puts.{list, cell, Runs, none, more, Keeps, cell-keeps, cells-keep, lowest}
-use Rattle.rules.proofs.Stage.Last.{Once, nobody, one, swapped}
+use Rattle.rules.specs.Inside.Counts.{Runs, none, more}
+use Rattle.rules.proofs.Stage.Puts.{list, cell, Keeps, cell-keeps, cells-keep, lowest}
+use Rattle.rules.proofs.Stage.Last.{swapped}
 use Rattle.rules.proofs.Tree.Loads.{rows}
 use Rattle.rules.proofs.Stage.Staged.{two-step, not-refused}
 

@@ -6,21 +6,21 @@ use mathlib.Core.Bool.{false, not}
 use mathlib.Core.List.{List, [], _∷_, _++_}
 use native.Mathlib.Omega.{arith}
 use lib.ListN.{length, getD}
-use Rattle.rules.specs.Lists.{mem, keep, insertAll}
+use Rattle.rules.specs.Lists.{mem, keep, insertAll, In, Out, nobody}
 use Rattle.rules.specs.Cells.{filled, empty, rowAt}
 use Rattle.rules.specs.Graph.{Node}
 use Rattle.rules.specs.Traversal.{WordRule, Setting, setting}
 use Rattle.rules.specs.Placing.{treeOf, neededOf, filledPlan}
 use Rattle.rules.specs.Ending.{plan, inNeed, inTree, lastStage, written, rest, moreWords, stage, oneStage}
 use Rattle.rules.specs.Build.{Stage, Answer, refusal, whole, more, stages}
-use Rattle.rules.proofs.Lists.Members.{In, Out, split, true-false, and-true, in-nil, in-append-left, in-append-right, keep-in, in-keep, insertAll-in}
-use Rattle.rules.proofs.Needed.Needs.{Sound, Graph, setting-sound}
+use Rattle.rules.proofs.Lists.Members.{split, true-false, and-true, in-nil, in-append-left, in-append-right, keep-in, in-keep, insertAll-in}
+use Rattle.rules.specs.Inside.Walks.{Sound, Graph, Ready}
+use Rattle.rules.proofs.Needed.Needs.{setting-sound}
 use Rattle.rules.proofs.Tree.Held.{tree-in}
 use Rattle.rules.proofs.Stage.Puts.{runs-fit}
-use Rattle.rules.proofs.Stage.Last.{nobody}
 use Rattle.rules.proofs.Stage.Staged.{half-height, two-step, length-filledPlan, written-keeps, need-filled, served}
 use Rattle.rules.proofs.Stage.Flat.{blank-replicate}
-use Rattle.rules.proofs.Stage.Depth.{Ready, still-ready, multiple, stage-cases}
+use Rattle.rules.proofs.Stage.Depth.{still-ready, multiple, stage-cases}
 use Rattle.rules.proofs.Tree.Invariant.{final}
 use Rattle.rules.proofs.Fold.Whole.{zero-kept, above-zero}
 use Rattle.rules.proofs.Written.Words.{Stands, Shows, runs-show, rest-stands, runs-aligned, wordsUp-has, Finished, finished-words, left-out, once-insertAll}

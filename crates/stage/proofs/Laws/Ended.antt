@@ -5,10 +5,10 @@ use mathlib.Core.List.{List, _++_}
 use Prim.Native.Nat.{ℕ, _+_, _*_, _<_, _≤_}
 use native.Mathlib.Omega.{arith}
 use lib.ListN.{length, getD}
-use Rattle.rules.specs.Lists.{mem, swapOutAll}
+use Rattle.rules.specs.Lists.{mem, swapOutAll, In}
 use Rattle.rules.specs.Placing.{tree}
 use Rattle.rules.specs.Ending.{close}
-use Rattle.rules.proofs.Lists.Members.{In, split}
+use Rattle.rules.proofs.Lists.Members.{split}
 use Rattle.columns.specs.Fields.{ORDER, DONE, WAITING, CELLS}
 use Rattle.columns.specs.Lists.{list, bit}
 use Rattle.columns.proofs.Area.Frames.{frame-then, frame-more, frame-room}

@@ -8,9 +8,10 @@ use native.Mathlib.Omega.{arith}
 use lib.Dec.{ltb}
 use lib.ListN.{length, take, length-take}
 use lib.Seq.{take-all}
+use Rattle.stage_walk.proofs.Contexts.{work}
 use Rattle.rules.specs.Placing.{neededOf}
 use Rattle.rules.specs.Ending.{putRest, written, rest, finish}
-use Rattle.rules.proofs.Lists.Members.{In}
+use Rattle.rules.specs.Lists.{In, laidAt}
 use Rattle.rules.proofs.Needed.Needs.{need-listed}
 use Rattle.rules.proofs.Needed.Lacks.{same-needed, wanted-low, true-ltb, false-ltb}
 use Rattle.rules.proofs.Stage.Branches.{finish-seven, finish-full, finish-none}
@@ -30,7 +31,6 @@ use Rattle.stage_ending.specs.Rest.{RestAt, Filled}
 use Rattle.stage.specs.declared.finish.Outcome.{Outcome}
 use Rattle.stage.specs.Finish.{FinishAt, Changed, touched, Finished, Midway, RestingAt, LastingAt, Ends}
 use Rattle.rules.specs.Traversal.{levelAt}
-use Rattle.rules.specs.Lists.{laidAt}
 
 pub changed-then : {fs : List ℕ} {m at room : ℕ} {pl w words pl1 w1 words1 pl2 w2 words2 : List ℕ} → Changed fs m at room pl w words pl1 w1 words1 → Changed fs m at room pl1 w1 words1 pl2 w2 words2 → Changed fs m at room pl w words pl2 w2 words2
 changed-then a b = record {
@@ -125,7 +125,7 @@ module _ {C : Context} {m K half o n q : ℕ} {asked : Asked} {at room : ℕ} {g
   end-at = record { stands = A .stands; begun = A .set .begun; height = A .height; row = A .row; ruled = A .ruled; marks = A .marks .zero; spare = A .spare .zero; fits = A .fits }
 
   low-needed : (x : ℕ) → In x (neededOf (C .X) pl) → In x (C .X .seen) × (levelAt (C .X) x ≤ 1)
-  low-needed x i = (need-listed (C .X) (C .r) (length (C .X .g)) (C .S) pl x i, wanted-low (C .X) pl x (rw (same-needed (C .X) (C .r) (length (C .X .g)) (C .S) (C .M) (A .stands .fair)) at i))
+  low-needed x i = (need-listed (C .X) (C .r) (length (C .X .g)) (C .S) pl x i, wanted-low (C .X) pl x (rw (same-needed (work C) (A .stands .fair)) at i))
 
   module _ {s : Spent} {pl1 w1 words1 : List ℕ} (R : Ran C m at room gates pl w words s pl1 w1 words1) where
     abbrev early : List ℕ

@@ -7,9 +7,9 @@ use Prim.Native.Nat.{ℕ, _+_, _*_, _<_, _≤_}
 use native.Mathlib.Omega.{arith}
 use lib.Dec.{leb, ltb}
 use lib.ListN.{length, getD, length-append}
-use Rattle.rules.specs.Lists.{insertAll, laidAt}
+use Rattle.rules.specs.Lists.{insertAll, laidAt, In}
 use Rattle.rules.specs.Ending.{inTree, lastStage, written, moreWords}
-use Rattle.rules.proofs.Lists.Members.{In, split, keep-in, insertAll-in}
+use Rattle.rules.proofs.Lists.Members.{split, keep-in, insertAll-in}
 use Rattle.rules.proofs.Needed.Lacks.{leb-true, false-ltb}
 use Rattle.rules.proofs.Stage.Branches.{finish-last, finish-more}
 use Rattle.columns.specs.Fields.{STACK, MARK, TAIL}

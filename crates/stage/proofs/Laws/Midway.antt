@@ -7,15 +7,15 @@ use native.Mathlib.Omega.{arith}
 use lib.Dec.{eqb}
 use lib.ListN.{length, getD}
 use borrow.Author.Tests.{ne-eqb}
-use Rattle.rules.specs.Lists.{mem, keep, isNil}
+use Rattle.rules.specs.Lists.{mem, keep, isNil, In, Out}
 use Rattle.rules.specs.Cells.{empty, filled, levelOf, rowStart}
 use Rattle.rules.specs.Traversal.{Setting}
 use Rattle.rules.specs.Placing.{tree, treeOf, neededOf}
 use Rattle.rules.specs.Ending.{inTree, inNeed, untouched, lastStage, written, moreWords}
-use Rattle.rules.proofs.Lists.Members.{In, Out, split, true-false, in-keep, keep-in, and-true, in-nil}
+use Rattle.rules.proofs.Lists.Members.{split, true-false, in-keep, keep-in, and-true, in-nil}
 use Rattle.rules.proofs.Cells.Positions.{position-placed}
 use Rattle.rules.proofs.Needed.Lacks.{keep-ext, same-truth}
-use Rattle.rules.proofs.Tree.Fair.{Fair}
+use Rattle.rules.specs.Inside.Plans.{Fair}
 use Rattle.rules.proofs.Tree.Held.{tree-in}
 use Rattle.rules.proofs.Tree.Tally.{tree-cells}
 use Rattle.rules.proofs.Stage.Staged.{two-step, small-filled}
@@ -72,7 +72,7 @@ within-marks {g} {m} {xs} {ys} M sub = record { zero = λ p h o. M .mark p h ∙
 
 -- ---- the plan's cells hold listed pins
 
-module _ (C : Context) {h : ℕ} {pl : List ℕ} (F : Fair (C .X) (C .r) (length (C .X .g)) (C .S) h pl) where
+module _ (C : Context) {h : ℕ} {pl : List ℕ} (F : Fair (C .X) h pl) where
   pub cell-listed : (q : ℕ) → q < length pl → filled (getD pl q empty) ≡ true → In (getD pl q empty) (C .X .seen)
   cell-listed zero b e = true-false e (F .zeroth)
   cell-listed (suc q) b e =

@@ -5,16 +5,16 @@ use Rattle.stage.proofs.build_one_stage.Statement.{statement}
 use Rattle.stage.proofs.build_one_stage.Tie as tie
 
 prepare-requires : tie.Need-prepare-requires
-prepare-requires c κs = record { C = _; at = stage-prepare (c .before .before .before .before .before .pre .1 .at) }
+prepare-requires c κs = record { it = _; at = stage-prepare (c .before .before .before .before .before .pre .1 .at) }
 
 fill-tree-requires : tie.Need-fill-tree-requires
-fill-tree-requires c κs = let s = c .before .before .before .before .before .before .before .before .before .before .pre .1 in record { C = _; at = stage-fill (s .at) (c .before .before .before .before .prepare .ensures .all (s .C) (stage-prepare (s .at))) }
+fill-tree-requires c κs = let s = c .before .before .before .before .before .before .before .before .before .before .pre .1 in record { it = _; at = stage-fill (s .at) (c .before .before .before .before .prepare .ensures .all (s .it) (stage-prepare (s .at))) }
 
 finish-requires : tie.Need-finish-requires
-finish-requires c κs = let s = c .before .before .before .before .before .before .before .before .before .before .before .before .before .before .before .before .before .before .pre .1 in let P = c .before .before .before .before .before .before .before .before .before .before .before .before .prepare .ensures .all (s .C) (stage-prepare (s .at)) in (c .before .before .before .before .before .before .before .before .before .before .before .before .before .before .before .before .before .before .pre .0, record { C = _; at = stage-finish (s .at) P (c .before .before .before .before .before .before .before .fill-tree .ensures .all (s .C) (stage-fill (s .at) P)) })
+finish-requires c κs = let s = c .before .before .before .before .before .before .before .before .before .before .before .before .before .before .before .before .before .before .pre .1 in let P = c .before .before .before .before .before .before .before .before .before .before .before .before .prepare .ensures .all (s .it) (stage-prepare (s .at)) in (c .before .before .before .before .before .before .before .before .before .before .before .before .before .before .before .before .before .before .pre .0, record { it = _; at = stage-finish (s .at) P (c .before .before .before .before .before .before .before .fill-tree .ensures .all (s .it) (stage-fill (s .at) P)) })
 
 forget-requires : tie.Need-forget-requires
-forget-requires c κs = let s = c .before .before .before .before .before .before .before .before .before .before .before .before .before .before .before .before .before .before .before .before .before .before .before .before .before .before .pre .1 in let P = c .before .before .before .before .before .before .before .before .before .before .before .before .before .before .before .before .before .before .before .before .prepare .ensures .all (s .C) (stage-prepare (s .at)) in let F = c .before .before .before .before .before .before .before .before .before .before .before .before .before .before .before .fill-tree .ensures .all (s .C) (stage-fill (s .at) P) in stage-forget (s .at) P F (c .before .before .before .before .before .before .before .finish .ensures .all (s .C) (stage-finish (s .at) P F))
+forget-requires c κs = let s = c .before .before .before .before .before .before .before .before .before .before .before .before .before .before .before .before .before .before .before .before .before .before .before .before .before .before .pre .1 in let P = c .before .before .before .before .before .before .before .before .before .before .before .before .before .before .before .before .before .before .before .before .prepare .ensures .all (s .it) (stage-prepare (s .at)) in let F = c .before .before .before .before .before .before .before .before .before .before .before .before .before .before .before .fill-tree .ensures .all (s .it) (stage-fill (s .at) P) in stage-forget (s .at) P F (c .before .before .before .before .before .before .before .finish .ensures .all (s .it) (stage-finish (s .at) P F))
 
 same-length : tie.Need-same-length
 same-length c = search needs

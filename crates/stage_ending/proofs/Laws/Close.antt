@@ -10,9 +10,8 @@ use lib.Dec.{eqb}
 use lib.ListN.{length, getD, set, take, drop, length-take, take-append-drop}
 use lib.Seq.{take-suc, take-all, getD-take}
 use borrow.Author.Tests.{eq-eqb, ne-eqb}
-use Rattle.rules.specs.Lists.{mem, keep, insertAll, swapOut, swapOutAll}
-use Rattle.rules.proofs.Lists.Members.{In, Out, split, in-getD, getD-in, true-false, in-append-left, keep-append, insertAll-append}
-use Rattle.rules.proofs.Stage.Last.{Once, nobody, one}
+use Rattle.rules.specs.Lists.{mem, keep, insertAll, swapOut, swapOutAll, In, Out, Once, nobody, one}
+use Rattle.rules.proofs.Lists.Members.{split, in-getD, getD-in, true-false, in-append-left, keep-append, insertAll-append}
 use Rattle.rules.proofs.Written.Words.{left-out}
 use Rattle.columns.specs.Fields.{ORDER, DONE, WAITING, CELLS, STACK, MARK, SPARE}
 use Rattle.columns.specs.Area.{among, Frame}

@@ -3,10 +3,10 @@ use mathlib.Core.Path.{_≡_, refl}
 use mathlib.Core.Bool.{Bool, true}
 use mathlib.Core.List.{List, [], _∷_}
 use Prim.Native.Nat.{ℕ, zero, suc, _*_, _/_, _<_}
-use Rattle.rules.specs.Lists.{mem, insert}
+use Rattle.rules.specs.Lists.{mem, insert, In, Out}
 use Rattle.rules.specs.Cells.{empty, filled, rowAt, row}
 use Rattle.rules.specs.Ending.{wordsIn, wordsUp}
-use Rattle.rules.proofs.Lists.Members.{In, Out, split, in-here, in-there}
+use Rattle.rules.proofs.Lists.Members.{split, in-here, in-there}
 use Rattle.rules.proofs.Stage.Branches.{words-in, words-out}
 use Rattle.rules.proofs.Tree.Back.{not-filled}
 use Rattle.stage_ending.specs.Words.{Pins, wordsAt, wordsFrom}

@@ -15,17 +15,18 @@ use Rattle.rules.specs.Ending.{plan, putRest}
 use Rattle.rules.proofs.Lists.Members.{split, true-false}
 use Rattle.rules.proofs.Stage.Staged.{two-step, half-height}
 use Rattle.rules.proofs.Stage.Branches.{rest-skip, rest-full, rest-put}
-use Rattle.rules.proofs.Tree.Invariant.{Placeable, row-empty}
+use Rattle.rules.specs.Inside.Plans.{Placeable, Behind}
+use Rattle.rules.proofs.Tree.Invariant.{row-empty}
 use Rattle.rules.proofs.Tree.Held.{length-place1}
 use Rattle.rules.proofs.Tree.Tally.{tree-cells}
 use Rattle.rules.proofs.Tree.Fair.{listed-filled}
-use Rattle.rules.proofs.Tree.Cursor.{Behind, behind-first, behind-placed}
+use Rattle.rules.proofs.Tree.Cursor.{behind-first, behind-placed}
 use Rattle.columns.specs.Fields.{CELLS, NEEDED, MARK}
 use Rattle.columns.specs.Lists.{list, span, Marks}
 use Rattle.columns.proofs.Lists.Entries.{span-none, span-next, holds-in}
 use Rattle.columns.proofs.Lists.Marks.{marks-test, marks-frame}
 use Rattle.stage_walk.specs.Stands.{Context}
-use Rattle.stage_walk.proofs.Contexts.{low-mark}
+use Rattle.stage_walk.proofs.Contexts.{work}
 use Rattle.stage_tree.specs.Bits.{PlaceAt, Placed}
 use Rattle.stage_tree.specs.Search.{part, SearchAt, First}
 use Rattle.stage_tree.proofs.Counts.Kept.{kept-none, kept-then}
@@ -82,7 +83,7 @@ module _ {C : Context} {m half from p : ℕ} {gates pl w : List ℕ} (A : PinAt 
       tree-test : d ≡ mem p (tree (C .X .K) pl)
       tree-test =
           is-tree ∙ rw (A .stands .tally .cells p pin-below, not-zero)
-          (sym (tree-cells (C .X .K) pl p (listed-filled (C .X) (C .r) (length (C .X .g)) (C .S) (low-mark C) p (A .listed))))
+          (sym (tree-cells (C .X .K) pl p (listed-filled (work C) p (A .listed))))
 
       pub skip-tree : d ≡ true → Pinned C m half p gates pl w from pl w
       skip-tree t = skips (λ real M. let e : mem p (tree (C .X .K) pl) ≡ true = sym tree-test ∙ t in rw e (or-some (mem p real)))
@@ -154,7 +155,7 @@ module _ {C : Context} {m half from p : ℕ} {gates pl w : List ℕ} (A : PinAt 
               low = omega (arith, first .from);
               none = λ b. absurd (omega arith);
               some = λ b real M ps. rest-put (C .X) p ps real pl c (unplaced real M) is-first ∙ rw (placed-plan (A .stands) (A .row) may B) refl;
-              behind = λ b. rw (placed-plan (A .stands) (A .row) may B, add-one c) (behind-placed (C .X) (C .r) (length (C .X .g)) (C .S) (C .M) (low-mark C) 1 low-height pl c p (A .stands .fair) may before (omega (arith, inside)));
+              behind = λ b. rw (placed-plan (A .stands) (A .row) may B, add-one c) (behind-placed (work C) 1 low-height pl c p (A .stands .fair) may before (omega (arith, inside)));
             }
 
 -- ---- all of them

@@ -10,10 +10,9 @@ use lib.Dec.{eqb}
 use lib.ListN.{length, getD, set, take, drop, length-append, length-take, length-drop, take-append-drop, List·getD-append}
 use lib.Seq.{take-suc, getD-drop, getD-set-same, getD-set-other, getD-append-seam}
 use borrow.Author.Tests.{ne-eqb}
-use Rattle.rules.specs.Lists.{mem, insert}
+use Rattle.rules.specs.Lists.{mem, insert, In, Out, nobody}
 use Rattle.rules.specs.Cells.{empty, filled, rowAt, row}
-use Rattle.rules.proofs.Lists.Members.{In, Out, split, in-cons, in-nil, in-here, in-there, in-getD, getD-in, true-false, in-append-left, in-append-right, insert-in, in-insert-old, in-insert}
-use Rattle.rules.proofs.Stage.Last.{nobody}
+use Rattle.rules.proofs.Lists.Members.{split, in-cons, in-nil, in-here, in-there, in-getD, getD-in, true-false, in-append-left, in-append-right, insert-in, in-insert-old, in-insert}
 use Rattle.rules.proofs.Written.Words.{once-insert}
 use Rattle.columns.proofs.Area.Frames.{frame-none, frame-then, frame-set-tail, frame-room}
 use Rattle.columns.proofs.Lists.Swap.{once-few, insert-old, insert-new}

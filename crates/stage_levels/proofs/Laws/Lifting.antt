@@ -9,9 +9,10 @@ use lib.ListN.{length, getD, set, drop, replicate, getD-replicate, drop-of-lengt
 use lib.Seq.{drop-cons}
 use Rattle.rules.specs.Graph.{Node, below}
 use Rattle.rules.specs.Traversal.{thread, raise, lift, reverseLevels}
-use Rattle.rules.specs.Lean.{startLevels}
-use Rattle.rules.proofs.Lists.Members.{Out, out-tail}
-use Rattle.rules.proofs.Walk.Traverse.{Topo, none, more}
+use Rattle.rules.specs.Inside.Lean.{startLevels}
+use Rattle.rules.specs.Lists.{Out}
+use Rattle.rules.proofs.Lists.Members.{out-tail}
+use Rattle.rules.specs.Inside.Walks.{Topo, none, more}
 use Rattle.rules.proofs.Walk.Reverse.{nat, out-sub, lift-out, raise-out}
 use Rattle.rules.proofs.Walk.Bounds.{none-low}
 use Rattle.rules.proofs.Tree.Loads.{set-either}

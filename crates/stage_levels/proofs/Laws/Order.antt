@@ -8,8 +8,9 @@ use lib.ListN.{length, getD, take, drop, take-append-drop, length-reverse, getD-
 use lib.Seq.{take-suc, take-all, length-take-le, getD-set-same, getD-set-other}
 use Rattle.rules.specs.Graph.{Node, below}
 use Rattle.rules.specs.Traversal.{levels, setting, levelAt}
-use Rattle.rules.proofs.Lists.Members.{In, Out, in-here, in-there, in-cons, in-nil, in-out, out-head, out-tail, in-append-right}
-use Rattle.rules.proofs.Walk.Traverse.{Ranked, Topo, none, more}
+use Rattle.rules.specs.Lists.{In, Out}
+use Rattle.rules.proofs.Lists.Members.{in-here, in-there, in-cons, in-nil, in-out, out-head, out-tail, in-append-right}
+use Rattle.rules.specs.Inside.Walks.{Ranked, Topo, none, more}
 use Rattle.rules.proofs.Walk.Levels.{over-least, length-levels}
 use Rattle.stage_walk.specs.Stands.{Context}
 use Rattle.stage_walk.proofs.Contexts.{order-is}

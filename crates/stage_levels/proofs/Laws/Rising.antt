@@ -9,7 +9,8 @@ use lib.ListN.{length, getD, set, take, replicate}
 use lib.Seq.{take-suc, take-all, getD-set-same}
 use Rattle.rules.specs.Graph.{below}
 use Rattle.rules.specs.Traversal.{over, levels, levelAt, greatest}
-use Rattle.rules.proofs.Lists.Members.{In, in-here}
+use Rattle.rules.specs.Lists.{In}
+use Rattle.rules.proofs.Lists.Members.{in-here}
 use Rattle.rules.proofs.Walk.Levels.{over-ext, over-least, length-levels, levels-good}
 use Rattle.columns.specs.Area.{among, Frame}
 use Rattle.columns.specs.Fields.{ORDER, DONE, LEVEL}

@@ -3,7 +3,7 @@ use mathlib.Core.Path.{_≡_, refl}
 use Prim.Native.Nat.{_≤_, _-_}
 use native.Mathlib.Omega.{arith}
 use lib.ListN.{length}
-use Rattle.stage_walk.specs.Stands.{Every}
+use Rattle.rules.specs.Inside.Some.{Every}
 use Rattle.stage_levels.specs.Levels.{LevelsAt, Risen}
 use Rattle.stage_levels.proofs.Laws.Rising.{risen-none, level-at, level-few, risen-more, levelled}
 use borrow.Author.Needs.{needs}
@@ -23,10 +23,10 @@ get-requires : tie.Need-get-requires Inv-loop μ-loop
 get-requires c κs = let s = c .before .before .before .before .before .pre .at in omega (arith, s .along .ordered .order .few, s .along .reads .base .area .room, c .before .before .loop .inv .2)
 
 level-of-requires : tie.Need-level-of-requires Inv-loop μ-loop
-level-of-requires c κs = let s = c .before .before .before .before .before .before .before .pre in record { C = s .C; at = level-at (s .at) (c .before .before .before .before .loop .inv .0 .all (s .C) (s .at)) (c .before .before .before .loop-test .taken) _ (c .before .get .ensures) }
+level-of-requires c κs = let s = c .before .before .before .before .before .before .before .pre in record { it = s .it; at = level-at (s .at) (c .before .before .before .before .loop .inv .0 .all (s .it) (s .at)) (c .before .before .before .loop-test .taken) _ (c .before .get .ensures) }
 
 push-requires : tie.Need-push-requires Inv-loop μ-loop
-push-requires c κs = let s = c .before .before .before .before .before .before .before .before .before .pre in let U = c .before .before .before .before .before .before .loop .inv .0 .all (s .C) (s .at) in let L = level-at (s .at) U (c .before .before .before .before .before .loop-test .taken) _ (c .before .before .before .get .ensures) in let v = level-few (s .at) U (c .before .before .before .before .before .loop-test .taken) _ (c .before .before .before .get .ensures) _ (c .before .level-of .ensures .all (s .C) L) in (omega (arith, L .pin, s .at .along .reads .base .area .room, c .before .before .before .before .before .before .loop .inv .2), omega (arith, s .at .along .reads .base .area .small))
+push-requires c κs = let s = c .before .before .before .before .before .before .before .before .before .pre in let U = c .before .before .before .before .before .before .loop .inv .0 .all (s .it) (s .at) in let L = level-at (s .at) U (c .before .before .before .before .before .loop-test .taken) _ (c .before .before .before .get .ensures) in let v = level-few (s .at) U (c .before .before .before .before .before .loop-test .taken) _ (c .before .before .before .get .ensures) _ (c .before .level-of .ensures .all (s .it) L) in (omega (arith, L .pin, s .at .along .reads .base .area .room, c .before .before .before .before .before .before .loop .inv .2), omega (arith, s .at .along .reads .base .area .small))
 
 higher-requires : tie.Need-higher-requires Inv-loop μ-loop
 higher-requires c κs = search needs

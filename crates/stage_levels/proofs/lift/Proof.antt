@@ -15,7 +15,7 @@ returns : tie.Need-returns
 returns c = record { all = λ C A. lifted-none A _ (c .before .get .ensures) (c .if1 .taken) }
 
 followed-requires : tie.Need-followed-requires
-followed-requires c κs = let s = c .before .before .before .before .before .before .pre in (record { C = s .C; at = s .at .reads }, s .at .pin)
+followed-requires c κs = let s = c .before .before .before .before .before .before .pre in (record { it = s .it; at = s .at .reads }, s .at .pin)
 
 same-length-2 : tie.Need-same-length-2
 same-length-2 c = search needs
@@ -24,19 +24,19 @@ returns-2 : tie.Need-returns-2
 returns-2 c = record { all = λ C A. lifted-leaf A _ (c .before .before .before .before .get .ensures) (c .before .before .before .if1 .left) _ (c .before .followed .ensures .all C (A .reads)) (c .if2 .taken) }
 
 followed-requires-2 : tie.Need-followed-requires-2
-followed-requires-2 c κs = let s = c .before .before .before .before .before .before .before .before .before .pre in (record { C = s .C; at = s .at .reads }, s .at .pin)
+followed-requires-2 c κs = let s = c .before .before .before .before .before .before .before .before .before .pre in (record { it = s .it; at = s .at .reads }, s .at .pin)
 
 add-raise : tie.Need-add-raise
 add-raise c = omega (arith, c .before .before .before .before .before .before .before .before .before .before .before .pre .at .low, c .before .before .before .before .before .before .before .get .ensures)
 
 raise-requires : tie.Need-raise-requires
-raise-requires c κs = let s = c .before .before .before .before .before .before .before .before .before .before .before .pre in let l = lift-pins (s .at) _ (c .before .before .before .before .before .before .before .get .ensures) (c .before .before .before .before .before .before .if1 .left) _ (c .before .before .before .before .followed .ensures .all (s .C) (s .at .reads)) (c .before .before .before .if2 .left) _ (c .before .followed2 .ensures .all (s .C) (s .at .reads)) in (omega (arith, l .0, s .at .reads .base .area .room), omega (arith, s .at .low, c .before .before .before .before .before .before .before .get .ensures))
+raise-requires c κs = let s = c .before .before .before .before .before .before .before .before .before .before .before .pre in let l = lift-pins (s .at) _ (c .before .before .before .before .before .before .before .get .ensures) (c .before .before .before .before .before .before .if1 .left) _ (c .before .before .before .before .followed .ensures .all (s .it) (s .at .reads)) (c .before .before .before .if2 .left) _ (c .before .followed2 .ensures .all (s .it) (s .at .reads)) in (omega (arith, l .0, s .at .reads .base .area .room), omega (arith, s .at .low, c .before .before .before .before .before .before .before .get .ensures))
 
 add-raise-2 : tie.Need-add-raise-2
 add-raise-2 c = omega (arith, c .before .before .before .before .before .before .before .before .before .before .before .before .before .before .before .pre .at .low, c .before .before .before .before .before .before .before .before .before .before .before .get .ensures)
 
 raise-requires-2 : tie.Need-raise-requires-2
-raise-requires-2 c κs = let s = c .before .before .before .before .before .before .before .before .before .before .before .before .before .before .before .pre in let l = lift-pins (s .at) _ (c .before .before .before .before .before .before .before .before .before .before .before .get .ensures) (c .before .before .before .before .before .before .before .before .before .before .if1 .left) _ (c .before .before .before .before .before .before .before .before .followed .ensures .all (s .C) (s .at .reads)) (c .before .before .before .before .before .before .before .if2 .left) _ (c .before .before .before .before .before .followed2 .ensures .all (s .C) (s .at .reads)) in (omega (arith, l .1, s .at .reads .base .area .room, c .before .before .before .raise .kept), omega (arith, s .at .low, c .before .before .before .before .before .before .before .before .before .before .before .get .ensures))
+raise-requires-2 c κs = let s = c .before .before .before .before .before .before .before .before .before .before .before .before .before .before .before .pre in let l = lift-pins (s .at) _ (c .before .before .before .before .before .before .before .before .before .before .before .get .ensures) (c .before .before .before .before .before .before .before .before .before .before .if1 .left) _ (c .before .before .before .before .before .before .before .before .followed .ensures .all (s .it) (s .at .reads)) (c .before .before .before .before .before .before .before .if2 .left) _ (c .before .before .before .before .before .followed2 .ensures .all (s .it) (s .at .reads)) in (omega (arith, l .1, s .at .reads .base .area .room, c .before .before .before .raise .kept), omega (arith, s .at .low, c .before .before .before .before .before .before .before .before .before .before .before .get .ensures))
 
 same-length-3 : tie.Need-same-length-3
 same-length-3 c = search needs

@@ -3,7 +3,7 @@ use mathlib.Core.Path.{_≡_, refl}
 use Prim.Native.Nat.{_≤_}
 use native.Mathlib.Omega.{arith}
 use lib.ListN.{length}
-use Rattle.stage_walk.specs.Stands.{Every}
+use Rattle.rules.specs.Inside.Some.{Every}
 use Rattle.stage_levels.specs.Levels.{LowerAt, Lowered}
 use Rattle.stage_levels.proofs.Laws.Lifting.{lowered-none, lift-at, lowered-more, lowered-end}
 use borrow.Author.Needs.{needs}
@@ -26,7 +26,7 @@ get-requires : tie.Need-get-requires Inv-loop μ-loop
 get-requires c κs = let s = c .before .before .before .before .before .pre .at in omega (arith, s .along .ordered .order .few, s .along .reads .base .area .room, c .before .before .loop .inv .2)
 
 lift-requires : tie.Need-lift-requires Inv-loop μ-loop
-lift-requires c κs = let s = c .before .before .before .before .before .before .before .pre in record { C = s .C; at = lift-at (s .at) (c .before .before .before .before .loop .inv .0 .all (s .C) (s .at)) (c .before .before .before .loop-test .taken) (c .before .before .before .before .loop .inv .1) _ (c .before .get .ensures) }
+lift-requires c κs = let s = c .before .before .before .before .before .before .before .pre in record { it = s .it; at = lift-at (s .at) (c .before .before .before .before .loop .inv .0 .all (s .it) (s .at)) (c .before .before .before .loop-test .taken) (c .before .before .before .before .loop .inv .1) _ (c .before .get .ensures) }
 
 loop-less : tie.Need-loop-less Inv-loop μ-loop
 loop-less c = search needs

@@ -8,7 +8,7 @@ start-requires : tie.Need-start-requires
 start-requires c κs = start-at (c .before .before .before .pre .at)
 
 lower-requires : tie.Need-lower-requires
-lower-requires c κs = let s = c .before .before .before .before .before .before .before .pre in record { C = s .C; at = lower-at (s .at) _ (c .before .before .before .start .ensures) }
+lower-requires c κs = let s = c .before .before .before .before .before .before .before .pre in record { it = s .it; at = lower-at (s .at) _ (c .before .before .before .start .ensures) }
 
 same-length : tie.Need-same-length
 same-length c = search needs

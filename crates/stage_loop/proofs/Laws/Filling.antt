@@ -5,14 +5,14 @@ use mathlib.Core.List.{List, [], _∷_, map}
 use native.Mathlib.Omega.{arith}
 use lib.ListN.{length}
 use borrow.Author.Tests.{le-leb}
-use Rattle.rules.specs.Lists.{mem}
+use Rattle.rules.specs.Lists.{mem, In}
 use Rattle.rules.specs.Cells.{rowAt}
 use Rattle.rules.specs.Traversal.{Setting, levelAt, greatest}
 use Rattle.rules.specs.Placing.{neededOf, filledPlan}
-use Rattle.rules.specs.Lean.{blank, wanted, lean, leanPlan}
-use Rattle.rules.proofs.Lists.Members.{In, in-here, in-there}
+use Rattle.rules.specs.Inside.Lean.{blank, wanted, lean, leanPlan}
+use Rattle.rules.proofs.Lists.Members.{in-here, in-there}
 use Rattle.rules.proofs.Needed.Lacks.{same-needed}
-use Rattle.rules.proofs.Tree.Fair.{Fair}
+use Rattle.rules.specs.Inside.Plans.{Fair}
 use Rattle.rules.proofs.Lean.Lean.{lean-plan, lean-tidy}
 use Rattle.cells.specs.Answers.{orZero, hasLevel}
 use Rattle.cells.proofs.Heights.{orZero-true, not-above, level-tested}
@@ -20,7 +20,7 @@ use Rattle.columns.specs.Fields.{MARK}
 use Rattle.columns.specs.Lists.{Marks, Clear}
 use Rattle.stage_walk.specs.Stands.{Context, Set, Tally}
 use Rattle.stage_needed.specs.Needed.{NeededAt, Needed}
-use Rattle.stage_walk.proofs.Contexts.{low-mark, level-below}
+use Rattle.stage_walk.proofs.Contexts.{level-below, work}
 use Rattle.stage_tree.specs.Bits.{Standing}
 use Rattle.stage_tree.proofs.Bits.Standing.{first-stands}
 use Rattle.stage_loop.specs.Loop.{Kept, Counted, SettleAt, LeanAt, Leaned}
@@ -144,13 +144,13 @@ module _ {C : Context} {m n k top K half : ℕ} {gates pl w : List ℕ} (A : Fil
         N₁ = counted settle-last N
 
         is : pl1 ≡ filledPlan (C .X)
-        is = G .is ∙ lean-plan (C .X) (C .r) (length (C .X .g)) (C .S) (C .M) (low-mark C)
+        is = G .is ∙ lean-plan (work C)
 
-        fair : Fair (C .X) (C .r) (length (C .X .g)) (C .S) 1 pl1
-        fair = rw (G .is) (lean-tidy (C .X) (C .r) (length (C .X .g)) (C .S) (C .M) (low-mark C))
+        fair : Fair (C .X) 1 pl1
+        fair = rw (G .is) (lean-tidy (work C))
 
         needs : neededOf (C .X) pl1 ≡ wanted (C .X) pl1
-        needs = same-needed (C .X) (C .r) (length (C .X .g)) (C .S) (C .M) fair
+        needs = same-needed (work C) fair
 
         kept : Kept m w w2
         kept = kept-then (G .kept) (N₁ .kept)

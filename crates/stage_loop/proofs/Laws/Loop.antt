@@ -10,20 +10,21 @@ use lib.Dec.{ltb, eqb}
 use lib.ListN.{length, getD, take, drop, length-take, length-drop}
 use lib.Seq.{ext-getD, getD-take, getD-drop}
 use borrow.Author.Tests.{lt-ltb, le-ltb, ne-eqb}
-use Rattle.rules.specs.Lists.{Found, nothing, found, count, mem}
+use Rattle.rules.specs.Lists.{Found, nothing, found, count, mem, In, Out}
 use Rattle.rules.specs.Cells.{row, rowAt, firstEmpty, levelOneSize}
 use Rattle.rules.specs.Traversal.{Setting, levelAt}
 use Rattle.rules.specs.Placing.{treeOf, cellAt, placed}
-use Rattle.rules.specs.Lean.{candidates, wanted, roomFor, recount, lean, onward}
-use Rattle.rules.proofs.Lists.Members.{In, Out, in-here, in-append-right}
-use Rattle.rules.proofs.Tree.Fair.{Fair, fair-kept, fair-down, listed-filled, bare}
-use Rattle.rules.proofs.Tree.Invariant.{Placeable, row-empty}
+use Rattle.rules.specs.Inside.Lean.{candidates, wanted, roomFor, recount, lean, onward}
+use Rattle.rules.proofs.Lists.Members.{in-here, in-append-right}
+use Rattle.rules.specs.Inside.Plans.{Fair, Placeable, Going}
+use Rattle.rules.proofs.Tree.Fair.{fair-kept, fair-down, listed-filled, bare}
+use Rattle.rules.proofs.Tree.Invariant.{row-empty}
 use Rattle.rules.proofs.Tree.Loads.{rows, wide}
 use Rattle.rules.proofs.Tree.Back.{taken-back}
 use Rattle.rules.proofs.Tree.Tally.{tree-cells}
 use Rattle.rules.proofs.Stage.Staged.{two-step}
 use Rattle.rules.proofs.Lean.Pick.{candidate}
-use Rattle.rules.proofs.Lean.Lean.{Going, going-skip, going-placed, going-first, fewer-needed, recount-found}
+use Rattle.rules.proofs.Lean.Lean.{going-skip, going-placed, going-first, fewer-needed, recount-found}
 use Rattle.rules.proofs.Lean.Turns.{recount-bound, recount-count, recount-full, onward-end, onward-skip, onward-no-cell, onward-no-room, onward-placed, onward-level}
 use Rattle.columns.specs.Fields.{CELLS, RANKED, STARTS, ENDS, MARK, ONES, PINS}
 use Rattle.columns.specs.Lists.{Marks}
@@ -33,8 +34,8 @@ use Rattle.columns.proofs.Lists.Entries.{holds-frame}
 use Rattle.columns.proofs.Lists.Marks.{marks-frame}
 use Rattle.columns.proofs.Lists.Places.{placed-frame}
 use Rattle.stage_walk.specs.Stands.{Context, Set, Tally, ranked}
-use Rattle.stage_walk.proofs.Contexts.{low-mark}
-use Rattle.stage_walk.proofs.choice.Choosing.{ranked-cons, ranked-end}
+use Rattle.stage_walk.proofs.Contexts.{work}
+use Rattle.stage_walk.proofs.Ranked.{ranked-cons, ranked-end}
 use Rattle.stage_tree.specs.Counts as counts
 use Rattle.stage_tree.specs.Counts.{roomIn}
 use Rattle.stage_tree.specs.Bits as bits
@@ -152,7 +153,7 @@ module _ {C : Context} {m n k h wd half p q most : ℕ} {gates pl w : List ℕ} 
     base = A .plan .set .begun .base;
     levelled = A .plan .set .levelled;
     row = A .wide .row;
-    under = rw (A .wide .row) (bare (C .X) (C .r) (length (C .X .g)) (C .S) (C .M) (low-mark C) h p q (A .plan .fair) (A .able));
+    under = rw (A .wide .row) (bare (work C) h p q (A .plan .fair) (A .able));
     listed = A .able .listed;
   }
 
@@ -161,8 +162,8 @@ module _ {C : Context} {m n k h wd half p q most : ℕ} {gates pl w : List ℕ} 
     unfolding placed
     plan-is = rw (A .wide .row) at (P .plan)
 
-    fair-after : Fair (C .X) (C .r) (length (C .X .g)) (C .S) h pl1
-    fair-after = rw plan-is (fair-kept (C .X) (C .r) (length (C .X .g)) (C .S) (C .M) (low-mark C) h p q (A .plan .fair) (A .able))
+    fair-after : Fair (C .X) h pl1
+    fair-after = rw plan-is (fair-kept (work C) h p q (A .plan .fair) (A .able))
 
     pub after-place : SettleAt C m n k half most gates pl1 w1
     after-place = record { set = set-kept (kept-counts (P .kept)) (A .plan .set); clear = clear-kept (kept-counts (P .kept)) (A .plan .clear); tally = P .tally; cap = A .cap; few = A .few }
@@ -193,7 +194,7 @@ module _ {C : Context} {m n k h wd half p q most : ℕ} {gates pl w : List ℕ} 
       tried-none z B = record {
         code = rw z at code-is;
         few = omega arith;
-        none = λ e. B .plan ∙ rw (plan-is, A .wide .row) (taken-back (C .X) (C .r) (length (C .X .g)) (C .S) (low-mark C) (C .M) h p q (A .plan .fair) (A .able));
+        none = λ e. B .plan ∙ rw (plan-is, A .wide .row) (taken-back (work C) h p q (A .plan .fair) (A .able));
         some = λ b. absurd (omega arith);
         kept = kept-then (kept-counts (P .kept)) (kept-then (T .kept) (kept-counts (B .kept)));
         tally = B .tally;
@@ -217,18 +218,18 @@ module _ {C : Context} {m n k l wd half : ℕ} {gates pl w : List ℕ} {i e b : 
   now-list : ranked m w i e ≡ q ∷ ranked m w (i + 1) e
   now-list = rw pin (ranked-cons m w i e (N .more) (N .at .inside) (omega (arith, R .begun .base .area .room)))
 
-  G : Going (C .X) (C .r) (length (C .X .g)) (C .S) (C .M) (low-mark C) (suc l) (q ∷ ranked m w (i + 1) e) b pl
+  G : Going (C .X) (suc l) (q ∷ ranked m w (i + 1) e) b pl
   G = rw now-list at (N .at .going)
 
   head-in : In q (C .X .seen) × (levelAt (C .X) q ≡ suc l)
-  head-in = candidate (C .X) (C .r) (length (C .X .g)) (C .S) (C .M) (low-mark C) (suc l) q (rw (G .whole) (in-append-right q (G .before) (q ∷ ranked m w (i + 1) e) (in-here q (ranked m w (i + 1) e))))
+  head-in = candidate (work C) (suc l) q (rw (G .whole) (in-append-right q (G .before) (q ∷ ranked m w (i + 1) e) (in-here q (ranked m w (i + 1) e))))
 
   pub pin-small : q < m
   pin-small = omega (arith, C .S .bound q (head-in .0), R .begun .base .size)
 
   in-tree : mem q (treeOf (C .X) pl) ≡ ltb 0 (getD w (CELLS * m + q) 0)
   unfolding treeOf
-  in-tree = rw (N .at .tally .cells q pin-small) (tree-cells (C .X .K) pl q (listed-filled (C .X) (C .r) (length (C .X .g)) (C .S) (low-mark C) q (head-in .0)))
+  in-tree = rw (N .at .tally .cells q pin-small) (tree-cells (C .X .K) pl q (listed-filled (work C) q (head-in .0)))
 
   pub turned-skip : 0 < getD w (CELLS * m + q) 0 → Turned C m n k l wd half gates pl w i e b pl w (b + 1)
   turned-skip pos =
@@ -243,7 +244,7 @@ module _ {C : Context} {m n k l wd half : ℕ} {gates pl w : List ℕ} {i e b : 
             set = R;
             clear = N .at .clear;
             tally = N .at .tally;
-            going = rw z (going-skip (C .X) (C .r) (length (C .X .g)) (C .S) (C .M) (low-mark C) G t);
+            going = rw z (going-skip (work C) G t);
             wide = N .at .wide;
             cap = N .at .cap;
             before = omega (arith, N .more);
@@ -269,7 +270,7 @@ module _ {C : Context} {m n k l wd half : ℕ} {gates pl w : List ℕ} {i e b : 
     turned-no-cell none = record {
       stop = λ x. record {
         same = rw now-list (onward-no-cell (C .X) l b pl q (ranked m w (i + 1) e) not-in (cell-is ∙ F .none none));
-        fair = fair-down (C .X) (C .r) (length (C .X .g)) (C .S) (C .M) (low-mark C) l (N .at .going .fair);
+        fair = fair-down (work C) l (N .at .going .fair);
         enough = N .at .going .enough;
         few = N .at .few;
         kept = kept-none m w;
@@ -302,11 +303,11 @@ module _ {C : Context} {m n k l wd half : ℕ} {gates pl w : List ℕ} {i e b : 
           pl1 : List ℕ
           pl1 = placed (C .X) (suc l) p q pl
 
-          F2 : Fair (C .X) (C .r) (length (C .X .g)) (C .S) (suc l) pl1
-          F2 = fair-kept (C .X) (C .r) (length (C .X .g)) (C .S) (C .M) (low-mark C) (suc l) p q (N .at .going .fair) able
+          F2 : Fair (C .X) (suc l) pl1
+          F2 = fair-kept (work C) (suc l) p q (N .at .going .fair) able
 
           few-one : length (wanted (C .X) pl1) ≤ b
-          few-one = omega (arith, fewer-needed (C .X) (C .r) (length (C .X .g)) (C .S) (C .M) (low-mark C) (N .at .going .fair) able, N .at .going .enough)
+          few-one = omega (arith, fewer-needed (work C) (N .at .going .fair) able, N .at .going .enough)
 
           full : c ≡ 0 → recount (C .X) b pl1 ≡ nothing
           full z = code-none (recount (C .X) b pl1) c (T .code) z
@@ -317,7 +318,7 @@ module _ {C : Context} {m n k l wd half : ℕ} {gates pl w : List ℕ} {i e b : 
           stop : c ≡ 0 → Ended C m l pl w i e b pl′ w′ b
           stop z = record {
             same = rw (now-list, T .none z) (onward-no-room (C .X) l b pl q (ranked m w (i + 1) e) p not-in at-cell (full z));
-            fair = rw (T .none z) (fair-down (C .X) (C .r) (length (C .X .g)) (C .S) (C .M) (low-mark C) l (N .at .going .fair));
+            fair = rw (T .none z) (fair-down (work C) l (N .at .going .fair));
             enough = rw (T .none z) (N .at .going .enough);
             few = N .at .few;
             kept = T .kept;
@@ -326,7 +327,7 @@ module _ {C : Context} {m n k l wd half : ℕ} {gates pl w : List ℕ} {i e b : 
 
           on : 0 < c → Gone C m n k l wd half gates pl w i e b pl′ w′ (i + 1) (c - 1)
           on z =
-              let enough = recount-found (C .X) (C .r) (length (C .X .g)) (C .S) (C .M) (low-mark C) F2 b (c - 1) few-one (roomy z) in
+              let enough = recount-found (work C) F2 b (c - 1) few-one (roomy z) in
               let d : ranked m w′ (i + 1) e ≡ ranked m w (i + 1) e = ranked-kept (T .kept) (i + 1) e (omega (arith, N .more)) (N .at .inside) in
               record {
                 same = rw (now-list, d, T .some z) (onward-placed (C .X) l b pl q (ranked m w (i + 1) e) p (c - 1) not-in at-cell (roomy z));
@@ -335,7 +336,7 @@ module _ {C : Context} {m n k l wd half : ℕ} {gates pl w : List ℕ} {i e b : 
                   set = set-kept (T .kept) R;
                   clear = clear-kept (T .kept) (N .at .clear);
                   tally = T .tally;
-                  going = rw (d, T .some z) (going-placed (C .X) (C .r) (length (C .X .g)) (C .S) (C .M) (low-mark C) G p (c - 1) able (enough .1));
+                  going = rw (d, T .some z) (going-placed (work C) G p (c - 1) able (enough .1));
                   wide = N .at .wide;
                   cap = N .at .cap;
                   before = omega (arith, N .more);
@@ -362,7 +363,7 @@ module _ {C : Context} {m n k l wd half : ℕ} {gates pl w : List ℕ} {i e b : 
     pub gone-end : e ≤ j → Ended C m l pl w i e b pl′ w′ b′
     gone-end t = record {
       same = A .same ∙ rw (ranked-end m w′ j e t) (onward-end (C .X) l b′ pl′);
-      fair = fair-down (C .X) (C .r) (length (C .X .g)) (C .S) (C .M) (low-mark C) l (A .at .going .fair);
+      fair = fair-down (work C) l (A .at .going .fair);
       enough = A .at .going .enough;
       few = A .at .few;
       kept = A .kept;
@@ -401,7 +402,7 @@ module _ {C : Context} {m n k l wd half : ℕ} {gates pl w : List ℕ} {b : ℕ}
       set = A .plan .set;
       clear = A .plan .clear;
       tally = A .plan .tally;
-      going = rw list-is (going-first (C .X) (C .r) (length (C .X .g)) (C .S) (C .M) (low-mark C) (suc l) b pl (A .plan .fair) (A .enough));
+      going = rw list-is (going-first (work C) (suc l) b pl (A .plan .fair) (A .enough));
       wide = A .wide;
       cap = A .cap;
       before = span .0;

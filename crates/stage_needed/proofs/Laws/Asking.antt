@@ -12,7 +12,7 @@ use Rattle.rules.specs.Cells.{empty, filled}
 use Rattle.rules.specs.Graph.{below}
 use Rattle.rules.specs.Traversal.{over, levelAt}
 use Rattle.rules.specs.Placing.{asked, treeOf}
-use Rattle.rules.specs.Lean.{cellsHolding, lacks}
+use Rattle.rules.specs.Inside.Lean.{cellsHolding, lacks}
 use Rattle.rules.proofs.Lists.Members.{split}
 use Rattle.rules.proofs.Walk.Levels.{depth-at}
 use Rattle.rules.proofs.Tree.Tally.{tree-cells}

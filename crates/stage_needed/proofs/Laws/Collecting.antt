@@ -7,12 +7,11 @@ use native.Mathlib.Numerals.{add-one}
 use native.Mathlib.Decide.{ℕ-discrete}
 use lib.ListN.{getD, set, drop, drop-of-length-le}
 use lib.Seq.{drop-cons, drop-nil}
-use Rattle.rules.specs.Lists.{mem, insertAll, gather}
+use Rattle.rules.specs.Lists.{mem, insertAll, gather, Out, Once, nobody, one}
 use Rattle.rules.specs.Placing.{treeOf}
-use Rattle.rules.specs.Lean.{lacks, wanted, cellsHolding}
-use Rattle.rules.proofs.Lists.Members.{Out, mem-other}
+use Rattle.rules.specs.Inside.Lean.{lacks, wanted, cellsHolding}
+use Rattle.rules.proofs.Lists.Members.{mem-other}
 use Rattle.rules.proofs.Walk.Bounds.{wanted-first, wanted-next}
-use Rattle.rules.proofs.Stage.Last.{Once, nobody, one}
 use Rattle.columns.specs.Fields.{ORDER, NEEDED, MARK, CELLS}
 use Rattle.columns.specs.Lists.{list, bit, Holds, Marks}
 use Rattle.columns.proofs.Area.Columns.{at-set, at-set-past}

@@ -8,13 +8,13 @@ collect-requires : tie.Need-collect-requires
 collect-requires c κs = search needs
 
 unmark-requires : tie.Need-unmark-requires
-unmark-requires c κs = let s = c .before .before .before .before .before .before .before .pre in unmark-at (s .at) (c .before .before .before .collect .ensures .all (s .C) (s .pl) (s .at))
+unmark-requires c κs = let s = c .before .before .before .before .before .before .before .pre in unmark-at (s .at) (c .before .before .before .collect .ensures .all (s .it) (s .at))
 
 same-length : tie.Need-same-length
 same-length c = search needs
 
 returns : tie.Need-returns
-returns c = record { all = λ C pl A. needed-all A (c .before .before .before .before .before .before .collect .ensures .all C pl A) (c .before .before .unmark .ensures) }
+returns c = record { all = λ x A. needed-all A (c .before .before .before .before .before .before .collect .ensures .all x A) (c .before .before .unmark .ensures) }
 
 pub needed-spec : {M : Type 1} → statement M
 needed-spec = tie.close (tie.spec collect-requires unmark-requires same-length returns)

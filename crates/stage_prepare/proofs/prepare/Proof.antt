@@ -5,16 +5,16 @@ use Rattle.stage_prepare.proofs.prepare.Statement.{statement}
 use Rattle.stage_prepare.proofs.prepare.Tie as tie
 
 traverse-requires : tie.Need-traverse-requires
-traverse-requires c κs = let s = c .before .before .before .pre in record { C = s .C; at = step-traverse (s .at) }
+traverse-requires c κs = let s = c .before .before .before .pre in record { it = s .it; at = step-traverse (s .at) }
 
 levels-requires : tie.Need-levels-requires
-levels-requires c κs = let s = c .before .before .before .before .before .before .before .pre in record { C = s .C; at = step-levels (s .at) (c .before .before .before .traverse .ensures .all (s .C) (step-traverse (s .at))) }
+levels-requires c κs = let s = c .before .before .before .before .before .before .before .pre in record { it = s .it; at = step-levels (s .at) (c .before .before .before .traverse .ensures .all (s .it) (step-traverse (s .at))) }
 
 reverse-levels-requires : tie.Need-reverse-levels-requires
-reverse-levels-requires c κs = let s = c .before .before .before .before .before .before .before .before .before .before .before .pre in let T = c .before .before .before .before .before .before .before .traverse .ensures .all (s .C) (step-traverse (s .at)) in record { C = s .C; at = step-reverse (s .at) T (c .before .before .before .levels .ensures .all (s .C) (step-levels (s .at) T)) }
+reverse-levels-requires c κs = let s = c .before .before .before .before .before .before .before .before .before .before .before .pre in let T = c .before .before .before .before .before .before .before .traverse .ensures .all (s .it) (step-traverse (s .at)) in record { it = s .it; at = step-reverse (s .at) T (c .before .before .before .levels .ensures .all (s .it) (step-levels (s .at) T)) }
 
 level-lists-requires : tie.Need-level-lists-requires
-level-lists-requires c κs = let s = c .before .before .before .before .before .before .before .before .before .before .before .before .before .before .before .pre in let T = c .before .before .before .before .before .before .before .before .before .before .before .traverse .ensures .all (s .C) (step-traverse (s .at)) in let L = c .before .before .before .before .before .before .before .levels .ensures .all (s .C) (step-levels (s .at) T) in record { C = s .C; at = step-lists (s .at) T L (c .before .before .before .reverse-levels .ensures .all (s .C) (step-reverse (s .at) T L)) }
+level-lists-requires c κs = let s = c .before .before .before .before .before .before .before .before .before .before .before .before .before .before .before .pre in let T = c .before .before .before .before .before .before .before .before .before .before .before .traverse .ensures .all (s .it) (step-traverse (s .at)) in let L = c .before .before .before .before .before .before .before .levels .ensures .all (s .it) (step-levels (s .at) T) in record { it = s .it; at = step-lists (s .at) T L (c .before .before .before .reverse-levels .ensures .all (s .it) (step-reverse (s .at) T L)) }
 
 same-length : tie.Need-same-length
 same-length c = search needs

@@ -8,14 +8,14 @@ use native.Mathlib.Omega.{arith}
 use lib.Dec.{eqb}
 use lib.ListN.{length, getD}
 use borrow.Author.Tests.{ne-eqb}
-use Rattle.rules.specs.Lists.{mem}
+use Rattle.rules.specs.Lists.{mem, In}
 use Rattle.rules.specs.Cells.{empty, filled, rowAt}
 use Rattle.rules.specs.Traversal.{Setting, levelAt}
 use Rattle.rules.specs.Ending as rules
-use Rattle.rules.proofs.Lists.Members.{In, insert-in}
+use Rattle.rules.proofs.Lists.Members.{insert-in}
 use Rattle.rules.proofs.Stage.Staged.{two-step, half-height}
 use Rattle.rules.proofs.Stage.Branches.{put-none, put-fill, put-met, meet-waits, meet-not}
-use Rattle.rules.proofs.Tree.Invariant.{Placeable}
+use Rattle.rules.specs.Inside.Plans.{Placeable}
 use Rattle.rules.proofs.Tree.Held.{length-place1}
 use Rattle.rules.proofs.Tree.Loads.{rows}
 use Rattle.columns.specs.Fields.{STACK, PHASE, PLACE, MARK}

@@ -9,13 +9,12 @@ use lib.Dec.{eqb, leb, ltb}
 use lib.ListN.{length, getD, take, length-map}
 use lib.Seq.{length-take-le}
 use borrow.Author.Tests.{ltb-true, ltb-false}
-use Rattle.rules.specs.Lists.{mem, keep, isNil, insert, insertAll}
+use Rattle.rules.specs.Lists.{mem, keep, isNil, insert, insertAll, In, Out, Once, nobody, one}
 use Rattle.rules.specs.Traversal.{levelAt}
 use Rattle.rules.specs.Placing.{treeOf}
-use Rattle.rules.specs.Lean.{lowWaiting, highWaiting}
+use Rattle.rules.specs.Inside.Lean.{lowWaiting, highWaiting}
 use Rattle.rules.specs.Ending as rules
-use Rattle.rules.proofs.Lists.Members.{In, Out, split, in-here, in-there, in-cons, in-out, in-nil, out-append, keep-in, true-false, and-true}
-use Rattle.rules.proofs.Stage.Last.{Once, nobody, one}
+use Rattle.rules.proofs.Lists.Members.{split, in-here, in-there, in-cons, in-out, in-nil, out-append, keep-in, true-false, and-true}
 use Rattle.rules.proofs.Stage.Puts.{runs-fit}
 use Rattle.rules.proofs.Needed.Lacks.{keep-ext, same-truth, leb-true, true-leb, same-inNeed, same-untouched}
 use Rattle.rules.proofs.Tree.Tally.{tree-cells}
@@ -29,7 +28,7 @@ use Rattle.columns.proofs.Lists.Marks.{marks-frame, marked-none}
 use Rattle.columns.proofs.Lists.Places.{placed-frame}
 use Rattle.columns.proofs.Lists.Swap.{insert-new}
 use Rattle.stage_walk.specs.Stands.{Context}
-use Rattle.stage_walk.proofs.Contexts.{low-mark}
+use Rattle.stage_walk.proofs.Contexts.{work}
 use Rattle.stage_tree.specs.Bits.{Standing}
 use Rattle.stage_tree.proofs.Bits.Standing.{stands-frame}
 use Rattle.stage_runs.specs.declared.WordRule.{WordRule}
@@ -78,7 +77,7 @@ module _ {C : Context} {m h : ℕ} {gates pl w : List ℕ} (A : Standing C m h g
   -- the counts tell what is in the tree
   pub counted : not (eqb (getD w (CELLS * m + x) 0) 0) ≡ mem x (treeOf (C .X) pl)
   unfolding treeOf
-  counted = rw (A .tally .cells x pin-below, not-zero) (sym (tree-cells (C .X .K) pl x (listed-filled (C .X) (C .r) (length (C .X .g)) (C .S) (low-mark C) x listed)))
+  counted = rw (A .tally .cells x pin-below, not-zero) (sym (tree-cells (C .X .K) pl x (listed-filled (work C) x listed)))
 
   uncounted : eqb (getD w (CELLS * m + x) 0) 0 ≡ not (mem x (treeOf (C .X) pl))
   uncounted = sym (not-not (eqb (getD w (CELLS * m + x) 0) 0)) ∙ ap not counted
@@ -114,7 +113,7 @@ module _ {C : Context} {m K half n : ℕ} {rule : WordRule} {at room : ℕ} {gat
   split-at = record { area = A .stands .base .area; waiting = rw list-is (A .begun .waiting .held); clear = A .spare }
 
   in-need : rules.inNeed (C .X) pl ≡ low
-  in-need = same-inNeed (C .X) (C .r) (length (C .X .g)) (C .S) (C .M) (A .stands .fair)
+  in-need = same-inNeed (work C) (A .stands .fair)
 
   module _ {w1 : List ℕ} {k : ℕ} {u : Bool} (S : Classes m n w w1 k u) where
     kept-low : keep (isNeeded m w) (list WAITING m n w) ≡ low
@@ -130,7 +129,7 @@ module _ {C : Context} {m K half n : ℕ} {rule : WordRule} {at room : ℕ} {gat
 
     pub last-is : not u ≡ rules.lastStage (C .X) pl
     unfolding rules.lastStage highWaiting
-    last-is = rw (S .untouched, list-is, same-untouched (C .X) (C .r) (length (C .X .g)) (C .S) (C .M) (A .stands .fair), not-not)
+    last-is = rw (S .untouched, list-is, same-untouched (work C) (A .stands .fair), not-not)
         (ap isNil (keep-ext (isUntouched m w) (λ p. not (mem p (treeOf (C .X) pl)) && ltb 1 (levelAt (C .X) p)) (C .X .waiting) (λ x i. untouched-is (A .stands) x (seen x i))))
 
     pub runs-at : RunsAt K half pl

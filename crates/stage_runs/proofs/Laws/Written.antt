@@ -13,7 +13,7 @@ use Rattle.rules.specs.Cells.{rowAt}
 use Rattle.rules.specs.Ending as rules
 use Rattle.rules.proofs.Lists.Members.{split}
 use Rattle.rules.proofs.Needed.Lacks.{same-truth, leb-true, true-leb}
-use Rattle.rules.proofs.Stage.Puts as fits
+use Rattle.rules.specs.Inside.Counts as counts
 use Rattle.rules.proofs.Stage.Branches.{runs-end, runs-go, runs-stop}
 use Rattle.columns.specs.Fields.{PHASE}
 use Rattle.columns.specs.Lists.{span}
@@ -80,13 +80,13 @@ module _ {C : Context} {m half k at room start : ℕ} {s : Puts} {gates pl w wor
 
 -- ---- all of them
 
-runs-drop : {m : ℕ} {rs : List rules.Sparse} → fits.Runs m rs → (j : ℕ) → fits.Runs m (drop j rs)
+runs-drop : {m : ℕ} {rs : List rules.Sparse} → counts.Runs m rs → (j : ℕ) → counts.Runs m (drop j rs)
 runs-drop k zero = k
-runs-drop fits.none (suc j) = fits.none
-runs-drop (fits.more h k) (suc j) = runs-drop k j
+runs-drop counts.none (suc j) = counts.none
+runs-drop (counts.more h k) (suc j) = runs-drop k j
 
-runs-head : {m : ℕ} {r : rules.Sparse} {rs : List rules.Sparse} → fits.Runs m (r ∷ rs) → r .start + 32 ≤ m
-runs-head (fits.more h k) = h
+runs-head : {m : ℕ} {r : rules.Sparse} {rs : List rules.Sparse} → counts.Runs m (r ∷ rs) → r .start + 32 ≤ m
+runs-head (counts.more h k) = h
 
 length-left : (m k next : ℕ) (w : List ℕ) → k ≤ m → length (span PHASE m next k w) ≡ k - next
 unfolding span

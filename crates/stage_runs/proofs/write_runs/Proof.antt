@@ -11,7 +11,7 @@ sparse-runs-requires : tie.Need-sparse-runs-requires
 sparse-runs-requires c κs = runs-at (c .before .before .before .before .before .before .before .before .before .before .pre .at) (c .before .before .before .before .split-waiting .ensures)
 
 put-runs-requires : tie.Need-put-runs-requires
-put-runs-requires c κs = record { C = _; at = write-at (c .before .before .before .before .before .before .before .before .before .before .before .before .before .before .pre .at) (c .before .before .before .before .before .before .before .before .split-waiting .ensures) (c .before .before .before .sparse-runs .ensures) }
+put-runs-requires c κs = record { it = _; at = write-at (c .before .before .before .before .before .before .before .before .before .before .before .before .before .before .pre .at) (c .before .before .before .before .before .before .before .before .split-waiting .ensures) (c .before .before .before .sparse-runs .ensures) }
 
 same-length : tie.Need-same-length
 same-length c = search needs

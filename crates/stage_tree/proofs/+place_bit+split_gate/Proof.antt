@@ -44,7 +44,7 @@ abbrev place-bit-claims : ℕ → place-bit-lts.Claims
 place-bit-claims t = (fill-cell-reads.Asked, fill-cell-reads.Learnt, get-reads.Asked, get-reads.Learnt, place-bit-below t, place-bit.Post, split-gate-below t, split-gate.Post)
 
 place-bit-fill-cell-requires : (t : ℕ) → place-bit-lts.Need-fill-cell-requires (place-bit-claims t) (place-bit-at t) place-bit.Post
-place-bit-fill-cell-requires t c κs = let s = c .before .before .before .before .before .pre .1 in record { C = s .C; at = place-fill (s .at) }
+place-bit-fill-cell-requires t c κs = let s = c .before .before .before .before .before .pre .1 in record { it = s .it; at = place-fill (s .at) }
 
 place-bit-same-length : (t : ℕ) → place-bit-lts.Need-same-length (place-bit-claims t) (place-bit-at t) place-bit.Post
 place-bit-same-length t c = search needs
@@ -58,7 +58,7 @@ place-bit-returns t c = record { all = λ C A. placed-zero A (c .before .before 
 place-bit-get-requires : (t : ℕ) → place-bit-lts.Need-get-requires (place-bit-claims t) (place-bit-at t) place-bit.Post
 place-bit-get-requires t c κs =
     let s = c .before .before .before .before .before .before .before .before .before .before .before .before .pre .1 in
-    let M = c .before .before .before .before .before .before .fill-cell .ensures .all (s .C) (place-fill (s .at)) in
+    let M = c .before .before .before .before .before .before .fill-cell .ensures .all (s .it) (place-fill (s .at)) in
     omega (arith, place-pin (s .at), M .kept .frame .len, s .at .base .area .room)
 
 place-bit-sub-place-bit : (t : ℕ) → place-bit-lts.Need-sub-place-bit (place-bit-claims t) (place-bit-at t) place-bit.Post
@@ -74,7 +74,7 @@ place-bit-place-bit-requires : (t : ℕ) → place-bit-lts.Need-place-bit-requir
 place-bit-place-bit-requires t c κs =
     let s = c .before .before .before .before .before .before .before .before .before .before .before .before .before .before .before .before .pre .1 in
     let pos = above-zero _ (c .before .before .before .before .before .if1 .left) in
-    (omega (arith, pos), record { C = s .C; at = pass-at (s .at) (c .before .before .before .before .before .before .before .before .before .before .fill-cell .ensures .all (s .C) (place-fill (s .at))) pos })
+    (omega (arith, pos), record { it = s .it; at = pass-at (s .at) (c .before .before .before .before .before .before .before .before .before .before .fill-cell .ensures .all (s .it) (place-fill (s .at))) pos })
 
 place-bit-same-length-3 : (t : ℕ) → place-bit-lts.Need-same-length-3 (place-bit-claims t) (place-bit-at t) place-bit.Post
 place-bit-same-length-3 t c = search needs
@@ -94,8 +94,8 @@ place-bit-returns-2 t c =
 place-bit-split-gate-requires : (t : ℕ) → place-bit-lts.Need-split-gate-requires (place-bit-claims t) (place-bit-at t) place-bit.Post
 place-bit-split-gate-requires t c κs =
     let s = c .before .before .before .before .before .before .before .before .before .before .before .before .before .before .before .before .pre .1 in
-    let M = c .before .before .before .before .before .before .before .before .before .before .fill-cell .ensures .all (s .C) (place-fill (s .at)) in
-    (omega arith, record { C = s .C; at = split-at (s .at) M (above-zero _ (c .before .before .before .before .before .if1 .left)) (omega (arith, c .before .before .if2 .left, level-read (s .at) M _ (c .before .before .before .get .ensures))) })
+    let M = c .before .before .before .before .before .before .before .before .before .before .fill-cell .ensures .all (s .it) (place-fill (s .at)) in
+    (omega arith, record { it = s .it; at = split-at (s .at) M (above-zero _ (c .before .before .before .before .before .if1 .left)) (omega (arith, c .before .before .if2 .left, level-read (s .at) M _ (c .before .before .before .get .ensures))) })
 
 place-bit-same-length-5 : (t : ℕ) → place-bit-lts.Need-same-length-5 (place-bit-claims t) (place-bit-at t) place-bit.Post
 place-bit-same-length-5 t c = search needs
@@ -142,7 +142,7 @@ split-gate-add-place-bit t c = omega (arith, split-low (c .before .before .befor
 split-gate-place-bit-requires : (t : ℕ) → split-gate-lts.Need-place-bit-requires (split-gate-claims t) (split-gate-at t) split-gate.Post
 split-gate-place-bit-requires t c κs =
     let s = c .before .before .before .before .before .before .before .pre .1 in
-    (omega (arith, s .at .above), record { C = s .C; at = split-first (s .at) (split-pins (s .at) _ _ (c .before .before .before .operand .ensures) (c .before .before .operand2 .ensures)) })
+    (omega (arith, s .at .above), record { it = s .it; at = split-first (s .at) (split-pins (s .at) _ _ (c .before .before .before .operand .ensures) (c .before .before .operand2 .ensures)) })
 
 split-gate-add-place-bit-2 : (t : ℕ) → split-gate-lts.Need-add-place-bit-2 (split-gate-claims t) (split-gate-at t) split-gate.Post
 split-gate-add-place-bit-2 t c = omega (arith, split-low (c .before .before .before .before .before .before .before .before .before .before .before .before .before .before .pre .1 .at))
@@ -151,7 +151,7 @@ split-gate-place-bit-requires-2 : (t : ℕ) → split-gate-lts.Need-place-bit-re
 split-gate-place-bit-requires-2 t c κs =
     let s = c .before .before .before .before .before .before .before .before .before .before .before .before .before .before .pre .1 in
     let O = split-pins (s .at) _ _ (c .before .before .before .before .before .before .before .before .before .before .operand .ensures) (c .before .before .before .before .before .before .before .before .before .operand2 .ensures) in
-    (omega (arith, s .at .above), record { C = s .C; at = split-second (s .at) O (c .before .before .before .before .before .before .place-bit .ensures .all (s .C) (split-first (s .at) O)) })
+    (omega (arith, s .at .above), record { it = s .it; at = split-second (s .at) O (c .before .before .before .before .before .before .place-bit .ensures .all (s .it) (split-first (s .at) O)) })
 
 split-gate-same-length : (t : ℕ) → split-gate-lts.Need-same-length (split-gate-claims t) (split-gate-at t) split-gate.Post
 split-gate-same-length t c = search needs

@@ -44,7 +44,7 @@ purge-bit-wide-requires t c κs = search needs
 purge-bit-empty-cell-requires : (t : ℕ) → purge-bit-lts.Need-empty-cell-requires (purge-bit-claims t) (purge-bit-at t) purge-bit.Post
 purge-bit-empty-cell-requires t c κs =
     let s = c .before .before .before .before .before .before .before .pre .1 in
-    record { C = s .C; at = purge-empty (s .at) (c .wide .ensures) (λ e. c .before .before .before .if1 .left (sym (c .wide .ensures) ∙ e)) }
+    record { it = s .it; at = purge-empty (s .at) (c .wide .ensures) (λ e. c .before .before .before .if1 .left (sym (c .wide .ensures) ∙ e)) }
 
 purge-bit-same-length : (t : ℕ) → purge-bit-lts.Need-same-length (purge-bit-claims t) (purge-bit-at t) purge-bit.Post
 purge-bit-same-length t c = search needs
@@ -74,7 +74,7 @@ purge-bit-purge-bit-requires t c κs =
     let s = c .before .before .before .before .before .before .before .before .before .before .before .before .before .before .before .pre .1 in
     let pos = above-zero _ (c .before .before .if2 .left) in
     let E = purge-empty (s .at) (c .before .before .before .before .before .before .before .before .wide .ensures) (λ e. c .before .before .before .before .before .before .before .before .before .before .before .if1 .left (sym (c .before .before .before .before .before .before .before .before .wide .ensures) ∙ e)) in
-    (omega (arith, pos), record { C = s .C; at = purge-first (s .at) E (c .before .before .before .before .before .before .before .empty-cell .ensures .all (s .C) E) pos })
+    (omega (arith, pos), record { it = s .it; at = purge-first (s .at) E (c .before .before .before .before .before .before .before .empty-cell .ensures .all (s .it) E) pos })
 
 purge-bit-add-purge-bit-2 : (t : ℕ) → purge-bit-lts.Need-add-purge-bit-2 (purge-bit-claims t) (purge-bit-at t) purge-bit.Post
 purge-bit-add-purge-bit-2 t c = omega (arith, purge-low (c .before .before .before .before .before .before .before .before .before .before .before .before .before .before .before .before .before .before .before .before .before .before .pre .1 .at) (above-zero _ (c .before .before .before .before .before .before .before .before .before .if2 .left)))
@@ -84,8 +84,8 @@ purge-bit-purge-bit-requires-2 t c κs =
     let s = c .before .before .before .before .before .before .before .before .before .before .before .before .before .before .before .before .before .before .before .before .before .before .pre .1 in
     let pos = above-zero _ (c .before .before .before .before .before .before .before .before .before .if2 .left) in
     let E = purge-empty (s .at) (c .before .before .before .before .before .before .before .before .before .before .before .before .before .before .before .wide .ensures) (λ e. c .before .before .before .before .before .before .before .before .before .before .before .before .before .before .before .before .before .before .if1 .left (sym (c .before .before .before .before .before .before .before .before .before .before .before .before .before .before .before .wide .ensures) ∙ e)) in
-    let M = c .before .before .before .before .before .before .before .before .before .before .before .before .before .before .empty-cell .ensures .all (s .C) E in
-    (omega (arith, pos), record { C = s .C; at = purge-second (s .at) E M pos (c .before .before .before .before .before .before .purge-bit .ensures .all (s .C) (purge-first (s .at) E M pos)) })
+    let M = c .before .before .before .before .before .before .before .before .before .before .before .before .before .before .empty-cell .ensures .all (s .it) E in
+    (omega (arith, pos), record { it = s .it; at = purge-second (s .at) E M pos (c .before .before .before .before .before .before .purge-bit .ensures .all (s .it) (purge-first (s .at) E M pos)) })
 
 purge-bit-same-length-3 : (t : ℕ) → purge-bit-lts.Need-same-length-3 (purge-bit-claims t) (purge-bit-at t) purge-bit.Post
 purge-bit-same-length-3 t c = search needs

@@ -10,11 +10,11 @@ use lib.Dec.{eqb, ltb}
 use lib.ListN.{length, getD, set, length-set}
 use lib.Seq.{getD-set-same, getD-set-other, set-set, set-getD}
 use borrow.Author.Tests.{lt-ltb, le-ltb, ne-eqb, eq-eqb}
-use Rattle.rules.specs.Lists.{count, mem}
+use Rattle.rules.specs.Lists.{count, mem, In, Out}
 use Rattle.rules.specs.Cells.{empty, filled, row, rowAt}
 use Rattle.rules.specs.Placing.{tree, treeOf}
-use Rattle.rules.specs.Lean.{cellsHolding}
-use Rattle.rules.proofs.Lists.Members.{In, Out, split, in-nil}
+use Rattle.rules.specs.Inside.Lean.{cellsHolding}
+use Rattle.rules.proofs.Lists.Members.{split, in-nil}
 use Rattle.rules.proofs.Tree.Loads.{rows}
 use Rattle.rules.proofs.Tree.Tally.{bit, cells-set, tree-cells, size-new, size-old, row-set, row-set-above}
 use Rattle.columns.specs.Fields.{CELLS, ONES, PINS}

@@ -13,13 +13,13 @@ use borrow.Author.Tests.{lt-ltb, le-ltb, ne-eqb, eq-eqb}
 use Rattle.rules.specs.Lists.{count, mem}
 use Rattle.rules.specs.Cells.{empty, filled, row}
 use Rattle.rules.specs.Placing.{tree, treeOf}
-use Rattle.rules.specs.Lean.{cellsHolding}
+use Rattle.rules.specs.Inside.Lean.{cellsHolding}
 use Rattle.rules.proofs.Tree.Fair.{listed-filled}
 use Rattle.rules.proofs.Tree.Tally.{bit, cells-set, cells-set-low, size-new, size-old, tree-set-low, row-set, row-set-above, row-set-below}
 use Rattle.rules.proofs.Tree.Back.{not-filled}
 use Rattle.columns.specs.Fields.{CELLS, ONES, PINS}
 use Rattle.stage_walk.specs.Stands.{Context, Tally}
-use Rattle.stage_walk.proofs.Contexts.{low-mark}
+use Rattle.stage_walk.proofs.Contexts.{work}
 use Rattle.stage_tree.specs.Counts.{CountAt, OneMore}
 use Rattle.stage_tree.specs.Bits.{Spot, FillAt, Filled}
 use Rattle.stage_tree.proofs.Counts.Kept.{kept-none, kept-then, kept-pin, kept-ones}
@@ -50,7 +50,7 @@ module _ {C : Context} {m h p n : ℕ} {pl u : List ℕ} (A : FillAt C m h p n p
   fill-count = let f = few (A .spot .tally) in record { area = A .spot .area; pin = fill-pin; cells = omega (arith, f .cells n fill-pin); pins = omega (arith, f .pins) }
 
   full : filled n ≡ true
-  full = listed-filled (C .X) (C .r) (length (C .X .g)) (C .S) (low-mark C) n (A .listed)
+  full = listed-filled (work C) n (A .listed)
 
   pub filled-low : h ≡ 0 → Filled C m p n pl u (set pl p n) u
   filled-low z = record { plan = refl; kept = kept-none; tally = low-tally (A .spot) z n }

@@ -9,7 +9,8 @@ use lib.ListN.{length, getD}
 use Rattle.rules.specs.Cells.{empty}
 use Rattle.rules.specs.Graph.{leaf, gate, pinOf, nodeOf, graphOf}
 use Rattle.rules.specs.Traversal.{levelAt}
-use Rattle.rules.proofs.Lists.Members.{In, split}
+use Rattle.rules.specs.Lists.{In}
+use Rattle.rules.proofs.Lists.Members.{split}
 use Rattle.rules.proofs.Tree.Loads.{leaf-level, first, second}
 use Rattle.rules.proofs.Tree.Held.{node}
 use Rattle.columns.specs.Fields.{LEVEL}

@@ -12,7 +12,8 @@ use Rattle.rules.specs.Graph.{leaf, gate, pinOf}
 use Rattle.rules.specs.Traversal.{Setting, levelAt}
 use Rattle.rules.specs.Placing.{place}
 use Rattle.rules.proofs.Lists.Members.{split}
-use Rattle.rules.proofs.Tree.Fair.{Under, apart}
+use Rattle.rules.specs.Inside.Plans.{Under}
+use Rattle.rules.proofs.Tree.Fair.{apart}
 use Rattle.rules.proofs.Tree.Sane.{frame}
 use Rattle.rules.proofs.Tree.Held.{node}
 use Rattle.rules.proofs.Stage.Lengths.{len-place}

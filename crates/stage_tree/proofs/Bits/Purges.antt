@@ -10,7 +10,7 @@ use Rattle.rules.specs.Cells.{empty, filled}
 use Rattle.rules.specs.Placing.{takeBack}
 use Rattle.rules.proofs.Lists.Members.{split, true-false}
 use Rattle.rules.proofs.Tree.Loads.{set-either}
-use Rattle.rules.proofs.Tree.Cone.{Tall}
+use Rattle.rules.specs.Inside.Plans.{Tall}
 use Rattle.rules.proofs.Tree.Back.{back-bare}
 use Rattle.stage_walk.specs.Stands.{Context}
 use Rattle.stage_tree.specs.Bits.{EmptyAt, Emptied, PurgeAt, Purged}
@@ -40,7 +40,7 @@ len-back (suc h) w p pl = split (filled (getD pl p empty))
     (λ e. rw (e, takeBack))
 
 -- filled cells hold listed pins still
-tall-set : (C : Context) (pl : List ℕ) (p : ℕ) → Tall (C .X) (C .r) (length (C .X .g)) (C .S) pl → Tall (C .X) (C .r) (length (C .X .g)) (C .S) (set pl p empty)
+tall-set : (C : Context) (pl : List ℕ) (p : ℕ) → Tall (C .X) pl → Tall (C .X) (set pl p empty)
 unfolding filled empty
 tall-set C pl p T h w q e a b g = elim (set-either pl p empty q empty) [
   | inl d ↦ absurd (let z : filled empty ≡ true = rw (d .1) at g in true-false z refl)
@@ -68,7 +68,7 @@ module _ {C : Context} {m h w p : ℕ} {pl u : List ℕ} (A : PurgeAt C m h w p 
     len1 : length pl1 ≡ length pl
     len1 = rw (M .plan) (length-set pl p empty)
 
-    tall1 : Tall (C .X) (C .r) (length (C .X .g)) (C .S) pl1
+    tall1 : Tall (C .X) pl1
     tall1 = rw (M .plan) (tall-set C pl p (A .tall))
 
     pub purged-zero : h ≡ 0 → Purged C m h w p pl u pl1 u1

@@ -7,22 +7,22 @@ use native.Mathlib.Omega.{arith}
 use lib.Dec.{eqb}
 use lib.ListN.{length, getD, take, drop, replicate}
 use borrow.Author.Tests.{ne-eqb}
-use Rattle.rules.specs.Lists.{count}
+use Rattle.rules.specs.Lists.{count, In}
 use Rattle.rules.specs.Cells.{empty, filled, row, rowAt}
 use Rattle.rules.specs.Traversal.{levelAt}
 use Rattle.rules.specs.Placing.{cellAt, placed}
-use Rattle.rules.specs.Lean.{blank, cellsHolding}
-use Rattle.rules.proofs.Lists.Members.{In}
+use Rattle.rules.specs.Inside.Lean.{blank, cellsHolding}
 use Rattle.rules.proofs.Stage.Last.{blank-take, blank-drop}
 use Rattle.rules.proofs.Stage.Flat.{blank-replicate}
-use Rattle.rules.proofs.Tree.Invariant.{Placeable, row-empty}
-use Rattle.rules.proofs.Tree.Fair.{Tidy, bare, fair-first, fair-kept, fair-down}
+use Rattle.rules.specs.Inside.Plans.{Placeable, Tidy}
+use Rattle.rules.proofs.Tree.Invariant.{row-empty}
+use Rattle.rules.proofs.Tree.Fair.{bare, fair-first, fair-kept, fair-down}
 use Rattle.rules.proofs.Tree.Back.{taken-back, not-filled}
 use Rattle.rules.proofs.Lean.Turns.{blank-tree}
 use Rattle.columns.specs.Area.{among, Frame}
 use Rattle.columns.specs.Fields.{LEVEL, CELLS, TAIL, ONES, PINS}
 use Rattle.stage_walk.specs.Stands.{Context, Base, Levelled}
-use Rattle.stage_walk.proofs.Contexts.{low-mark}
+use Rattle.stage_walk.proofs.Contexts.{work}
 use Rattle.stage_tree.specs.Bits.{Spot, PlaceAt, Placed, PurgeAt, Purged, Standing}
 use Rattle.stage_tree.specs.Search.{First}
 use Rattle.stage_tree.proofs.Counts.Kept.{base-frame, levelled-frame, tally-frame, kept-none, kept-then, base-kept, levelled-kept, one-area}
@@ -55,7 +55,7 @@ module _ {C : Context} {m h : ℕ} {gates pl u : List ℕ} (A : Standing C m h g
       base = A .base;
       levelled = A .levelled;
       row = row;
-      under = rw row (bare (C .X) (C .r) (length (C .X .g)) (C .S) (C .M) (low-mark C) h p n (A .fair) P);
+      under = rw row (bare (work C) h p n (A .fair) P);
       listed = P .listed;
     }
 
@@ -69,12 +69,12 @@ module _ {C : Context} {m h : ℕ} {gates pl u : List ℕ} (A : Standing C m h g
         base = base-kept (B .kept) (A .base);
         levelled = levelled-kept (B .kept) (A .levelled);
         tally = B .tally;
-        fair = rw placed-plan (fair-kept (C .X) (C .r) (length (C .X .g)) (C .S) (C .M) (low-mark C) h p n (A .fair) P);
+        fair = rw placed-plan (fair-kept (work C) h p n (A .fair) P);
       }
 
       -- whatever happened to other columns in between
       pub purged-plan : {v pl2 v2 : List ℕ} → Purged C m h w p pl1 v pl2 v2 → pl2 ≡ pl
-      purged-plan Q = Q .plan ∙ rw (placed-plan, row) (taken-back (C .X) (C .r) (length (C .X .g)) (C .S) (low-mark C) (C .M) h p n (A .fair) P)
+      purged-plan Q = Q .plan ∙ rw (placed-plan, row) (taken-back (work C) h p n (A .fair) P)
 
       -- purging the cell just placed gives back the very stage and area
       pub purged-same : {pl2 u2 : List ℕ} → Purged C m h w p pl1 u1 pl2 u2 → (pl2 ≡ pl) × (u2 ≡ u)
@@ -108,7 +108,7 @@ module _ (C : Context) (m h : ℕ) (gates u : List ℕ) (B : Base C m gates u) (
     base = B;
     levelled = L;
     tally = record { cells = λ x b. c x b ∙ sym (no-cells x b); ones = o ∙ sym no-ones; pins = p ∙ ap length (sym (blank-tree (C .X))) };
-    fair = fair-first (C .X) (C .r) (length (C .X .g)) (C .S) (C .M) (low-mark C) h;
+    fair = fair-first (work C) h;
   }
 
 -- other columns change
@@ -117,4 +117,4 @@ stands-frame f l c t A = record { base = base-frame f (A .base); levelled = leve
 
 -- one level down
 pub stands-down : {C : Context} {m h : ℕ} {gates pl u : List ℕ} → Standing C m (suc h) gates pl u → Standing C m h gates pl u
-stands-down {C} {m} {h} A = record { base = A .base; levelled = A .levelled; tally = A .tally; fair = fair-down (C .X) (C .r) (length (C .X .g)) (C .S) (C .M) (low-mark C) h (A .fair) }
+stands-down {C} {m} {h} A = record { base = A .base; levelled = A .levelled; tally = A .tally; fair = fair-down (work C) h (A .fair) }

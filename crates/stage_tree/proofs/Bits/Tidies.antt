@@ -17,7 +17,8 @@ use Rattle.rules.proofs.Lists.Members.{split}
 use Rattle.rules.proofs.Stage.Staged.{two-step}
 use Rattle.rules.proofs.Tree.Loads.{rows, set-either}
 use Rattle.rules.proofs.Tree.Back.{back-bare}
-use Rattle.rules.proofs.Tree.Fair.{Under, TidyAt, Tidy, apart}
+use Rattle.rules.specs.Inside.Plans.{Under, TidyAt, Tidy}
+use Rattle.rules.proofs.Tree.Fair.{apart}
 use Rattle.stage_tree.proofs.Bits.Cells.{not-full, row-step, row-down, row-zero, row-upper}
 use Rattle.stage_tree.proofs.Bits.Purges.{back-step, len-back}
 

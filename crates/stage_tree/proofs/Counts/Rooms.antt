@@ -5,22 +5,21 @@ use Prim.Native.Nat.{ℕ, _+_, _*_, _≤_, _<_, max}
 use native.Mathlib.Omega.{arith}
 use lib.Dec.{ltb}
 use lib.ListN.{length, getD}
-use Rattle.rules.specs.Lists.{mem}
+use Rattle.rules.specs.Lists.{mem, In}
 use Rattle.rules.specs.Cells.{levelOneSize}
 use Rattle.rules.specs.Placing.{treeOf}
-use Rattle.rules.specs.Lean.{roomFor}
-use Rattle.rules.proofs.Lists.Members.{In}
+use Rattle.rules.specs.Inside.Lean.{roomFor}
 use Rattle.rules.proofs.Tree.Fair.{listed-filled}
 use Rattle.rules.proofs.Tree.Tally.{tree-cells}
 use Rattle.columns.specs.Fields.{CELLS, ONES, PINS}
 use Rattle.stage_walk.specs.Stands.{Context, Tally}
-use Rattle.stage_walk.proofs.Contexts.{low-mark}
+use Rattle.stage_walk.proofs.Contexts.{work}
 use Rattle.stage_tree.specs.Counts.{roomIn}
 
 -- a pin is in the tree if a cell above level 0 holds it
 pub in-tree : {C : Context} {m : ℕ} {pl u : List ℕ} → Tally C m pl u → (n : ℕ) → n < m → In n (C .X .seen) → mem n (treeOf (C .X) pl) ≡ ltb 0 (getD u (CELLS * m + n) 0)
 unfolding treeOf
-in-tree {C} {m} {pl} t n b i = rw (t .cells n b) (tree-cells (C .X .K) pl n (listed-filled (C .X) (C .r) (length (C .X .g)) (C .S) (low-mark C) n i))
+in-tree {C} {m} {pl} t n b i = rw (t .cells n b) (tree-cells (C .X .K) pl n (listed-filled (work C) n i))
 
 -- with a plan's counts it is the test of the rules
 pub room-is : {C : Context} {m : ℕ} {pl u : List ℕ} → Tally C m pl u → (half b : ℕ) → half ≡ levelOneSize (C .X .K) → roomIn m half b u ≡ roomFor (C .X) b pl

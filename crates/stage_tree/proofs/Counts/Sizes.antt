@@ -9,7 +9,7 @@ use lib.ListN.{length, take, drop, length-take, length-append}
 use Rattle.rules.specs.Lists.{count, mem, keep, insert, insertAll, distinct}
 use Rattle.rules.specs.Cells.{filled, row, rowAt}
 use Rattle.rules.specs.Placing.{tree, treeOf}
-use Rattle.rules.specs.Lean.{cellsHolding}
+use Rattle.rules.specs.Inside.Lean.{cellsHolding}
 use Rattle.rules.proofs.Lists.Members.{split}
 use Rattle.rules.proofs.Stage.Fuel.{count-length}
 use Rattle.stage_walk.specs.Stands.{Context, Tally}

@@ -10,9 +10,9 @@ use borrow.Author.Tests.{eq-eqb, ne-eqb}
 use lib.Dec.{eqb}
 use lib.ListN.{length, getD, set, drop, length-set, drop-of-length-le}
 use lib.Seq.{drop-cons, getD-set-same, getD-set-other}
-use Rattle.rules.specs.Lists.{mem, insert}
+use Rattle.rules.specs.Lists.{mem, insert, In, Out}
 use Rattle.rules.specs.Graph.{below}
-use Rattle.rules.proofs.Lists.Members.{In, Out, and-true, eqb-true, in-reverse, reverse-in, in-getD}
+use Rattle.rules.proofs.Lists.Members.{and-true, eqb-true, in-reverse, reverse-in, in-getD}
 use Rattle.rules.proofs.Needed.Lacks.{same-truth}
 use Rattle.columns.specs.Area.{Frame}
 use Rattle.columns.specs.Fields.{ORDER, LISTED, STACK, PHASE}

@@ -3,11 +3,11 @@ use mathlib.Core.Path.{_≡_, refl, ap}
 use mathlib.Core.List.{List, [], _∷_}
 use Prim.Native.Nat.{ℕ, zero, suc, _<_}
 use native.Mathlib.Omega.{arith}
-use Rattle.rules.specs.Lists.{mem}
+use Rattle.rules.specs.Lists.{mem, In, Out}
 use Rattle.rules.specs.Graph.{Node, below}
 use Rattle.rules.specs.Traversal.{thread, visit}
-use Rattle.rules.proofs.Lists.Members.{In, Out, split, in-here, in-there}
-use Rattle.rules.proofs.Walk.Traverse.{Ranked}
+use Rattle.rules.proofs.Lists.Members.{split, in-here, in-there}
+use Rattle.rules.specs.Inside.Walks.{Ranked}
 
 thread-ext : (u v : ℕ → List ℕ → List ℕ) (ps : List ℕ) → ((p : ℕ) → In p ps → (s : List ℕ) → u p s ≡ v p s) → (s : List ℕ) → thread u ps s ≡ thread v ps s
 unfolding thread

@@ -5,11 +5,11 @@ use mathlib.Core.List.{List, [], _∷_}
 use Prim.Native.Nat.{ℕ, zero, suc, _+_, _*_, _<_, _≤_}
 use native.Mathlib.Omega.{arith}
 use lib.ListN.{length, drop}
-use Rattle.rules.specs.Lists.{mem}
+use Rattle.rules.specs.Lists.{mem, In, Out}
 use Rattle.rules.specs.Graph.{Node, below}
 use Rattle.rules.specs.Traversal.{thread, visit}
-use Rattle.rules.proofs.Lists.Members.{In, Out, split, true-false, in-cons}
-use Rattle.rules.proofs.Walk.Traverse.{Ranked}
+use Rattle.rules.proofs.Lists.Members.{split, true-false, in-cons}
+use Rattle.rules.specs.Inside.Walks.{Ranked}
 use Rattle.stage_walk.specs.Machine.{Item, item, rest, finish, phases, Chain, bottom, above, Stack, none, some}
 use Rattle.stage_walk.proofs.traversal.Fuel.{visit-seen, visit-open}
 

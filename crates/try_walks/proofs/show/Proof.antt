@@ -13,19 +13,19 @@ unfolding pinCount
 start-requires c κs = record { show = c .before .before .before .before .before .before .pre; pins = refl }
 
 prepare-requires : tie.Need-prepare-requires
-prepare-requires c κs = let s = c .before .before .before .start .ensures in record { C = s .C; at = s .at .prepare }
+prepare-requires c κs = let s = c .before .before .before .start .ensures in record { it = s .it; at = s .at .prepare }
 
 needed-requires : tie.Need-needed-requires
-needed-requires c κs = let s = c .before .before .before .before .before .before .before .start .ensures in record { C = s .C; pl = []; at = needed-at (s .at) (c .before .before .before .prepare .ensures .all (s .C) (s .at .prepare)) }
+needed-requires c κs = let s = c .before .before .before .before .before .before .before .start .ensures in record { it = record { C = s .it; pl = [] }; at = needed-at (s .at) (c .before .before .before .prepare .ensures .all (s .it) (s .at .prepare)) }
 
 write-all-requires : tie.Need-write-all-requires
 write-all-requires c κs = search needs
 
 print-requires : tie.Need-print-requires
-print-requires c κs = let s = c .before .before .before .before .before .before .before .before .before .before .before .before .start .ensures in let P = c .before .before .before .before .before .before .before .before .prepare .ensures .all (s .C) (s .at .prepare) in let N = c .before .before .before .before .needed .ensures .all (s .C) [] (needed-at (s .at) P) in record { room = omega (arith, P .set .begun .base .area .room, N .frame .len); listed = P .set .ordered .order .few; needed = N .list .few }
+print-requires c κs = let s = c .before .before .before .before .before .before .before .before .before .before .before .before .start .ensures in let P = c .before .before .before .before .before .before .before .before .prepare .ensures .all (s .it) (s .at .prepare) in let N = c .before .before .before .before .needed .ensures .all (record { C = s .it; pl = [] }) (needed-at (s .at) P) in record { room = omega (arith, P .set .begun .base .area .room, N .frame .len); listed = P .set .ordered .order .few; needed = N .list .few }
 
 forget-requires : tie.Need-forget-requires
-forget-requires c κs = let s = c .before .before .before .before .before .before .before .before .before .before .before .before .before .before .start .ensures in let P = c .before .before .before .before .before .before .before .before .before .before .prepare .ensures .all (s .C) (s .at .prepare) in end-at P (c .before .before .before .before .before .before .needed .ensures .all (s .C) [] (needed-at (s .at) P))
+forget-requires c κs = let s = c .before .before .before .before .before .before .before .before .before .before .before .before .before .before .start .ensures in let P = c .before .before .before .before .before .before .before .before .before .before .prepare .ensures .all (s .it) (s .at .prepare) in end-at P (c .before .before .before .before .before .before .needed .ensures .all (record { C = s .it; pl = [] }) (needed-at (s .at) P))
 
 same-length : tie.Need-same-length
 same-length c = search needs

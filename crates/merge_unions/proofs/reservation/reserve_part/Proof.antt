@@ -1,5 +1,5 @@
 -- `merge_unions::reservation::reserve_part` meets its contract: the first i names are counted, and pass no limit. Assumes nothing.
-use Rattle.placer_start.specs.Reservation.{Every}
+use Rattle.rules.specs.Inside.Some.{Every}
 use Rattle.merge_unions.specs.Reserving.{PartAt}
 use Rattle.merge_unions.proofs.Laws.Names.{name-there}
 use Rattle.merge_unions.proofs.Laws.Reserving.{Counting, counting-none, counting-names, counting-at, counted-few, counting-over, counting-more, counting-done}

@@ -11,7 +11,7 @@ wait-both-requires : tie.Need-wait-both-requires
 wait-both-requires c κs = size-wait (c .before .before .before .before .before .before .before .before .before .before .before .pre) (c .before .before .before .mark-given .ensures)
 
 traverse-requires : tie.Need-traverse-requires
-traverse-requires c κs = let A = c .before .before .before .before .before .before .before .before .before .before .before .before .before .before .before .pre in let G = c .before .before .before .before .before .before .before .mark-given .ensures in let W = c .before .before .before .wait-both .ensures in record { C = unionContext A G W; at = size-traverse A G W }
+traverse-requires c κs = let A = c .before .before .before .before .before .before .before .before .before .before .before .before .before .before .before .pre in let G = c .before .before .before .before .before .before .before .mark-given .ensures in let W = c .before .before .before .wait-both .ensures in record { it = unionContext A G W; at = size-traverse A G W }
 
 clear-along-requires : tie.Need-clear-along-requires
 clear-along-requires c κs = let A = c .before .before .before .before .before .before .before .before .before .before .before .before .before .before .before .before .before .before .before .pre in let G = c .before .before .before .before .before .before .before .before .before .before .before .mark-given .ensures in let W = c .before .before .before .before .before .before .before .wait-both .ensures in size-unlist A G W (c .before .before .before .traverse .ensures .all (unionContext A G W) (size-traverse A G W))

@@ -28,7 +28,7 @@ part-build-one-stage-end : tie.Need-part-build-one-stage-end
 part-build-one-stage-end c = part-inside-plan (c .before .before .before .before .before .pre .1 .at)
 
 build-one-stage-requires : tie.Need-build-one-stage-requires
-build-one-stage-requires c κs = (c .before .before .before .before .before .before .before .before .pre .0, record { C = _; at = stage-at (c .before .before .before .before .before .before .before .before .pre .1 .at) refl refl })
+build-one-stage-requires c κs = (c .before .before .before .before .before .before .before .before .pre .0, record { it = _; at = stage-at (c .before .before .before .before .before .before .before .before .pre .1 .at) refl refl })
 
 same-length : tie.Need-same-length
 same-length c = search needs

@@ -2,7 +2,8 @@
 use Rattle.stage_tally.proofs.Laws.Tests.{counted-more, bound-same, spent-more}
 use Rattle.stage_tally.specs.Spending.{bound, Counted}
 use Rattle.placer.proofs.Laws.Course.{still-rooms, next-at, spent-within, room-small, room-within, rooms-nine, one-on, refused-told, whole-told, whole-stands}
-use Rattle.placer.specs.Stages.{Every, StagesAt}
+use Rattle.rules.specs.Inside.Some.{Every}
+use Rattle.placer.specs.Stages.{StagesAt}
 use lib.ListN.{length}
 use native.Mathlib.Omega.{arith}
 use mathlib.Core.Path.{_≡_, refl, _∙_}
@@ -25,7 +26,7 @@ loop-holds : tie.Need-loop-holds Inv-loop μ-loop
 loop-holds c = (record { all = λ C A. A }, refl, refl, refl, refl, record { within = omega arith; spent = omega arith; small = omega (arith, c .before .before .before .before .before .good .1 .1 .0 .1) }, omega (arith, room-within (c .before .before .before .before .before .pre .at)))
 
 add-t21 : tie.Need-add-t21 Inv-loop μ-loop
-add-t21 c = let s = c .before .before .before .before .before .before .before .before .pre in let A = c .before .before .loop .inv .0 .all (s .C) (s .at) in omega (arith, A .now .few, A .all, A .short)
+add-t21 c = let s = c .before .before .before .before .before .before .before .before .pre in let A = c .before .before .loop .inv .0 .all (s .it) (s .at) in omega (arith, A .now .few, A .all, A .short)
 
 same-length : tie.Need-same-length Inv-loop μ-loop
 same-length c = search needs
@@ -43,10 +44,10 @@ returns : tie.Need-returns Inv-loop μ-loop
 returns c = record { all = λ C A. let B = c .before .before .loop .inv .0 .all C A in let e = rooms-nine B (c .before .loop-test .taken) (c .if1 .taken) in record { kept = record { plan = c .before .before .loop .inv .1; words = c .before .before .loop .inv .2; counts = c .before .before .loop .inv .3; work = c .before .before .loop .inv .4 }; reply = refused-told C 9 _ e; whole = λ z. absurd (omega arith) } }
 
 next-stage-requires : tie.Need-next-stage-requires Inv-loop μ-loop
-next-stage-requires c κs = let s = c .before .before .before .before .before .before .before .before .before .before .before .before .pre in (c .before .before .before .before .before .before .loop .inv .5, record { C = s .C; at = next-at (c .before .before .before .before .before .before .loop .inv .0 .all (s .C) (s .at)) (c .before .before .before .before .before .before .loop .inv .6) (c .before .before .before .before .before .loop-test .taken) (c .before .before .before .before .if1 .left) })
+next-stage-requires c κs = let s = c .before .before .before .before .before .before .before .before .before .before .before .before .pre in (c .before .before .before .before .before .before .loop .inv .5, record { it = s .it; at = next-at (c .before .before .before .before .before .before .loop .inv .0 .all (s .it) (s .at)) (c .before .before .before .before .before .before .loop .inv .6) (c .before .before .before .before .before .loop-test .taken) (c .before .before .before .before .if1 .left) })
 
 add-t30 : tie.Need-add-t30 Inv-loop μ-loop
-add-t30 c = let s = c .before .before .before .before .before .before .before .before .before .before .before .before .before .before .before .before .before .before .before .before .before .before .pre in let A = c .before .before .before .before .before .before .before .before .before .before .before .before .before .before .before .before .loop .inv .0 .all (s .C) (s .at) in omega (arith, still-rooms A (c .before .before .before .before .before .before .before .before .before .before .before .before .before .before .before .loop-test .taken) (c .before .before .before .before .before .before .before .before .before .before .before .before .before .before .if1 .left), c .before .before .before .before .before .before .before .before .before .before .before .before .before .before .before .before .before .before .before .before .before .before .fits .rooms)
+add-t30 c = let s = c .before .before .before .before .before .before .before .before .before .before .before .before .before .before .before .before .before .before .before .before .before .before .pre in let A = c .before .before .before .before .before .before .before .before .before .before .before .before .before .before .before .before .loop .inv .0 .all (s .it) (s .at) in omega (arith, still-rooms A (c .before .before .before .before .before .before .before .before .before .before .before .before .before .before .before .loop-test .taken) (c .before .before .before .before .before .before .before .before .before .before .before .before .before .before .if1 .left), c .before .before .before .before .before .before .before .before .before .before .before .before .before .before .before .before .before .before .before .before .before .before .fits .rooms)
 
 same-length-5 : tie.Need-same-length-5 Inv-loop μ-loop
 same-length-5 c = search needs
@@ -64,16 +65,16 @@ returns-2 : tie.Need-returns-2 Inv-loop μ-loop
 returns-2 c = record { all = λ C A. let I = c .before .before .before .before .before .before .before .before .before .before .before .before .before .before .before .before .loop .inv in let B = I .0 .all C A in let O = c .before .before .before .before .before .before .before .before .before .next-stage .ensures .all C (next-at B (I .6) (c .before .before .before .before .before .before .before .before .before .before .before .before .before .before .before .loop-test .taken) (c .before .before .before .before .before .before .before .before .before .before .before .before .before .before .if1 .left)) in record { kept = record { plan = omega (arith, I .1, O .kept .plan); words = omega (arith, I .2, O .kept .words); counts = omega (arith, I .3, O .kept .counts); work = omega (arith, I .4, O .kept .work) }; reply = refused-told C _ _ (O .refused (omega (arith, c .if2 .taken))); whole = λ z. absurd (c .if2 .taken z) } }
 
 spend-requires : tie.Need-spend-requires Inv-loop μ-loop
-spend-requires c κs = let s = c .before .before .before .before .before .before .before .before .before .before .before .before .before .before .before .before .before .before .before .before .before .before .pre in let I = c .before .before .before .before .before .before .before .before .before .before .before .before .before .before .before .before .loop .inv in let A = I .0 .all (s .C) (s .at) in let O = c .before .before .before .before .before .before .before .before .before .next-stage .ensures .all (s .C) (next-at A (I .6) (c .before .before .before .before .before .before .before .before .before .before .before .before .before .before .before .loop-test .taken) (c .before .before .before .before .before .before .before .before .before .before .before .before .before .before .if1 .left)) in let B = one-on A O (c .if2 .left) refl in omega (arith, spent-within B, room-small B)
+spend-requires c κs = let s = c .before .before .before .before .before .before .before .before .before .before .before .before .before .before .before .before .before .before .before .before .before .before .pre in let I = c .before .before .before .before .before .before .before .before .before .before .before .before .before .before .before .before .loop .inv in let A = I .0 .all (s .it) (s .at) in let O = c .before .before .before .before .before .before .before .before .before .next-stage .ensures .all (s .it) (next-at A (I .6) (c .before .before .before .before .before .before .before .before .before .before .before .before .before .before .before .loop-test .taken) (c .before .before .before .before .before .before .before .before .before .before .before .before .before .before .if1 .left)) in let B = one-on A O (c .if2 .left) refl in omega (arith, spent-within B, room-small B)
 
 add-k : tie.Need-add-k Inv-loop μ-loop
-add-k c = let s = c .before .before .before .before .before .before .before .before .before .before .before .before .before .before .before .before .before .before .before .before .before .before .before .pre in let A = c .before .before .before .before .before .before .before .before .before .before .before .before .before .before .before .before .before .loop .inv .0 .all (s .C) (s .at) in omega (arith, A .now .few, A .all, A .short)
+add-k c = let s = c .before .before .before .before .before .before .before .before .before .before .before .before .before .before .before .before .before .before .before .before .before .before .before .pre in let A = c .before .before .before .before .before .before .before .before .before .before .before .before .before .before .before .before .before .loop .inv .0 .all (s .it) (s .at) in omega (arith, A .now .few, A .all, A .short)
 
 loop-less : tie.Need-loop-less Inv-loop μ-loop
-loop-less c = let s = c .before .before .before .before .before .before .before .before .before .before .before .before .before .before .before .before .before .before .before .before .before .before .before .pre in let A = c .before .before .before .before .before .before .before .before .before .before .before .before .before .before .before .before .before .loop .inv .0 .all (s .C) (s .at) in omega (arith, still-rooms A (c .before .before .before .before .before .before .before .before .before .before .before .before .before .before .before .before .loop-test .taken) (c .before .before .before .before .before .before .before .before .before .before .before .before .before .before .before .if1 .left))
+loop-less c = let s = c .before .before .before .before .before .before .before .before .before .before .before .before .before .before .before .before .before .before .before .before .before .before .before .pre in let A = c .before .before .before .before .before .before .before .before .before .before .before .before .before .before .before .before .before .loop .inv .0 .all (s .it) (s .at) in omega (arith, still-rooms A (c .before .before .before .before .before .before .before .before .before .before .before .before .before .before .before .before .loop-test .taken) (c .before .before .before .before .before .before .before .before .before .before .before .before .before .before .before .if1 .left))
 
 loop-again : tie.Need-loop-again Inv-loop μ-loop
-loop-again c = let s = c .before .before .before .before .before .before .before .before .before .before .before .before .before .before .before .before .before .before .before .before .before .before .before .pre in let I = c .before .before .before .before .before .before .before .before .before .before .before .before .before .before .before .before .before .loop .inv in let A = I .0 .all (s .C) (s .at) in let O = c .before .before .before .before .before .before .before .before .before .before .next-stage .ensures .all (s .C) (next-at A (I .6) (c .before .before .before .before .before .before .before .before .before .before .before .before .before .before .before .before .loop-test .taken) (c .before .before .before .before .before .before .before .before .before .before .before .before .before .before .before .if1 .left)) in let B = one-on A O (c .before .if2 .left) refl in (record { all = λ C A. let B = I .0 .all C A in one-on B (c .before .before .before .before .before .before .before .before .before .before .next-stage .ensures .all C (next-at B (I .6) (c .before .before .before .before .before .before .before .before .before .before .before .before .before .before .before .before .loop-test .taken) (c .before .before .before .before .before .before .before .before .before .before .before .before .before .before .before .if1 .left))) (c .before .if2 .left) (spent-more (I .5) _ (c .spend .ensures)) }, search needs, search needs, search needs, search needs, counted-more (I .5) _ (c .spend .ensures) (omega (arith, spent-within B, I .6)), bound-same (I .5) _ (c .spend .ensures) ∙ I .6)
+loop-again c = let s = c .before .before .before .before .before .before .before .before .before .before .before .before .before .before .before .before .before .before .before .before .before .before .before .pre in let I = c .before .before .before .before .before .before .before .before .before .before .before .before .before .before .before .before .before .loop .inv in let A = I .0 .all (s .it) (s .at) in let O = c .before .before .before .before .before .before .before .before .before .before .next-stage .ensures .all (s .it) (next-at A (I .6) (c .before .before .before .before .before .before .before .before .before .before .before .before .before .before .before .before .loop-test .taken) (c .before .before .before .before .before .before .before .before .before .before .before .before .before .before .before .if1 .left)) in let B = one-on A O (c .before .if2 .left) refl in (record { all = λ C A. let B = I .0 .all C A in one-on B (c .before .before .before .before .before .before .before .before .before .before .next-stage .ensures .all C (next-at B (I .6) (c .before .before .before .before .before .before .before .before .before .before .before .before .before .before .before .before .loop-test .taken) (c .before .before .before .before .before .before .before .before .before .before .before .before .before .before .before .if1 .left))) (c .before .if2 .left) (spent-more (I .5) _ (c .spend .ensures)) }, search needs, search needs, search needs, search needs, counted-more (I .5) _ (c .spend .ensures) (omega (arith, spent-within B, I .6)), bound-same (I .5) _ (c .spend .ensures) ∙ I .6)
 
 same-length-9 : tie.Need-same-length-9 Inv-loop μ-loop
 same-length-9 c = search needs

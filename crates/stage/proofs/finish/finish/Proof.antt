@@ -18,7 +18,7 @@ left-requires : tie.Need-left-requires
 left-requires c κs = c .before .before .before .before .pre .0
 
 write-runs-requires : tie.Need-write-runs-requires
-write-runs-requires c κs = record { C = c .before .before .before .before .before .before .before .before .pre .1 .C; at = end-at (room-as (c .before .before .before .before .before .before .before .before .pre .1 .at) (c .before .before .before .left .ensures)) }
+write-runs-requires c κs = record { it = c .before .before .before .before .before .before .before .before .pre .1 .it; at = end-at (room-as (c .before .before .before .before .before .before .before .before .pre .1 .at) (c .before .before .before .left .ensures)) }
 
 spend-requires : tie.Need-spend-requires
 spend-requires c κs = let A = c .before .before .before .before .before .before .before .before .before .before .before .before .before .before .before .pre .0 in omega (arith, A .small, A .within, A .spent, c .before .before .before .before .before .before .write-runs .ensures .all _ (end-at (room-as (c .before .before .before .before .before .before .before .before .before .before .before .before .before .before .before .pre .1 .at) (c .before .before .before .before .before .before .before .before .before .before .left .ensures))) .few)
@@ -39,7 +39,7 @@ returns : tie.Need-returns
 returns c = record { all = λ C A. let e = c .before .before .before .before .before .before .before .before .before .before .before .before .before .left .ensures in let B = room-as A e in finished-as e (finished-seven B (c .before .before .before .before .before .before .before .before .before .write-runs .ensures .all C (end-at B)) (omega (arith, e, over-room (c .before .before .before .before .before .before .before .before .before .before .before .before .before .before .before .before .before .before .pre .0) _ (c .before .before .spend .ensures) (c .before .is-over .ensures) (c .if1 .taken)))) }
 
 finish-rest-requires : tie.Need-finish-rest-requires
-finish-rest-requires c κs = let e = c .before .before .before .before .before .before .before .before .before .before .before .before .before .before .before .before .left .ensures in let B = room-as (c .before .before .before .before .before .before .before .before .before .before .before .before .before .before .before .before .before .before .before .before .before .pre .1 .at) e in record { C = _; pl = _; at = resting-at B (c .before .before .before .before .before .before .before .before .before .before .before .before .write-runs .ensures .all _ (end-at B)) (omega (arith, e, fits-room (c .before .before .before .before .before .before .before .before .before .before .before .before .before .before .before .before .before .before .before .before .before .pre .0) _ (c .before .before .before .before .before .spend .ensures) (c .before .before .before .before .is-over .ensures) (c .before .before .before .if1 .left))) }
+finish-rest-requires c κs = let e = c .before .before .before .before .before .before .before .before .before .before .before .before .before .before .before .before .left .ensures in let B = room-as (c .before .before .before .before .before .before .before .before .before .before .before .before .before .before .before .before .before .before .before .before .before .pre .1 .at) e in record { it = record { C = _; pl = _ }; at = resting-at B (c .before .before .before .before .before .before .before .before .before .before .before .before .write-runs .ensures .all _ (end-at B)) (omega (arith, e, fits-room (c .before .before .before .before .before .before .before .before .before .before .before .before .before .before .before .before .before .before .before .before .before .pre .0) _ (c .before .before .before .before .before .spend .ensures) (c .before .before .before .before .is-over .ensures) (c .before .before .before .if1 .left))) }
 
 same-length-4 : tie.Need-same-length-4
 same-length-4 c = search needs
@@ -51,7 +51,7 @@ same-length-6 : tie.Need-same-length-6
 same-length-6 c = search needs
 
 returns-2 : tie.Need-returns-2
-returns-2 c = record { all = λ C A. let e = c .before .before .before .before .before .before .before .before .before .before .before .before .before .before .before .before .before .before .before .before .before .before .before .left .ensures in let B = room-as A e in let R = c .before .before .before .before .before .before .before .before .before .before .before .before .before .before .before .before .before .before .before .write-runs .ensures .all C (end-at B) in let h = fits-as e (fits-room (c .before .before .before .before .before .before .before .before .before .before .before .before .before .before .before .before .before .before .before .before .before .before .before .before .before .before .before .before .pre .0) _ (c .before .before .before .before .before .before .before .before .before .before .before .before .spend .ensures) (c .before .before .before .before .before .before .before .before .before .before .before .is-over .ensures) (c .before .before .before .before .before .before .before .before .before .before .if1 .left)) in finished-as e (finished B R h (c .before .before .before .before .before .before .finish-rest .ensures .all C _ (resting-at B R h))) }
+returns-2 c = record { all = λ C A. let e = c .before .before .before .before .before .before .before .before .before .before .before .before .before .before .before .before .before .before .before .before .before .before .before .left .ensures in let B = room-as A e in let R = c .before .before .before .before .before .before .before .before .before .before .before .before .before .before .before .before .before .before .before .write-runs .ensures .all C (end-at B) in let h = fits-as e (fits-room (c .before .before .before .before .before .before .before .before .before .before .before .before .before .before .before .before .before .before .before .before .before .before .before .before .before .before .before .before .pre .0) _ (c .before .before .before .before .before .before .before .before .before .before .before .before .spend .ensures) (c .before .before .before .before .before .before .before .before .before .before .before .is-over .ensures) (c .before .before .before .before .before .before .before .before .before .before .if1 .left)) in finished-as e (finished B R h (c .before .before .before .before .before .before .finish-rest .ensures .all (record { C = C; pl = _ }) (resting-at B R h))) }
 
 pub finish-spec : {M : Type 1} → statement M
 finish-spec =

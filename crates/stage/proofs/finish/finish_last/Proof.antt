@@ -5,10 +5,10 @@ use Rattle.stage.proofs.finish.finish_last.Tie as tie
 use borrow.Author.Needs.{needs}
 
 write-last-requires : tie.Need-write-last-requires
-write-last-requires c κs = record { C = _; pl = _; at = c .before .before .before .before .before .pre .at }
+write-last-requires c κs = record { it = _; at = c .before .before .before .before .before .pre .at }
 
 close-stage-requires : tie.Need-close-stage-requires
-close-stage-requires c κs = close-at (c .before .before .before .before .before .before .before .before .before .before .before .pre .at) (c .before .before .before .before .before .write-last .ensures .all _ _ (c .before .before .before .before .before .before .before .before .before .before .before .pre .at))
+close-stage-requires c κs = close-at (c .before .before .before .before .before .before .before .before .before .before .before .pre .at) (c .before .before .before .before .before .write-last .ensures .all _ (c .before .before .before .before .before .before .before .before .before .before .before .pre .at))
 
 same-length : tie.Need-same-length
 same-length c = search needs
@@ -17,7 +17,7 @@ same-length-2 : tie.Need-same-length-2
 same-length-2 c = search needs
 
 returns : tie.Need-returns
-returns c = record { all = λ C pl A. ended A (c .before .before .before .before .before .before .before .before .write-last .ensures .all C pl A) (c .before .before .close-stage .ensures) }
+returns c = record { all = λ x A. ended A (c .before .before .before .before .before .before .before .before .write-last .ensures .all x A) (c .before .before .close-stage .ensures) }
 
 pub finish-last-spec : {M : Type 1} → statement M
 finish-last-spec =

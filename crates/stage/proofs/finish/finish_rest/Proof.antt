@@ -5,10 +5,10 @@ use Rattle.stage.proofs.finish.finish_rest.Tie as tie
 use borrow.Author.Needs.{needs}
 
 fill-rest-requires : tie.Need-fill-rest-requires
-fill-rest-requires c κs = record { C = _; at = rest-at (c .before .before .before .before .before .before .pre .at) }
+fill-rest-requires c κs = record { it = _; at = rest-at (c .before .before .before .before .before .before .pre .at) }
 
 finish-last-requires : tie.Need-finish-last-requires
-finish-last-requires c κs = record { C = _; pl = _; at = lasting-at (c .before .before .before .before .before .before .before .before .before .before .before .before .before .before .before .pre .at) (c .before .before .before .before .before .before .before .before .fill-rest .ensures .all _ (rest-at (c .before .before .before .before .before .before .before .before .before .before .before .before .before .before .before .pre .at))) (c .before .before .before .if1 .taken) }
+finish-last-requires c κs = record { it = _; at = lasting-at (c .before .before .before .before .before .before .before .before .before .before .before .before .before .before .before .pre .at) (c .before .before .before .before .before .before .before .before .fill-rest .ensures .all _ (rest-at (c .before .before .before .before .before .before .before .before .before .before .before .before .before .before .before .pre .at))) (c .before .before .before .if1 .taken) }
 
 same-length : tie.Need-same-length
 same-length c = search needs
@@ -20,7 +20,7 @@ same-length-3 : tie.Need-same-length-3
 same-length-3 c = search needs
 
 returns : tie.Need-returns
-returns c = record { all = λ C pl A. ends-rest A (c .before .before .before .before .before .before .before .before .before .before .before .before .before .fill-rest .ensures .all C (rest-at A)) (c .before .before .before .before .finish-last .ensures .all C pl (lasting-at A (c .before .before .before .before .before .before .before .before .before .before .before .before .before .fill-rest .ensures .all C (rest-at A)) (c .before .before .before .before .before .before .before .before .if1 .taken))) }
+returns c = record { all = λ x A. ends-rest A (c .before .before .before .before .before .before .before .before .before .before .before .before .before .fill-rest .ensures .all (x .C) (rest-at A)) (c .before .before .before .before .finish-last .ensures .all x (lasting-at A (c .before .before .before .before .before .before .before .before .before .before .before .before .before .fill-rest .ensures .all (x .C) (rest-at A)) (c .before .before .before .before .before .before .before .before .if1 .taken))) }
 
 same-length-4 : tie.Need-same-length-4
 same-length-4 c = search needs
@@ -29,7 +29,7 @@ same-length-5 : tie.Need-same-length-5
 same-length-5 c = search needs
 
 returns-2 : tie.Need-returns-2
-returns-2 c = record { all = λ C pl A. ends-eight A (c .before .before .before .before .before .fill-rest .ensures .all C (rest-at A)) (c .if1 .left) }
+returns-2 c = record { all = λ x A. ends-eight A (c .before .before .before .before .before .fill-rest .ensures .all (x .C) (rest-at A)) (c .if1 .left) }
 
 pub finish-rest-spec : {M : Type 1} → statement M
 finish-rest-spec =

@@ -14,10 +14,10 @@ same-length-2 : tie.Need-same-length-2
 same-length-2 c = search needs
 
 returns : tie.Need-returns
-returns c = record { all = λ C pl A. lasting-last A (c .before .before .before .before .before .before .before .if1 .taken) (c .before .before .before .before .last-words .ensures) }
+returns c = record { all = λ x A. lasting-last A (c .before .before .before .before .before .before .before .if1 .taken) (c .before .before .before .before .last-words .ensures) }
 
 returns-2 : tie.Need-returns-2
-returns-2 c = record { all = λ C pl A. lasting-not A (c .if1 .left) }
+returns-2 c = record { all = λ x A. lasting-not A (c .if1 .left) }
 
 pub write-last-spec : {M : Type 1} → statement M
 write-last-spec =

@@ -21,7 +21,7 @@ add-write : tie.Need-add-write
 add-write c = search needs
 
 write-requires : tie.Need-write-requires
-write-requires c κs = record { ws = _; at = write-at (c .before .before .before .before .before .before .before .before .before .before .pre) (c .before .before .before .before .before .collect .ensures) (c .before .before .if1 .left) }
+write-requires c κs = record { it = _; at = write-at (c .before .before .before .before .before .before .before .before .before .before .pre) (c .before .before .before .before .before .collect .ensures) (c .before .before .if1 .left) }
 
 realise-all-requires : tie.Need-realise-all-requires
 realise-all-requires c κs = realise-at (c .before .before .before .before .before .before .before .before .before .before .before .before .before .before .before .before .pre) (c .before .before .before .before .before .before .before .before .before .before .before .collect .ensures) (c .before .before .before .before .before .before .before .before .if1 .left) (c .before .before .before .before .before .write .ensures .all _ (write-at (c .before .before .before .before .before .before .before .before .before .before .before .before .before .before .before .before .pre) (c .before .before .before .before .before .before .before .before .before .before .before .collect .ensures) (c .before .before .before .before .before .before .before .before .if1 .left)))

@@ -6,7 +6,7 @@ use Rattle.stage_ending.proofs.rest.fill_rest.Statement.{statement}
 use Rattle.stage_ending.proofs.rest.fill_rest.Tie as tie
 
 put-rest-requires : tie.Need-put-rest-requires
-put-rest-requires c κs = record { C = _; at = c .before .before .before .before .before .pre .at }
+put-rest-requires c κs = record { it = _; at = c .before .before .before .before .before .pre .at }
 
 mul-first-empty : tie.Need-mul-first-empty
 mul-first-empty c = omega (arith, half-few (c .before .before .before .before .before .before .before .before .before .before .before .before .pre .at))

@@ -45,7 +45,7 @@ returns-3 : tie.Need-returns-3
 returns-3 c = record { all = λ C A. pin-full A (c .before .before .before .before .before .before .before .is-in .ensures) (c .before .before .before .before .is-in2 .ensures) (c .before .before .before .before .before .before .if1 .left) (c .before .before .before .if2 .left) (c .before .first-empty .ensures) (c .if3 .taken) }
 
 place-bit-requires : tie.Need-place-bit-requires
-place-bit-requires c κs = record { C = _; at = pin-place (c .before .before .before .before .before .before .before .before .before .before .before .before .before .before .pre .at) (c .before .before .before .before .before .before .before .before .before .is-in .ensures) (c .before .before .before .before .before .before .is-in2 .ensures) (c .before .before .before .before .before .before .before .before .if1 .left) (c .before .before .before .before .before .if2 .left) (c .before .before .before .first-empty .ensures) (c .before .before .if3 .left) }
+place-bit-requires c κs = record { it = _; at = pin-place (c .before .before .before .before .before .before .before .before .before .before .before .before .before .before .pre .at) (c .before .before .before .before .before .before .before .before .before .is-in .ensures) (c .before .before .before .before .before .before .is-in2 .ensures) (c .before .before .before .before .before .before .before .before .if1 .left) (c .before .before .before .before .before .if2 .left) (c .before .before .before .first-empty .ensures) (c .before .before .if3 .left) }
 
 add-result-2 : tie.Need-add-result-2
 add-result-2 c = omega (arith, half-few (c .before .before .before .before .before .before .before .before .before .before .before .before .before .before .before .before .before .before .before .pre .at), c .before .before .before .before .before .before .before .before .first-empty .ensures .to)

@@ -1,7 +1,7 @@
 -- `stage_ending::rest::put_rest` meets its contract: each search starts where the last one ended. Assumes nothing.
 use native.Mathlib.Omega.{arith}
 use Prim.Native.Nat.{_-_}
-use Rattle.stage_walk.specs.Stands.{Every}
+use Rattle.rules.specs.Inside.Some.{Every}
 use Rattle.stage_ending.specs.Rest.{RestAt, Resting}
 use Rattle.stage_ending.proofs.Laws.Rest.{half-few, resting-none, resting-done, resting-pin, resting-full, resting-more}
 use borrow.Author.Needs.{needs}
@@ -21,7 +21,7 @@ get-requires : tie.Need-get-requires Inv-loop μ-loop
 get-requires c κs = let B = c .before .before .loop .inv .all _ (c .before .before .before .before .before .before .pre .at) in omega (arith, B .stands .base .area .room, c .before .before .before .before .before .before .pre .at .needed .few)
 
 put-pin-requires : tie.Need-put-pin-requires Inv-loop μ-loop
-put-pin-requires c κs = record { C = _; at = resting-pin (c .before .before .before .before .before .before .before .before .before .pre .at) (c .before .before .before .before .before .loop .inv .all _ (c .before .before .before .before .before .before .before .before .before .pre .at)) (c .before .before .before .before .loop-test .taken) (c .before .before .get .ensures) }
+put-pin-requires c κs = record { it = _; at = resting-pin (c .before .before .before .before .before .before .before .before .before .pre .at) (c .before .before .before .before .before .loop .inv .all _ (c .before .before .before .before .before .before .before .before .before .pre .at)) (c .before .before .before .before .loop-test .taken) (c .before .before .get .ensures) }
 
 mul-if1 : tie.Need-mul-if1 Inv-loop μ-loop
 mul-if1 c = omega (arith, half-few (resting-pin (c .before .before .before .before .before .before .before .before .before .before .before .before .before .before .pre .at) (c .before .before .before .before .before .before .before .before .before .before .loop .inv .all _ (c .before .before .before .before .before .before .before .before .before .before .before .before .before .before .pre .at)) (c .before .before .before .before .before .before .before .before .before .loop-test .taken) (c .before .before .before .before .before .before .before .get .ensures)))

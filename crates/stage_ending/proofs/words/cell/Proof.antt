@@ -23,7 +23,7 @@ is-end-requires : tie.Need-is-end-requires
 is-end-requires c κs = let A = c .before .before .before .before .before .before .pre .at in (omega (arith, cell-pin A (λ e. c .before .if1 .left (c .before .before .wide .ensures ∙ e)), c .before .before .wide .ensures), omega (arith, A .spots .area .room))
 
 word-requires : tie.Need-word-requires
-word-requires c κs = record { ws = _; at = cell-at (c .before .before .before .before .before .before .before .before .before .pre .at) }
+word-requires c κs = record { it = _; at = cell-at (c .before .before .before .before .before .before .before .before .before .pre .at) }
 
 same-length : tie.Need-same-length
 same-length c = search needs

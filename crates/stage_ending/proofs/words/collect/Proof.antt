@@ -20,7 +20,7 @@ mul-row : tie.Need-mul-row Inv-loop μ-loop
 mul-row c = omega (arith, rising-row (c .before .before .before .before .before .pre) (c .before .before .loop .inv) (c .before .loop-test .taken) .high)
 
 row-requires : tie.Need-row-requires Inv-loop μ-loop
-row-requires c κs = record { ws = _; at = rising-row (c .before .before .before .before .before .pre) (c .before .before .loop .inv) (c .before .loop-test .taken) }
+row-requires c κs = record { it = _; at = rising-row (c .before .before .before .before .before .pre) (c .before .before .loop .inv) (c .before .loop-test .taken) }
 
 add-h : tie.Need-add-h Inv-loop μ-loop
 add-h c = search needs

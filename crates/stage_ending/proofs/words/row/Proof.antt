@@ -1,13 +1,14 @@
 -- `stage_ending::words::row` meets its contract: cell after cell. Assumes nothing.
 use Prim.Native.Nat.{_-_}
-use Rattle.stage_ending.specs.Words.{EveryWords, RowAt}
+use Rattle.rules.specs.Inside.Some.{Every}
+use Rattle.stage_ending.specs.Words.{RowAt}
 use Rattle.stage_ending.proofs.Laws.Words.{Going, going-none, row-cell, going-more, going-done}
 use borrow.Author.Needs.{needs}
 use Rattle.stage_ending.proofs.words.row.Statement.{statement}
 use Rattle.stage_ending.proofs.words.row.Tie as tie
 
 abbrev Inv-loop : tie.InvT-loop
-Inv-loop stage work₀ m n a e k₀ p₀ work k p = EveryWords (λ ws. RowAt m n a e ws stage work₀) (λ ws. Going m a e p ws stage work₀ work k)
+Inv-loop stage work₀ m n a e k₀ p₀ work k p = Every (λ ws. RowAt m n a e ws stage work₀) (λ ws. Going m a e p ws stage work₀ work k)
 
 abbrev μ-loop : tie.MeasureT-loop
 μ-loop stage work₀ m n a e k₀ p₀ work k p = e - p
@@ -16,7 +17,7 @@ loop-holds : tie.Need-loop-holds Inv-loop μ-loop
 loop-holds c = record { all = λ ws R. going-none R }
 
 cell-requires : tie.Need-cell-requires Inv-loop μ-loop
-cell-requires c κs = record { ws = _; at = row-cell (c .before .before .before .before .before .pre .at) (c .before .before .loop .inv .all _ (c .before .before .before .before .before .pre .at)) (c .before .loop-test .taken) }
+cell-requires c κs = record { it = _; at = row-cell (c .before .before .before .before .before .pre .at) (c .before .before .loop .inv .all _ (c .before .before .before .before .before .pre .at)) (c .before .loop-test .taken) }
 
 add-p : tie.Need-add-p Inv-loop μ-loop
 add-p c = search needs

@@ -1,13 +1,14 @@
 -- `stage_ending::words::write` meets its contract: word after word; each knows its place. Assumes nothing.
 use Prim.Native.Nat.{_-_}
-use Rattle.stage_ending.specs.Words.{EveryWords, WriteAt, Writing}
+use Rattle.rules.specs.Inside.Some.{Every}
+use Rattle.stage_ending.specs.Words.{WriteAt, Writing}
 use Rattle.stage_ending.proofs.Laws.Writing.{writing-none, write-at, writing-more, writing-done}
 use borrow.Author.Needs.{needs}
 use Rattle.stage_ending.proofs.words.write.Statement.{statement}
 use Rattle.stage_ending.proofs.words.write.Tie as tie
 
 abbrev Inv-loop : tie.InvT-loop
-Inv-loop words₀ work₀ m at n j₀ words work j = EveryWords (λ ws. WriteAt m at n ws words₀ work₀) (λ ws. Writing m at j ws words₀ work₀ words work)
+Inv-loop words₀ work₀ m at n j₀ words work j = Every (λ ws. WriteAt m at n ws words₀ work₀) (λ ws. Writing m at j ws words₀ work₀ words work)
 
 abbrev μ-loop : tie.MeasureT-loop
 μ-loop words₀ work₀ m at n j₀ words work j = 256 - j

@@ -8,10 +8,10 @@ start-level-requires : tie.Need-start-level-requires
 start-level-requires c κs = search needs
 
 grow-requires : tie.Need-grow-requires
-grow-requires c κs = record { C = _; at = fill-grow (c .before .before .before .before .before .before .pre .at) (c .before .before .start-level .ensures) }
+grow-requires c κs = record { it = _; at = fill-grow (c .before .before .before .before .before .before .pre .at) (c .before .before .start-level .ensures) }
 
 needed-requires : tie.Need-needed-requires
-needed-requires c κs = let A = c .before .before .before .before .before .before .before .before .before .before .before .before .pre .at in record { C = _; pl = _; at = fill-count A (c .before .before .before .before .before .grow .ensures .all _ (fill-grow A (c .before .before .before .before .before .before .before .before .start-level .ensures))) }
+needed-requires c κs = let A = c .before .before .before .before .before .before .before .before .before .before .before .before .pre .at in record { it = record { C = _; pl = _ }; at = fill-count A (c .before .before .before .before .before .grow .ensures .all _ (fill-grow A (c .before .before .before .before .before .before .before .before .start-level .ensures))) }
 
 same-length : tie.Need-same-length
 same-length c = search needs
@@ -20,7 +20,7 @@ same-length-2 : tie.Need-same-length-2
 same-length-2 c = search needs
 
 returns : tie.Need-returns
-returns c = record { all = λ C A. let G = c .before .before .before .before .before .before .before .before .grow .ensures .all C (fill-grow A (c .before .before .before .before .before .before .before .before .before .before .before .start-level .ensures)) in filled-tree A G (c .before .before .needed .ensures .all C _ (fill-count A G)) }
+returns c = record { all = λ C A. let G = c .before .before .before .before .before .before .before .before .grow .ensures .all C (fill-grow A (c .before .before .before .before .before .before .before .before .before .before .before .start-level .ensures)) in filled-tree A G (c .before .before .needed .ensures .all (record { C = C; pl = _ }) (fill-count A G)) }
 
 pub fill-tree-spec : {M : Type 1} → statement M
 fill-tree-spec =

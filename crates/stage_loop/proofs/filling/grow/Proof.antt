@@ -8,7 +8,7 @@ returns : tie.Need-returns
 returns c = record { all = λ C A. grown-none A (c .if1 .taken) }
 
 needed-requires : tie.Need-needed-requires
-needed-requires c κs = record { C = _; pl = _; at = grow-count (c .before .before .before .before .before .pre .at) }
+needed-requires c κs = record { it = record { C = _; pl = _ }; at = grow-count (c .before .before .before .before .before .pre .at) }
 
 row-at-requires : tie.Need-row-at-requires
 row-at-requires c κs = row-at (c .before .before .before .before .before .before .before .before .pre .at)
@@ -17,7 +17,7 @@ sub-lean : tie.Need-sub-lean
 sub-lean c = search needs
 
 lean-requires : tie.Need-lean-requires
-lean-requires c κs = let A = c .before .before .before .before .before .before .before .before .before .before .before .pre .at in record { C = _; at = grow-lean A (c .before .before .before .before .before .before .before .if1 .left) (c .before .before .before .before .before .needed .ensures .all _ _ (grow-count A)) (c .before .before .row-at .ensures) }
+lean-requires c κs = let A = c .before .before .before .before .before .before .before .before .before .before .before .pre .at in record { it = _; at = grow-lean A (c .before .before .before .before .before .before .before .if1 .left) (c .before .before .before .before .before .needed .ensures .all (record { C = _; pl = _ }) (grow-count A)) (c .before .before .row-at .ensures) }
 
 same-length : tie.Need-same-length
 same-length c = search needs
@@ -26,7 +26,7 @@ same-length-2 : tie.Need-same-length-2
 same-length-2 c = search needs
 
 returns-2 : tie.Need-returns-2
-returns-2 c = record { all = λ C A. let N = c .before .before .before .before .before .before .before .before .before .before .needed .ensures .all C _ (grow-count A) in grown A (c .before .before .before .before .before .before .before .before .before .before .before .before .if1 .left) N (c .before .before .before .before .before .before .before .row-at .ensures) (c .before .before .before .before .lean .ensures .all C (grow-lean A (c .before .before .before .before .before .before .before .before .before .before .before .before .if1 .left) N (c .before .before .before .before .before .before .before .row-at .ensures))) }
+returns-2 c = record { all = λ C A. let N = c .before .before .before .before .before .before .before .before .before .before .needed .ensures .all (record { C = C; pl = _ }) (grow-count A) in grown A (c .before .before .before .before .before .before .before .before .before .before .before .before .if1 .left) N (c .before .before .before .before .before .before .before .row-at .ensures) (c .before .before .before .before .lean .ensures .all C (grow-lean A (c .before .before .before .before .before .before .before .before .before .before .before .before .if1 .left) N (c .before .before .before .before .before .before .before .row-at .ensures))) }
 
 pub grow-spec : {M : Type 1} → statement M
 grow-spec =

@@ -5,13 +5,13 @@ use Rattle.stage_loop.proofs.lean.attempt.Statement.{statement}
 use Rattle.stage_loop.proofs.lean.attempt.Tie as tie
 
 place-bit-requires : tie.Need-place-bit-requires
-place-bit-requires c κs = record { C = c .before .before .before .before .before .pre .C; at = place-at (c .before .before .before .before .before .pre .at) }
+place-bit-requires c κs = record { it = c .before .before .before .before .before .pre .it; at = place-at (c .before .before .before .before .before .pre .at) }
 
 settle-requires : tie.Need-settle-requires
-settle-requires c κs = let A = c .before .before .before .before .before .before .before .before .before .before .before .before .pre in record { C = A .C; at = after-place (A .at) (c .before .before .before .before .before .before .place-bit .ensures .all (A .C) (place-at (A .at))) }
+settle-requires c κs = let A = c .before .before .before .before .before .before .before .before .before .before .before .before .pre in record { it = A .it; at = after-place (A .at) (c .before .before .before .before .before .before .place-bit .ensures .all (A .it) (place-at (A .at))) }
 
 purge-bit-requires : tie.Need-purge-bit-requires
-purge-bit-requires c κs = let A = c .before .before .before .before .before .before .before .before .before .before .before .before .before .before .before .before .before .before .pre in let P = c .before .before .before .before .before .before .before .before .before .before .before .before .place-bit .ensures .all (A .C) (place-at (A .at)) in record { C = A .C; at = back-at (A .at) P (c .before .before .before .before .before .settle .ensures .all (A .C) (after-place (A .at) P)) }
+purge-bit-requires c κs = let A = c .before .before .before .before .before .before .before .before .before .before .before .before .before .before .before .before .before .before .pre in let P = c .before .before .before .before .before .before .before .before .before .before .before .before .place-bit .ensures .all (A .it) (place-at (A .at)) in record { it = A .it; at = back-at (A .at) P (c .before .before .before .before .before .settle .ensures .all (A .it) (after-place (A .at) P)) }
 
 same-length : tie.Need-same-length
 same-length c = search needs

@@ -2,7 +2,7 @@
 use mathlib.Core.Path.{_≡_, refl}
 use lib.ListN.{length}
 use native.Mathlib.Omega.{arith}
-use Rattle.stage_walk.specs.Stands.{Every}
+use Rattle.rules.specs.Inside.Some.{Every}
 use Rattle.stage_loop.specs.Loop.{LeanAt, Leaning}
 use Rattle.stage_loop.proofs.Laws.Loop.{leaning-none, lean-width, lean-go, lean-down, leaning-then, leaned}
 use borrow.Author.Needs.{needs}
@@ -19,25 +19,25 @@ loop-holds : tie.Need-loop-holds Inv-loop μ-loop
 loop-holds c = (record { all = λ C A. leaning-none A }, refl, refl)
 
 add-get : tie.Need-add-get Inv-loop μ-loop
-add-get c = let A = c .before .before .loop .inv .0 .all (c .before .before .before .before .before .before .pre .C) (c .before .before .before .before .before .before .pre .at) .at in omega (arith, A .deep, A .plan .set .begun .base .area .small)
+add-get c = let A = c .before .before .loop .inv .0 .all (c .before .before .before .before .before .before .pre .it) (c .before .before .before .before .before .before .pre .at) .at in omega (arith, A .deep, A .plan .set .begun .base .area .small)
 
 get-requires : tie.Need-get-requires Inv-loop μ-loop
-get-requires c κs = let A = c .before .before .loop .inv .0 .all (c .before .before .before .before .before .before .pre .C) (c .before .before .before .before .before .before .pre .at) .at in omega (arith, A .deep, A .plan .set .begun .base .area .room)
+get-requires c κs = let A = c .before .before .loop .inv .0 .all (c .before .before .before .before .before .before .pre .it) (c .before .before .before .before .before .before .pre .at) .at in omega (arith, A .deep, A .plan .set .begun .base .area .room)
 
 add-get-2 : tie.Need-add-get-2 Inv-loop μ-loop
-add-get-2 c = let A = c .before .before .before .before .loop .inv .0 .all (c .before .before .before .before .before .before .before .before .pre .C) (c .before .before .before .before .before .before .before .before .pre .at) .at in omega (arith, A .deep, A .plan .set .begun .base .area .small)
+add-get-2 c = let A = c .before .before .before .before .loop .inv .0 .all (c .before .before .before .before .before .before .before .before .pre .it) (c .before .before .before .before .before .before .before .before .pre .at) .at in omega (arith, A .deep, A .plan .set .begun .base .area .small)
 
 get-requires-2 : tie.Need-get-requires-2 Inv-loop μ-loop
-get-requires-2 c κs = let A = c .before .before .before .before .loop .inv .0 .all (c .before .before .before .before .before .before .before .before .pre .C) (c .before .before .before .before .before .before .before .before .pre .at) .at in omega (arith, A .deep, A .plan .set .begun .base .area .room)
+get-requires-2 c κs = let A = c .before .before .before .before .loop .inv .0 .all (c .before .before .before .before .before .before .before .before .pre .it) (c .before .before .before .before .before .before .before .before .pre .at) .at in omega (arith, A .deep, A .plan .set .begun .base .area .room)
 
 sweep-requires : tie.Need-sweep-requires Inv-loop μ-loop
-sweep-requires c κs = let A = c .before .before .before .before .before .before .before .loop .inv .0 .all (c .before .before .before .before .before .before .before .before .before .before .before .pre .C) (c .before .before .before .before .before .before .before .before .before .before .before .pre .at) .at in record { C = c .before .before .before .before .before .before .before .before .before .before .before .pre .C; at = lean-go A (c .before .before .before .before .before .before .loop-test .taken) _ _ (c .before .before .before .before .get .ensures) (c .before .before .get2 .ensures) }
+sweep-requires c κs = let A = c .before .before .before .before .before .before .before .loop .inv .0 .all (c .before .before .before .before .before .before .before .before .before .before .before .pre .it) (c .before .before .before .before .before .before .before .before .before .before .before .pre .at) .at in record { it = c .before .before .before .before .before .before .before .before .before .before .before .pre .it; at = lean-go A (c .before .before .before .before .before .before .loop-test .taken) _ _ (c .before .before .before .before .get .ensures) (c .before .before .get2 .ensures) }
 
 sub-l : tie.Need-sub-l Inv-loop μ-loop
 sub-l c = search needs
 
 mul-w : tie.Need-mul-w Inv-loop μ-loop
-mul-w c = omega (arith, lean-width (c .before .before .before .before .before .before .before .before .before .before .before .before .loop .inv .0 .all (c .before .before .before .before .before .before .before .before .before .before .before .before .before .before .before .before .pre .C) (c .before .before .before .before .before .before .before .before .before .before .before .before .before .before .before .before .pre .at) .at))
+mul-w c = omega (arith, lean-width (c .before .before .before .before .before .before .before .before .before .before .before .before .loop .inv .0 .all (c .before .before .before .before .before .before .before .before .before .before .before .before .before .before .before .before .pre .it) (c .before .before .before .before .before .before .before .before .before .before .before .before .before .before .before .before .pre .at) .at))
 
 loop-less : tie.Need-loop-less Inv-loop μ-loop
 loop-less c = search needs

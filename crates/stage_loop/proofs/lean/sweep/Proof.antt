@@ -2,7 +2,7 @@
 use Prim.Native.Nat.{_-_}
 use mathlib.Core.Path.{_≡_, refl}
 use lib.ListN.{length}
-use Rattle.stage_walk.specs.Stands.{Every}
+use Rattle.rules.specs.Inside.Some.{Every}
 use Rattle.stage_loop.specs.Loop.{At, Gone}
 use Rattle.stage_loop.proofs.Laws.Loop.{gone-none, gone-next, gone-stop, gone-then, gone-end, every-pos}
 use borrow.Author.Needs.{needs}
@@ -19,7 +19,7 @@ loop-holds : tie.Need-loop-holds Inv-loop μ-loop
 loop-holds c = (record { all = λ C A. gone-none A }, refl, refl)
 
 turn-requires : tie.Need-turn-requires Inv-loop μ-loop
-turn-requires c κs = let A = c .before .before .before .before .before .before .before .pre in record { C = A .C; at = gone-next (c .before .before .before .loop .inv .0 .all (A .C) (A .at)) (c .before .before .loop-test .taken) }
+turn-requires c κs = let A = c .before .before .before .before .before .before .before .pre in record { it = A .it; at = gone-next (c .before .before .before .loop .inv .0 .all (A .it) (A .at)) (c .before .before .loop-test .taken) }
 
 same-length : tie.Need-same-length Inv-loop μ-loop
 same-length c = search needs

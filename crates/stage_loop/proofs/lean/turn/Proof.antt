@@ -40,7 +40,7 @@ add-attempt : tie.Need-add-attempt
 add-attempt c = search needs
 
 attempt-requires : tie.Need-attempt-requires
-attempt-requires c κs = record { C = c .before .before .before .before .before .before .before .before .before .before .before .before .before .pre .C; at = try-at (c .before .before .before .before .before .before .before .before .before .before .before .before .before .pre .at) _ (c .before .before .before .before .before .before .before .before .get .ensures) (marked-none _ (sym (c .before .before .before .before .before .before .is-in .ensures) ∙ c .before .before .before .before .before .if1 .left)) _ (c .before .before .before .first-empty .ensures) (c .before .before .if2 .left) }
+attempt-requires c κs = record { it = c .before .before .before .before .before .before .before .before .before .before .before .before .before .pre .it; at = try-at (c .before .before .before .before .before .before .before .before .before .before .before .before .before .pre .at) _ (c .before .before .before .before .before .before .before .before .get .ensures) (marked-none _ (sym (c .before .before .before .before .before .before .is-in .ensures) ∙ c .before .before .before .before .before .if1 .left)) _ (c .before .before .before .first-empty .ensures) (c .before .before .if2 .left) }
 
 same-length-4 : tie.Need-same-length-4
 same-length-4 c = search needs

@@ -19,7 +19,7 @@ get-requires : tie.Need-get-requires
 get-requires c κs = next-at (c .before .before .before .before .before .before .before .pre .at) (c .before .before .before .if1 .left) refl
 
 place-bit-requires : tie.Need-place-bit-requires
-place-bit-requires c κs = record { C = _; at = fill-at (c .before .before .before .before .before .before .before .before .before .before .pre .at) (c .before .before .before .before .before .before .if1 .left) (c .before .before .get .ensures) (c .before .before .before .before .if2 .taken) }
+place-bit-requires c κs = record { it = _; at = fill-at (c .before .before .before .before .before .before .before .before .before .before .pre .at) (c .before .before .before .before .before .before .if1 .left) (c .before .before .get .ensures) (c .before .before .before .before .if2 .taken) }
 
 enlist-requires : tie.Need-enlist-requires
 enlist-requires c κs = fill-enlist (c .before .before .before .before .before .before .before .before .before .before .before .before .before .before .before .before .pre .at) (c .before .before .before .before .before .before .before .before .before .before .before .before .if1 .left) (c .before .before .before .before .before .before .before .before .get .ensures) (c .before .before .before .before .before .before .before .before .before .before .if2 .taken) (c .before .before .before .before .before .place-bit .ensures .all _ (fill-at (c .before .before .before .before .before .before .before .before .before .before .before .before .before .before .before .before .pre .at) (c .before .before .before .before .before .before .before .before .before .before .before .before .if1 .left) (c .before .before .before .before .before .before .before .before .get .ensures) (c .before .before .before .before .before .before .before .before .before .before .if2 .taken)))

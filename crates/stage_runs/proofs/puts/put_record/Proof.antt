@@ -18,7 +18,7 @@ add-put-run : tie.Need-add-put-run
 add-put-run c = omega (arith, record-end (c .before .before .before .before .before .before .before .before .before .before .pre .at))
 
 put-run-requires : tie.Need-put-run-requires
-put-run-requires c κs = record { C = _; at = record-run (c .before .before .before .before .before .before .before .before .before .before .pre .at) }
+put-run-requires c κs = record { it = _; at = record-run (c .before .before .before .before .before .before .before .before .before .before .pre .at) }
 
 same-length : tie.Need-same-length
 same-length c = search needs

@@ -2,7 +2,7 @@
 use Rattle.stage_runs.proofs.Laws.Puts.{put-none-yet, run-cell, run-more, run-end, run-done}
 use Prim.Native.Nat.{_≤_, _-_}
 use Rattle.rules.specs.Ending.{putCells}
-use Rattle.stage_walk.specs.Stands.{Every}
+use Rattle.rules.specs.Inside.Some.{Every}
 use Rattle.stage_runs.specs.Puts.{RunAt, Put}
 use native.Mathlib.Omega.{arith}
 use borrow.Author.Needs.{needs}
@@ -22,7 +22,7 @@ add-put-cell : tie.Need-add-put-cell Inv-loop μ-loop
 add-put-cell c = omega (arith, run-end (c .before .before .before .before .before .before .before .pre .at))
 
 put-cell-requires : tie.Need-put-cell-requires Inv-loop μ-loop
-put-cell-requires c κs = record { C = _; at = run-cell (c .before .before .before .before .before .before .before .pre .at) (c .before .before .before .loop .inv .1 .all _ (c .before .before .before .before .before .before .before .pre .at)) (c .before .before .loop-test .taken) }
+put-cell-requires c κs = record { it = _; at = run-cell (c .before .before .before .before .before .before .before .pre .at) (c .before .before .before .loop .inv .1 .all _ (c .before .before .before .before .before .before .before .pre .at)) (c .before .before .loop-test .taken) }
 
 add-i : tie.Need-add-i Inv-loop μ-loop
 add-i c = search needs

@@ -1,7 +1,7 @@
 -- `stage_runs::puts::put_runs` meets its contract: record after record, up to the first that fails the test. Assumes nothing.
 use native.Mathlib.Omega.{arith}
 use Prim.Native.Nat.{_-_}
-use Rattle.stage_walk.specs.Stands.{Every}
+use Rattle.rules.specs.Inside.Some.{Every}
 use Rattle.stage_runs.specs.Puts.{WriteAt, Writing}
 use Rattle.stage_runs.proofs.Laws.Written.{writing-none, writing-length, writing-end, writing-stop, writing-record, writing-more}
 use borrow.Author.Needs.{needs}
@@ -33,7 +33,7 @@ wide-requires : tie.Need-wide-requires Inv-loop μ-loop
 wide-requires c κs = search needs
 
 put-record-requires : tie.Need-put-record-requires Inv-loop μ-loop
-put-record-requires c κs = record { C = _; at = writing-record (c .before .before .before .before .before .before .before .before .before .before .before .before .before .before .pre .at) _ (c .before .before .before .before .before .before .before .before .before .loop .inv .all _ (c .before .before .before .before .before .before .before .before .before .before .before .before .before .before .pre .at)) (c .before .before .before .before .before .before .before .before .loop-test .taken) _ (c .wide .ensures) }
+put-record-requires c κs = record { it = _; at = writing-record (c .before .before .before .before .before .before .before .before .before .before .before .before .before .before .pre .at) _ (c .before .before .before .before .before .before .before .before .before .loop .inv .all _ (c .before .before .before .before .before .before .before .before .before .before .before .before .before .before .pre .at)) (c .before .before .before .before .before .before .before .before .loop-test .taken) _ (c .wide .ensures) }
 
 add-j : tie.Need-add-j Inv-loop μ-loop
 add-j c = search needs

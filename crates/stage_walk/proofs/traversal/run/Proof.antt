@@ -1,7 +1,7 @@
 -- `stage_walk::traversal::run` meets its contract: each step leaves the same to list, and fewer steps. Assumes nothing.
 use mathlib.Core.Path.{_≡_, refl}
 use lib.ListN.{length}
-use Rattle.stage_walk.specs.Stands.{Every}
+use Rattle.rules.specs.Inside.Some.{Every}
 use Rattle.stage_walk.specs.Machine.{Going, toGo, Went}
 use Rattle.stage_walk.proofs.traversal.Loops.{went-none, went-top, went-then, went-less, went-end}
 use borrow.Author.Needs.{needs}
@@ -21,10 +21,10 @@ sub-step : tie.Need-sub-step Inv-loop μ-loop
 sub-step c = search needs
 
 step-requires : tie.Need-step-requires Inv-loop μ-loop
-step-requires c κs = let s = c .before .before .before .before .before .pre in record { C = s .C; at = went-top (c .before .before .loop .inv .0 .all (s .C) (s .at)) (c .before .loop-test .taken) }
+step-requires c κs = let s = c .before .before .before .before .before .pre in record { it = s .it; at = went-top (c .before .before .loop .inv .0 .all (s .it) (s .at)) (c .before .loop-test .taken) }
 
 loop-less : tie.Need-loop-less Inv-loop μ-loop
-loop-less c = let s = c .before .before .before .before .before .before .before .before .pre in let U = c .before .before .before .before .before .loop .inv .0 .all (s .C) (s .at) in went-less U (c .before .before .before .before .loop-test .taken) (c .before .before .step .ensures .all (s .C) (went-top U (c .before .before .before .before .loop-test .taken)))
+loop-less c = let s = c .before .before .before .before .before .before .before .before .pre in let U = c .before .before .before .before .before .loop .inv .0 .all (s .it) (s .at) in went-less U (c .before .before .before .before .loop-test .taken) (c .before .before .step .ensures .all (s .it) (went-top U (c .before .before .before .before .loop-test .taken)))
 
 loop-again : tie.Need-loop-again Inv-loop μ-loop
 loop-again c = (record { all = λ C G. let U = c .before .before .before .before .before .loop .inv .0 .all C G in went-then U (c .before .before .before .before .loop-test .taken) (c .before .before .step .ensures .all C (went-top U (c .before .before .before .before .loop-test .taken))) }, search needs)

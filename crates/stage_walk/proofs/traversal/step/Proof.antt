@@ -7,13 +7,13 @@ use Rattle.stage_walk.proofs.traversal.step.Statement.{statement}
 use Rattle.stage_walk.proofs.traversal.step.Tie as tie
 
 get-requires : tie.Need-get-requires
-get-requires c κs = let s = c .before .before .before .pre in omega (arith, top-at (s .C) (c .before .before .before .args .top) (s .at), s .at .reads .base .area .room)
+get-requires c κs = let s = c .before .before .before .pre in omega (arith, top-at (s .it) (c .before .before .before .args .top) (s .at), s .at .reads .base .area .room)
 
 get-requires-2 : tie.Need-get-requires-2
-get-requires-2 c κs = let s = c .before .before .before .before .before .pre in omega (arith, top-at (s .C) (c .before .before .before .before .before .args .top) (s .at), s .at .reads .base .area .room)
+get-requires-2 c κs = let s = c .before .before .before .before .before .pre in omega (arith, top-at (s .it) (c .before .before .before .before .before .args .top) (s .at), s .at .reads .base .area .room)
 
 passed-requires : tie.Need-passed-requires
-passed-requires c κs = let s = c .before .before .before .before .before .before .before .pre in let A : TopAt (s .C) _ _ _ _ _ _ _ = record { going = s .at; pin = c .before .before .before .get .ensures; phase = c .before .get2 .ensures } in omega (arith, pin-in (s .C) A, s .at .reads .base .area .room)
+passed-requires c κs = let s = c .before .before .before .before .before .before .before .pre in let A : TopAt (s .it) _ _ _ _ _ _ _ = record { going = s .at; pin = c .before .before .before .get .ensures; phase = c .before .get2 .ensures } in omega (arith, pin-in (s .it) A, s .at .reads .base .area .room)
 
 same-length : tie.Need-same-length
 same-length c = search needs
@@ -22,10 +22,10 @@ returns : tie.Need-returns
 returns c = record { all = λ C G. step-seen C (record { going = G; pin = c .before .before .before .before .before .get .ensures; phase = c .before .before .before .get2 .ensures }) (sym (c .before .passed .ensures) ∙ c .if1 .taken) }
 
 followed-requires : tie.Need-followed-requires
-followed-requires c κs = let s = c .before .before .before .before .before .before .before .before .before .before .pre in (record { C = s .C; at = s .at .reads }, pin-in (s .C) (record { going = s .at; pin = c .before .before .before .before .before .before .get .ensures; phase = c .before .before .before .before .get2 .ensures }))
+followed-requires c κs = let s = c .before .before .before .before .before .before .before .before .before .before .pre in (record { it = s .it; at = s .at .reads }, pin-in (s .it) (record { going = s .at; pin = c .before .before .before .before .before .before .get .ensures; phase = c .before .before .before .before .get2 .ensures }))
 
 list-requires : tie.Need-list-requires
-list-requires c κs = let s = c .before .before .before .before .before .before .before .before .before .before .before .before .before .pre in let A : TopAt (s .C) _ _ _ _ _ _ _ = record { going = s .at; pin = c .before .before .before .before .before .before .before .before .before .get .ensures; phase = c .before .before .before .before .before .before .before .get2 .ensures } in let h = pin-in (s .C) A in let l = room (s .C) A (sym (c .before .before .before .before .before .passed .ensures) ∙ c .before .before .before .before .if1 .left) in (omega (arith, s .at .reads .base .area .room), (omega (arith, s .at .reads .base .area .room), omega (arith, s .at .reads .base .area .small)))
+list-requires c κs = let s = c .before .before .before .before .before .before .before .before .before .before .before .before .before .pre in let A : TopAt (s .it) _ _ _ _ _ _ _ = record { going = s .at; pin = c .before .before .before .before .before .before .before .before .before .get .ensures; phase = c .before .before .before .before .before .before .before .get2 .ensures } in let h = pin-in (s .it) A in let l = room (s .it) A (sym (c .before .before .before .before .before .passed .ensures) ∙ c .before .before .before .before .if1 .left) in (omega (arith, s .at .reads .base .area .room), (omega (arith, s .at .reads .base .area .room), omega (arith, s .at .reads .base .area .small)))
 
 add-t22 : tie.Need-add-t22
 add-t22 c = omega (arith, c .before .before .before .before .before .before .before .before .before .before .before .before .before .before .before .before .pre .at .listed .held .few, c .before .before .before .before .before .before .before .before .before .before .before .before .before .before .before .before .pre .at .reads .base .area .small)
@@ -37,13 +37,13 @@ returns-2 : tie.Need-returns-2
 returns-2 c = record { all = λ C G. step-list C (record { going = G; pin = c .before .before .before .before .before .before .before .before .before .before .before .before .get .ensures; phase = c .before .before .before .before .before .before .before .before .before .before .get2 .ensures }) (sym (c .before .before .before .before .before .before .before .before .passed .ensures) ∙ c .before .before .before .before .before .before .before .if1 .left) _ (c .before .before .before .before .before .followed .ensures .all C (G .reads)) _ (c .before .before .before .before .if2 .taken) (c .before .before .list .ensures) }
 
 add-descend : tie.Need-add-descend
-add-descend c = let s = c .before .before .before .before .before .before .before .before .before .before .before .before .before .pre in omega (arith, next-phase (s .C) (record { going = s .at; pin = c .before .before .before .before .before .before .before .before .before .get .ensures; phase = c .before .before .before .before .before .before .before .get2 .ensures }) (sym (c .before .before .before .before .before .passed .ensures) ∙ c .before .before .before .before .if1 .left) _ (c .before .before .followed .ensures .all (s .C) (s .at .reads)) (c .before .if2 .left))
+add-descend c = let s = c .before .before .before .before .before .before .before .before .before .before .before .before .before .pre in omega (arith, next-phase (s .it) (record { going = s .at; pin = c .before .before .before .before .before .before .before .before .before .get .ensures; phase = c .before .before .before .before .before .before .before .get2 .ensures }) (sym (c .before .before .before .before .before .passed .ensures) ∙ c .before .before .before .before .if1 .left) _ (c .before .before .followed .ensures .all (s .it) (s .at .reads)) (c .before .if2 .left))
 
 descend-requires : tie.Need-descend-requires
-descend-requires c κs = let s = c .before .before .before .before .before .before .before .before .before .before .before .before .before .pre in let A : TopAt (s .C) _ _ _ _ _ _ _ = record { going = s .at; pin = c .before .before .before .before .before .before .before .before .before .get .ensures; phase = c .before .before .before .before .before .before .before .get2 .ensures } in let t = sym (c .before .before .before .before .before .passed .ensures) ∙ c .before .before .before .before .if1 .left in let q = c .before .before .followed .ensures .all (s .C) (s .at .reads) in let z = next-room (s .C) A t _ q (c .before .if2 .left) in let y = next-in (s .C) A t _ q (c .before .if2 .left) in let x = next-phase (s .C) A t _ q (c .before .if2 .left) in (omega (arith, s .at .reads .base .area .room), (omega arith, omega (arith, s .at .reads .base .area .small)))
+descend-requires c κs = let s = c .before .before .before .before .before .before .before .before .before .before .before .before .before .pre in let A : TopAt (s .it) _ _ _ _ _ _ _ = record { going = s .at; pin = c .before .before .before .before .before .before .before .before .before .get .ensures; phase = c .before .before .before .before .before .before .before .get2 .ensures } in let t = sym (c .before .before .before .before .before .passed .ensures) ∙ c .before .before .before .before .if1 .left in let q = c .before .before .followed .ensures .all (s .it) (s .at .reads) in let z = next-room (s .it) A t _ q (c .before .if2 .left) in let y = next-in (s .it) A t _ q (c .before .if2 .left) in let x = next-phase (s .it) A t _ q (c .before .if2 .left) in (omega (arith, s .at .reads .base .area .room), (omega arith, omega (arith, s .at .reads .base .area .small)))
 
 add-t26 : tie.Need-add-t26
-add-t26 c = omega (arith, top-at (c .before .before .before .before .before .before .before .before .before .before .before .before .before .before .before .before .pre .C) (c .before .before .before .before .before .before .before .before .before .before .before .before .before .before .before .before .args .top) (c .before .before .before .before .before .before .before .before .before .before .before .before .before .before .before .before .pre .at), c .before .before .before .before .before .before .before .before .before .before .before .before .before .before .before .before .pre .at .reads .base .area .small)
+add-t26 c = omega (arith, top-at (c .before .before .before .before .before .before .before .before .before .before .before .before .before .before .before .before .pre .it) (c .before .before .before .before .before .before .before .before .before .before .before .before .before .before .before .before .args .top) (c .before .before .before .before .before .before .before .before .before .before .before .before .before .before .before .before .pre .at), c .before .before .before .before .before .before .before .before .before .before .before .before .before .before .before .before .pre .at .reads .base .area .small)
 
 same-length-3 : tie.Need-same-length-3
 same-length-3 c = search needs

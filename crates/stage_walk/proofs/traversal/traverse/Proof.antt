@@ -3,7 +3,7 @@ use mathlib.Core.Path.{_≡_, refl}
 use Prim.Native.Nat.{_≤_, _-_}
 use native.Mathlib.Omega.{arith}
 use lib.ListN.{length}
-use Rattle.stage_walk.specs.Stands.{Every}
+use Rattle.rules.specs.Inside.Some.{Every}
 use Rattle.stage_walk.specs.Machine.{TraverseAt, Swept}
 use Rattle.stage_walk.proofs.traversal.Loops.{swept-none, visit-at, swept-more, traversed}
 use borrow.Author.Needs.{needs}
@@ -20,10 +20,10 @@ loop-holds : tie.Need-loop-holds Inv-loop μ-loop
 loop-holds c = (record { all = λ C A. swept-none A }, omega arith, refl)
 
 get-requires : tie.Need-get-requires Inv-loop μ-loop
-get-requires c κs = let s = c .before .before .before .before .before .pre in let U = c .before .before .loop .inv .0 .all (s .C) (s .at) in omega (arith, U .begun .waiting .held .few, U .begun .base .area .room)
+get-requires c κs = let s = c .before .before .before .before .before .pre in let U = c .before .before .loop .inv .0 .all (s .it) (s .at) in omega (arith, U .begun .waiting .held .few, U .begun .base .area .room)
 
 visit-requires : tie.Need-visit-requires Inv-loop μ-loop
-visit-requires c κs = let s = c .before .before .before .before .before .before .before .pre in record { C = s .C; at = visit-at (s .at) (c .before .before .before .before .loop .inv .0 .all (s .C) (s .at)) (c .before .before .before .loop-test .taken) _ (c .before .get .ensures) }
+visit-requires c κs = let s = c .before .before .before .before .before .before .before .pre in record { it = s .it; at = visit-at (s .at) (c .before .before .before .before .loop .inv .0 .all (s .it) (s .at)) (c .before .before .before .loop-test .taken) _ (c .before .get .ensures) }
 
 add-i : tie.Need-add-i Inv-loop μ-loop
 add-i c = search needs

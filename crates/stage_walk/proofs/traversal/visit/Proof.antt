@@ -9,7 +9,7 @@ enter-requires : tie.Need-enter-requires
 enter-requires c κs = let s = c .before .before .before .pre .at in (omega (arith, s .pin, s .going .reads .base .area .room), omega (arith, s .pin, s .going .reads .base .area .small))
 
 run-requires : tie.Need-run-requires
-run-requires c κs = let s = c .before .before .before .before .before .before .before .pre in record { C = s .C; at = visit-going (s .at) _ (c .before .before .before .enter .ensures) }
+run-requires c κs = let s = c .before .before .before .before .before .before .before .pre in record { it = s .it; at = visit-going (s .at) _ (c .before .before .before .enter .ensures) }
 
 same-length : tie.Need-same-length
 same-length c = search needs
