@@ -1,4 +1,4 @@
-/* The placer, for C. Link libplacer.a to build and libmerge.a to merge, which `rt staticlib placer` and `rt staticlib merge` write.
+/* The placer, for C. Link libentries.a, which `rt staticlib entries` writes.
  *
  * Every call returns, whatever it is handed; the caller checks nothing beforehand. Each area is a pointer and a number of
  * elements. An area of no elements may have any pointer that is not null and is aligned. No two areas may overlap.

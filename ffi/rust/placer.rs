@@ -1,4 +1,4 @@
-//! The placer, for Rust. Link `libplacer.a` to build and `libmerge.a` to merge, which `rt staticlib placer` and `rt staticlib merge` write.
+//! The placer, for Rust. Link `libentries.a`, which `rt staticlib entries` writes.
 //! No crate beyond `core` is needed. Where the gates are not in order a call takes up to 1 MiB of its thread's stack, else a few kilobytes.
 
 /// An empty cell of a plan, an unused word, and each literal of a leaf.

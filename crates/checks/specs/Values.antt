@@ -31,4 +31,4 @@ pub record Rising (gates : List ℕ) (p : ℕ) : Type 0 where
 -- number n, and the pin shown with it
 pub record Says (n : ℕ) (gates : List ℕ) (r : Verdict) : Type 0 where
   pub number : r .number ≡ n
-  pub pin : r .pin ≡ pinShown n gates
+  pub pin : r .pin .0 ≡ pinShown n gates

@@ -2,13 +2,21 @@
 use cells::is_height;
 use graph::Literal;
 use graph::Node;
+use graph::Pin;
 use graph::node_of;
 use graph::pin_count;
 use graph::pin_of;
 use graph::wide;
+use graph_loops::Looped;
 use graph_loops::loop_pin;
 use records::endpoint;
 use records::size_at;
+use refusals::LOOP;
+use refusals::NO_HEIGHT;
+use refusals::WRONG_GIVEN;
+use refusals::WRONG_GRAPH;
+use refusals::WRONG_RECORD;
+use refusals::WRONG_SIZE;
 use sizes::areas_sized;
 ghost use mathlib.Core.Path.{_≡_};
 ghost use mathlib.Core.Bool.{true};
@@ -25,7 +33,7 @@ ghost use Rattle.records.specs.Values.{recordRight};
 fn operand_right(pins: usize, l: Literal) -> bool
     ensures { λ r. ⌜ r ≡ operandRight pins (l .0) ⌝ }
 {
-    let q = wide(pin_of(l).0);
+    let q = pin_of(l).index();
     if q == 0 {
         return false;
     }
@@ -98,16 +106,16 @@ fn graph_sized(gates: &[u32]) -> bool
 // What the checks say: the scope document's number, 0 where none applies, and with 23 the smallest pin on any loop.
 pub struct Verdict {
     pub number: u32,
-    pub pin: usize,
+    pub pin: Pin,
 }
 
 fn refused(number: u32) -> Verdict
     ensures number { λ r. ⌜ r .number ≡ number ⌝ }
-    ensures pin { λ r. ⌜ r .pin ≡ 0 ⌝ }
+    ensures pin { λ r. ⌜ r .pin .0 ≡ 0 ⌝ }
 {
     Verdict {
         number: number,
-        pin: 0,
+        pin: Pin(0),
     }
 }
 
@@ -116,22 +124,22 @@ fn graph_refusal(gates: &[u32]) -> Verdict
     ensures { λ r. ⌜ Says (graphRefusal (now (gates .entry))) (now (gates .entry)) r ⌝ }
 {
     if !graph_sized(gates) {
-        return refused(3);
+        return refused(WRONG_GRAPH);
     }
     let from = first_forward(gates);
     if from == pin_count(gates) {
         return refused(0);
     }
     if !nodes_right(gates, from) {
-        return refused(3);
+        return refused(WRONG_GRAPH);
     }
-    let pin = wide(loop_pin(gates));
-    if pin == 0 {
-        return refused(0);
-    }
-    Verdict {
-        number: 23,
-        pin: pin,
+    let looped = loop_pin(gates);
+    match looped {
+        Looped::Free => refused(0),
+        Looped::At(p) => Verdict {
+            number: LOOP,
+            pin: p,
+        },
     }
 }
 
@@ -143,7 +151,7 @@ fn record_right(pins: usize, records: &[u32], at: usize) -> bool
     let size = size_at(records, at);
     let mut i = 0;
     while i < size {
-        if pins <= wide(endpoint(records, at, i).0) {
+        if pins <= endpoint(records, at, i).index() {
             return false;
         }
         i += 1;
@@ -189,10 +197,10 @@ pub fn refusal(height: u32, sized: bool, gates: &[u32], given: &[u32], records: 
     ensures { λ r. ⌜ Says (refusalOf height sized (now (gates .entry)) (now (given .entry)) (now (records .entry))) (now (gates .entry)) r ⌝ }
 {
     if !is_height(height) {
-        return refused(1);
+        return refused(NO_HEIGHT);
     }
     if !sized {
-        return refused(2);
+        return refused(WRONG_SIZE);
     }
     let graph = graph_refusal(gates);
     if graph.number != 0 {
@@ -200,10 +208,10 @@ pub fn refusal(height: u32, sized: bool, gates: &[u32], given: &[u32], records: 
     }
     let pins = pin_count(gates);
     if !records_right(pins, records) {
-        return refused(4);
+        return refused(WRONG_RECORD);
     }
     if !given_right(pins, given) {
-        return refused(5);
+        return refused(WRONG_GIVEN);
     }
     refused(0)
 }

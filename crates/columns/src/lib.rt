@@ -1,6 +1,7 @@
 // The lent work area: sixteen columns of m numbers, m = N + 1, and behind them the tail.
 // Field f of pin p stands at f * m + p. A list of pins is a column too.
 pub use cells::wide;
+use graph::Pin;
 ghost use mathlib.Core.Path.{_≡_};
 ghost use mathlib.Core.Bool.{not};
 ghost use Prim.Native.Nat.{_+_, _*_, _<_, _≤_};
@@ -67,27 +68,60 @@ pub const PINS: usize = 257;
 // From here on 8 numbers a record number.
 pub const RECORDS: usize = 512;
 
-// Field f of pin p.
-pub fn get(work: &[u32], m: usize, p: usize, f: usize) -> usize
-    requires { do ⌜ f * m + p < (← ⟦work.len()⟧) ⌝ }
-    ensures { λ r. ⌜ r ≡ getD (now (work .entry)) (f * m + p) 0 ⌝ }
+// Number i of column f.
+pub fn number_at(work: &[u32], m: usize, i: usize, f: usize) -> usize
+    requires { do ⌜ f * m + i < (← ⟦work.len()⟧) ⌝ }
+    ensures { λ r. ⌜ r ≡ getD (now (work .entry)) (f * m + i) 0 ⌝ }
 {
-    wide(work[f * m + p])
+    wide(work[f * m + i])
+}
+
+pub fn put_number(work: &mut [u32], m: usize, i: usize, f: usize, v: usize)
+    requires { do ⌜ f * m + i < (← ⟦work.len()⟧) ⌝ }
+    requires { ⌜ v < 4294967296 ⌝ }
+    ensures { λ _. ⌜ now (work .exit) ≡ set (now (work .entry)) (f * m + i) v ⌝ }
+{
+    work[f * m + i] = v as u32;
+}
+
+// Field f of pin p.
+pub fn get(work: &[u32], m: usize, p: Pin, f: usize) -> usize
+    requires { do ⌜ f * m + p .0 < (← ⟦work.len()⟧) ⌝ }
+    ensures { λ r. ⌜ r ≡ getD (now (work .entry)) (f * m + p .0) 0 ⌝ }
+{
+    number_at(work, m, p.index(), f)
 }
 
 // Whether field f of pin p is a mark.
-pub fn is_in(work: &[u32], m: usize, p: usize, f: usize) -> bool
-    requires { do ⌜ f * m + p < (← ⟦work.len()⟧) ⌝ }
-    ensures { λ r. ⌜ r ≡ not (eqb (getD (now (work .entry)) (f * m + p) 0) 0) ⌝ }
+pub fn is_in(work: &[u32], m: usize, p: Pin, f: usize) -> bool
+    requires { do ⌜ f * m + p .0 < (← ⟦work.len()⟧) ⌝ }
+    ensures { λ r. ⌜ r ≡ not (eqb (getD (now (work .entry)) (f * m + p .0) 0) 0) ⌝ }
 {
-    work[f * m + p] != 0
+    work[f * m + p.index()] != 0
 }
 
-pub fn set_field(work: &mut [u32], m: usize, p: usize, f: usize, v: u32)
-    requires { do ⌜ f * m + p < (← ⟦work.len()⟧) ⌝ }
-    ensures { λ _. ⌜ now (work .exit) ≡ set (now (work .entry)) (f * m + p) v ⌝ }
+pub fn set_field(work: &mut [u32], m: usize, p: Pin, f: usize, v: usize)
+    requires { do ⌜ f * m + p .0 < (← ⟦work.len()⟧) ⌝ }
+    requires { ⌜ v < 4294967296 ⌝ }
+    ensures { λ _. ⌜ now (work .exit) ≡ set (now (work .entry)) (f * m + p .0) v ⌝ }
 {
-    work[f * m + p] = v;
+    put_number(work, m, p.index(), f, v);
+}
+
+// Pin i of the list in column f.
+pub fn pin_at(work: &[u32], m: usize, i: usize, f: usize) -> Pin
+    requires { do ⌜ f * m + i < (← ⟦work.len()⟧) ⌝ }
+    ensures { λ r. ⌜ r .0 ≡ getD (now (work .entry)) (f * m + i) 0 ⌝ }
+{
+    Pin(work[f * m + i])
+}
+
+// Pin p at place n of column f: behind a list of n pins.
+pub fn push(work: &mut [u32], m: usize, n: usize, f: usize, p: Pin)
+    requires { do ⌜ f * m + n < (← ⟦work.len()⟧) ⌝ }
+    ensures { λ _. ⌜ now (work .exit) ≡ set (now (work .entry)) (f * m + n) (p .0) ⌝ }
+{
+    work[f * m + n] = p.0;
 }
 
 // Number j of the tail.
@@ -144,19 +178,10 @@ pub fn clear(work: &mut [u32], size: usize)
     fill_part(&mut work[0..size], 0);
 }
 
-// Number v at place n of column f: behind a list of n entries.
-pub fn push(work: &mut [u32], m: usize, n: usize, f: usize, v: usize)
-    requires { do ⌜ f * m + n < (← ⟦work.len()⟧) ⌝ }
-    requires { ⌜ v < 4294967296 ⌝ }
-    ensures { λ _. ⌜ now (work .exit) ≡ set (now (work .entry)) (f * m + n) v ⌝ }
-{
-    work[f * m + n] = v as u32;
-}
-
 // Pin p behind the list of n pins in column f, whose marks are column g, unless it is there. Returns how many are listed.
-pub fn enlist(work: &mut [u32], m: usize, n: usize, f: usize, g: usize, p: usize) -> usize
-    requires { ⌜ EnlistAt f g m n p (now work) ⌝ }
-    ensures { λ r. ⌜ Enlisted f g m n p (now (work .entry)) (now (work .exit)) r ⌝ }
+pub fn enlist(work: &mut [u32], m: usize, n: usize, f: usize, g: usize, p: Pin) -> usize
+    requires { ⌜ EnlistAt f g m n (p .0) (now work) ⌝ }
+    ensures { λ r. ⌜ Enlisted f g m n (p .0) (now (work .entry)) (now (work .exit)) r ⌝ }
 {
     if is_in(work, m, p, g) {
         return n;
@@ -167,27 +192,27 @@ pub fn enlist(work: &mut [u32], m: usize, n: usize, f: usize, g: usize, p: usize
 }
 
 // Pin p behind the waiting list of n pins, unless it waits. Returns how many wait.
-pub fn wait(work: &mut [u32], m: usize, n: usize, p: usize) -> usize
-    requires { ⌜ WaitAt m n p (now work) ⌝ }
-    ensures { λ r. ⌜ Waits m n p (now (work .entry)) (now (work .exit)) r ⌝ }
+pub fn wait(work: &mut [u32], m: usize, n: usize, p: Pin) -> usize
+    requires { ⌜ WaitAt m n (p .0) (now work) ⌝ }
+    ensures { λ r. ⌜ Waits m n (p .0) (now (work .entry)) (now (work .exit)) r ⌝ }
 {
     if is_in(work, m, p, PLACE) {
         return n;
     }
     push(work, m, n, WAITING, p);
-    push(work, m, p, PLACE, n + 1);
+    set_field(work, m, p, PLACE, n + 1);
     n + 1
 }
 
 // Pin p leaves the waiting list of n pins, and the last takes its place. Returns how many wait.
-pub fn swap_out(work: &mut [u32], m: usize, n: usize, p: usize) -> usize
-    requires { ⌜ SwapAt m n p (now work) ⌝ }
-    ensures { λ r. ⌜ Swapped m n p (now (work .entry)) (now (work .exit)) r ⌝ }
+pub fn swap_out(work: &mut [u32], m: usize, n: usize, p: Pin) -> usize
+    requires { ⌜ SwapAt m n (p .0) (now work) ⌝ }
+    ensures { λ r. ⌜ Swapped m n (p .0) (now (work .entry)) (now (work .exit)) r ⌝ }
 {
-    let last = get(work, m, n - 1, WAITING);
+    let last = pin_at(work, m, n - 1, WAITING);
     let place = get(work, m, p, PLACE) - 1;
     push(work, m, place, WAITING, last);
-    push(work, m, last, PLACE, place + 1);
+    set_field(work, m, last, PLACE, place + 1);
     set_field(work, m, p, PLACE, 0);
     n - 1
 }

@@ -19,7 +19,7 @@ pinFor Folded = 0
 pinFor NoHeight = 0
 pinFor WrongSize = 0
 pinFor WrongGraph = 0
-pinFor (Looped p) = p
+pinFor (Looped p) = p .0
 pinFor WrongGiven = 0
 
 -- an answer tells the number n, and the pin shown with it

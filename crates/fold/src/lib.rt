@@ -1,7 +1,9 @@
 // Folding: a plan, the graph and a bit a pin to one bit a position. It takes any numbers and slices.
 mod stages;
 
+use cells::Height;
 use checks::refusal;
+use graph::Pin;
 use graph::pin_count;
 use sizes::plan_sized;
 use stages::fold_plan;
@@ -17,7 +19,7 @@ pub enum Answer {
     NoHeight,
     WrongSize,
     WrongGraph,
-    Looped(usize),
+    Looped(Pin),
     WrongGiven,
 }
 
@@ -67,12 +69,13 @@ fn check(
     let sized = areas_sized(height, plan, gates, bits.len(), result.len());
     let verdict = refusal(height, sized, gates, given, &given[0..0]);
     let number = verdict.number;
+    let pin = verdict.pin;
     match number {
         0 => Answer::Folded,
         1 => Answer::NoHeight,
         2 => Answer::WrongSize,
         3 => Answer::WrongGraph,
-        23 => Answer::Looped(verdict.pin),
+        23 => Answer::Looped(pin),
         _ => Answer::WrongGiven,
     }
 }
@@ -91,7 +94,7 @@ pub fn fold(
 {
     let answer = check(height, plan, gates, given, bits, result);
     if answer.number() == 0 {
-        fold_plan(height, plan, gates, given, bits, result);
+        fold_plan(Height(height), plan, gates, given, bits, result);
     }
     answer
 }

@@ -19,7 +19,7 @@ ghost use Rattle.fold.specs.Stages.{OneAt, NextAt, Folds, PlanAt, InputA
 
 // The bits of the stage at `at`.
 fn fold_stage(
-    height: u32,
+    height: Height,
     cells: &[u32],
     gates: &[u32],
     result: &mut [u32],
@@ -27,8 +27,8 @@ fn fold_stage(
     looks: usize,
     pins: usize,
 )
-    requires { ⌜ AreaAt height (now cells) at looks pins (now result) ⌝ }
-    ensures { λ _. ⌜ StageFolds height (graphOf (now (gates .entry))) (now (cells .entry)) at looks pins (now (result .entry)) (now (result .exit)) ⌝ }
+    requires { ⌜ AreaAt (height .0) (now cells) at looks pins (now result) ⌝ }
+    ensures { λ _. ⌜ StageFolds (height .0) (graphOf (now (gates .entry))) (now (cells .entry)) at looks pins (now (result .entry)) (now (result .exit)) ⌝ }
 {
     load_row(height, cells, result, at, looks, pins);
     let end = at + cells.len();
@@ -37,7 +37,7 @@ fn fold_stage(
 
 // Stage 1, and what stage 2 loads.
 fn fold_first(
-    height: u32,
+    height: Height,
     cells: &[u32],
     gates: &[u32],
     given: &[u32],
@@ -46,8 +46,8 @@ fn fold_first(
     looks: usize,
     pins: usize,
 )
-    requires { ⌜ OneAt height (now cells) (now gates) (now given) (now bits) looks pins (now result) ⌝ }
-    ensures { λ _. ⌜ Folds height (graphOf (now (gates .entry))) (firstLoad (graphOf (now (gates .entry))) (now (given .entry)) (take (pinCount (now (gates .entry))) (now (bits .entry)))) (now (cells .entry)) 0 looks pins (now (result .entry)) (now (result .exit)) ⌝ }
+    requires { ⌜ OneAt (height .0) (now cells) (now gates) (now given) (now bits) looks pins (now result) ⌝ }
+    ensures { λ _. ⌜ Folds (height .0) (graphOf (now (gates .entry))) (firstLoad (graphOf (now (gates .entry))) (now (given .entry)) (take (pinCount (now (gates .entry))) (now (bits .entry)))) (now (cells .entry)) 0 looks pins (now (result .entry)) (now (result .exit)) ⌝ }
 {
     first_loads(gates, given, bits, result, looks);
     fold_stage(height, cells, gates, result, 0, looks, pins);
@@ -57,7 +57,7 @@ fn fold_first(
 
 // A later stage, and what the next one loads. Only pins of the stage before have loaded anything.
 fn fold_next(
-    height: u32,
+    height: Height,
     before: &[u32],
     cells: &[u32],
     gates: &[u32],
@@ -66,19 +66,19 @@ fn fold_next(
     looks: usize,
     pins: usize,
 )
-    requires { ⌜ NextAt height (now before) (now cells) (now gates) at looks pins (now result) ⌝ }
-    ensures { λ _. ⌜ Folds height (graphOf (now (gates .entry))) (held looks pins (now (result .entry))) (now (cells .entry)) at looks pins (now (result .entry)) (now (result .exit)) ⌝ }
+    requires { ⌜ NextAt (height .0) (now before) (now cells) (now gates) at looks pins (now result) ⌝ }
+    ensures { λ _. ⌜ Folds (height .0) (graphOf (now (gates .entry))) (held looks pins (now (result .entry))) (now (cells .entry)) at looks pins (now (result .entry)) (now (result .exit)) ⌝ }
 {
     fold_stage(height, cells, gates, result, at, looks, pins);
     forget(height, before, result, looks, pins);
     remember(height, cells, result, at, looks, pins);
 }
 
-fn fold_at(height: u32, plan: &[u32], gates: &[u32], result: &mut [u32], at: usize)
-    requires { ⌜ StepAt height (now plan) (now gates) at (now result) ⌝ }
-    ensures { λ _. ⌜ Folds height (graphOf (now (gates .entry))) (held (length (now (plan .entry))) (pinCount (now (gates .entry))) (now (result .entry))) (stageFrom height at (now (plan .entry))) at (length (now (plan .entry))) (pinCount (now (gates .entry))) (now (result .entry)) (now (result .exit)) ⌝ }
+fn fold_at(height: Height, plan: &[u32], gates: &[u32], result: &mut [u32], at: usize)
+    requires { ⌜ StepAt (height .0) (now plan) (now gates) at (now result) ⌝ }
+    ensures { λ _. ⌜ Folds (height .0) (graphOf (now (gates .entry))) (held (length (now (plan .entry))) (pinCount (now (gates .entry))) (now (result .entry))) (stageFrom (height .0) at (now (plan .entry))) at (length (now (plan .entry))) (pinCount (now (gates .entry))) (now (result .entry)) (now (result .exit)) ⌝ }
 {
-    let size = Height(height).stage_size();
+    let size = height.stage_size();
     let pins = pin_count(gates);
     let last = at - size;
     let end = at + size;
@@ -95,21 +95,21 @@ fn fold_at(height: u32, plan: &[u32], gates: &[u32], result: &mut [u32], at: usi
 }
 
 fn fold_stages(
-    height: u32,
+    height: Height,
     plan: &[u32],
     gates: &[u32],
     given: &[u32],
     bits: &[u32],
     result: &mut [u32],
 )
-    requires { ⌜ PlanAt height (now plan) (now gates) (now result) ⌝ }
+    requires { ⌜ PlanAt (height .0) (now plan) (now gates) (now result) ⌝ }
     requires { ⌜ InputAt (now gates) (now given) (now bits) ⌝ }
-    ensures { λ _. ⌜ AllFold height (now (plan .entry)) (now (gates .entry)) (now (given .entry)) (now (bits .entry)) (now (result .entry)) (now (result .exit)) ⌝ }
+    ensures { λ _. ⌜ AllFold (height .0) (now (plan .entry)) (now (gates .entry)) (now (given .entry)) (now (bits .entry)) (now (result .entry)) (now (result .exit)) ⌝ }
 {
     if plan.len() == 0 {
         return;
     }
-    let size = Height(height).stage_size();
+    let size = height.stage_size();
     let pins = pin_count(gates);
     fold_first(
         height,
@@ -130,16 +130,16 @@ fn fold_stages(
 
 // All stages, and 0 in the numbers behind their bits.
 pub fn fold_plan(
-    height: u32,
+    height: Height,
     plan: &[u32],
     gates: &[u32],
     given: &[u32],
     bits: &[u32],
     result: &mut [u32],
 )
-    requires { ⌜ PlanAt height (now plan) (now gates) (now result) ⌝ }
+    requires { ⌜ PlanAt (height .0) (now plan) (now gates) (now result) ⌝ }
     requires { ⌜ InputAt (now gates) (now given) (now bits) ⌝ }
-    ensures { λ _. ⌜ now (result .exit) ≡ laidOver (foldBits height (now (plan .entry)) (now (gates .entry)) (now (given .entry)) (now (bits .entry)) ++ replicate (pinCount (now (gates .entry))) 0) (now (result .entry)) ⌝ }
+    ensures { λ _. ⌜ now (result .exit) ≡ laidOver (foldBits (height .0) (now (plan .entry)) (now (gates .entry)) (now (given .entry)) (now (bits .entry)) ++ replicate (pinCount (now (gates .entry))) 0) (now (result .entry)) ⌝ }
 {
     fold_stages(height, plan, gates, given, bits, result);
     let pins = pin_count(gates);

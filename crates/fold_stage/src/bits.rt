@@ -43,40 +43,40 @@ fn gate_bit(node: Node, first: bool, second: bool) -> bool
     }
 }
 
-// The bit of the cell at position p, above level 0, by those of its lower cells.
-fn fold_cell(cells: &[u32], gates: &[u32], bits: &[u32], p: u32) -> bool
-    requires { ⌜ CellAt p (now cells) (now bits) ⌝ }
-    ensures { λ r. ⌜ CellFolds (graphOf (now (gates .entry))) (now (cells .entry)) (now (bits .entry)) p r ⌝ }
+// The bit of the cell at position c, above level 0, by those of its lower cells.
+fn fold_cell(cells: &[u32], gates: &[u32], bits: &[u32], c: u32) -> bool
+    requires { ⌜ CellAt c (now cells) (now bits) ⌝ }
+    ensures { λ r. ⌜ CellFolds (graphOf (now (gates .entry))) (now (cells .entry)) (now (bits .entry)) c r ⌝ }
 {
-    let q = wide(p);
-    let n = cells[q];
-    if n == EMPTY {
+    let i = wide(c);
+    let held = cells[i];
+    if held == EMPTY {
         return false;
     }
-    let w = wide(row_start(p));
-    let a = q + w;
-    if cells[a] == n {
+    let w = wide(row_start(c));
+    let a = i + w;
+    if cells[a] == held {
         return bits[a] != 0;
     }
-    let b = q + 2 * w;
+    let b = i + 2 * w;
     if cells[a] == EMPTY {
         return false;
     }
     if cells[b] == EMPTY {
         return false;
     }
-    gate_bit(node_at(gates, Pin(n)), bits[a] != 0, bits[b] != 0)
+    gate_bit(node_at(gates, Pin(held)), bits[a] != 0, bits[b] != 0)
 }
 
 // All levels above level 0, whose bits are there. Lower cells stand at higher positions.
-pub fn fold_up(height: u32, cells: &[u32], gates: &[u32], bits: &mut [u32])
-    requires { ⌜ UpAt height (now cells) (now bits) ⌝ }
-    ensures { λ _. ⌜ FoldsUp height (graphOf (now (gates .entry))) (now (cells .entry)) (now (bits .entry)) (now (bits .exit)) ⌝ }
+pub fn fold_up(height: Height, cells: &[u32], gates: &[u32], bits: &mut [u32])
+    requires { ⌜ UpAt (height .0) (now cells) (now bits) ⌝ }
+    ensures { λ _. ⌜ FoldsUp (height .0) (graphOf (now (gates .entry))) (now (cells .entry)) (now (bits .entry)) (now (bits .exit)) ⌝ }
 {
-    let mut p = Height(height).width();
-    while 1 < p {
-        p -= 1;
-        bits[p] = as_number(fold_cell(cells, gates, bits, p as u32));
+    let mut c = height.width();
+    while 1 < c {
+        c -= 1;
+        bits[c] = as_number(fold_cell(cells, gates, bits, c as u32));
     }
     bits[0] = 0;
 }

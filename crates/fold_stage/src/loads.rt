@@ -2,7 +2,6 @@
 use crate::bits::as_number;
 use cells::Height;
 use columns::fill_part;
-use columns::wide;
 use graph::Node;
 use graph::Pin;
 use graph::node_at;
@@ -16,22 +15,22 @@ ghost use Rattle.rules.specs.Fold.{isLeaf};
 ghost use Rattle.fold_stage.specs.Loads.{held, AreaAt, Loads, Spread, ForgetAt, FirstAt, LeafLoads, GivenAt, GivenLoads, FirstLoads, FirstIn, FirstHeld, Zeroed};
 
 // A pin's own bit; the constant's is 0.
-fn own_bit(bits: &[u32], p: usize) -> bool
-    requires { do ⌜ p < (← ⟦bits.len()⟧) ⌝ }
-    ensures { λ r. ⌜ r ≡ ownBit (now (bits .entry)) p ⌝ }
+fn own_bit(bits: &[u32], p: Pin) -> bool
+    requires { do ⌜ p .0 < (← ⟦bits.len()⟧) ⌝ }
+    ensures { λ r. ⌜ r ≡ ownBit (now (bits .entry)) (p .0) ⌝ }
 {
-    if p == 0 {
+    let i = p.index();
+    if i == 0 {
         return false;
     }
-    bits[p] != 0
+    bits[i] != 0
 }
 
-fn leaf_bit(gates: &[u32], bits: &[u32], p: usize) -> bool
-    requires { do ⌜ p < (← ⟦bits.len()⟧) ⌝ }
-    requires { ⌜ p < 65536 ⌝ }
-    ensures { λ r. ⌜ r ≡ (isLeaf (getD (graphOf (now (gates .entry))) p leaf) && ownBit (now (bits .entry)) p) ⌝ }
+fn leaf_bit(gates: &[u32], bits: &[u32], p: Pin) -> bool
+    requires { do ⌜ p .0 < (← ⟦bits.len()⟧) ⌝ }
+    ensures { λ r. ⌜ r ≡ (isLeaf (getD (graphOf (now (gates .entry))) (p .0) leaf) && ownBit (now (bits .entry)) (p .0)) ⌝ }
 {
-    let node = node_at(gates, Pin(p as u32));
+    let node = node_at(gates, p);
     match node {
         Node::Leaf => own_bit(bits, p),
         Node::Gate(_, _) => false,
@@ -45,7 +44,7 @@ fn leaf_loads(gates: &[u32], bits: &[u32], looks: &mut [u32])
 {
     let mut p = 0;
     while p < looks.len() {
-        looks[p] = as_number(leaf_bit(gates, bits, p));
+        looks[p] = as_number(leaf_bit(gates, bits, Pin(p as u32)));
         p += 1;
     }
 }
@@ -57,8 +56,8 @@ fn given_loads(given: &[u32], bits: &[u32], looks: &mut [u32])
     let mut i = given.len();
     while 0 < i {
         i -= 1;
-        let p = wide(given[i]);
-        looks[p] = as_number(own_bit(bits, p));
+        let p = Pin(given[i]);
+        looks[p.index()] = as_number(own_bit(bits, p));
     }
 }
 
@@ -88,72 +87,72 @@ pub fn no_loads(result: &mut [u32], looks: usize, pins: usize)
     fill_part(&mut result[looks..end], 0);
 }
 
-// What pin n loads. A pin above N loads 0.
-fn looked(result: &[u32], looks: usize, pins: usize, n: u32) -> bool
+// What pin p loads. A pin above N loads 0.
+fn looked(result: &[u32], looks: usize, pins: usize, p: Pin) -> bool
     requires { ⌜ looks + pins ≤ length (now result) ⌝ }
-    ensures { λ r. ⌜ r ≡ held looks pins (now (result .entry)) n ⌝ }
+    ensures { λ r. ⌜ r ≡ held looks pins (now (result .entry)) (p .0) ⌝ }
 {
-    let p = wide(n);
-    if pins <= p {
+    let i = p.index();
+    if pins <= i {
         return false;
     }
-    result[looks + p] != 0
+    result[looks + i] != 0
 }
 
 // Level 0 of the stage whose bits stand from `at` on.
 pub fn load_row(
-    height: u32,
+    height: Height,
     cells: &[u32],
     result: &mut [u32],
     at: usize,
     looks: usize,
     pins: usize,
 )
-    requires { ⌜ AreaAt height (now cells) at looks pins (now result) ⌝ }
-    ensures { λ _. ⌜ Loads height (now (cells .entry)) at looks pins (now (result .entry)) (now (result .exit)) ⌝ }
+    requires { ⌜ AreaAt (height .0) (now cells) at looks pins (now result) ⌝ }
+    ensures { λ _. ⌜ Loads (height .0) (now (cells .entry)) at looks pins (now (result .entry)) (now (result .exit)) ⌝ }
 {
-    let mut q = Height(height).width();
-    while q < cells.len() {
-        result[at + q] = as_number(looked(result, looks, pins, cells[q]));
-        q += 1;
+    let mut c = height.width();
+    while c < cells.len() {
+        result[at + c] = as_number(looked(result, looks, pins, Pin(cells[c])));
+        c += 1;
     }
 }
 
 // What the next stage loads: each pin above level 0 the bit at its lowest position, which is written last.
 pub fn remember(
-    height: u32,
+    height: Height,
     cells: &[u32],
     result: &mut [u32],
     at: usize,
     looks: usize,
     pins: usize,
 )
-    requires { ⌜ AreaAt height (now cells) at looks pins (now result) ⌝ }
-    ensures { λ _. ⌜ Spread height (now (cells .entry)) looks pins (λ (p : ℕ). getD (now (result .entry)) (at + p) 0) (now (result .entry)) (now (result .exit)) ⌝ }
+    requires { ⌜ AreaAt (height .0) (now cells) at looks pins (now result) ⌝ }
+    ensures { λ _. ⌜ Spread (height .0) (now (cells .entry)) looks pins (λ (c : ℕ). getD (now (result .entry)) (at + c) 0) (now (result .entry)) (now (result .exit)) ⌝ }
 {
-    let width = Height(height).width();
+    let width = height.width();
     let mut i = 1;
     while i < width {
-        let p = width - i;
+        let c = width - i;
         i += 1;
-        let n = wide(cells[p]);
-        if n < pins {
-            result[looks + n] = result[at + p];
+        let p = Pin(cells[c]).index();
+        if p < pins {
+            result[looks + p] = result[at + c];
         }
     }
 }
 
 // These pins load 0 again.
-pub fn forget(height: u32, cells: &[u32], result: &mut [u32], looks: usize, pins: usize)
-    requires { ⌜ ForgetAt height (now cells) looks pins (now result) ⌝ }
-    ensures { λ _. ⌜ Spread height (now (cells .entry)) looks pins (λ (p : ℕ). 0) (now (result .entry)) (now (result .exit)) ⌝ }
+pub fn forget(height: Height, cells: &[u32], result: &mut [u32], looks: usize, pins: usize)
+    requires { ⌜ ForgetAt (height .0) (now cells) looks pins (now result) ⌝ }
+    ensures { λ _. ⌜ Spread (height .0) (now (cells .entry)) looks pins (λ (c : ℕ). 0) (now (result .entry)) (now (result .exit)) ⌝ }
 {
-    let mut p = Height(height).width();
-    while 1 < p {
-        p -= 1;
-        let n = wide(cells[p]);
-        if n < pins {
-            result[looks + n] = 0;
+    let mut c = height.width();
+    while 1 < c {
+        c -= 1;
+        let p = Pin(cells[c]).index();
+        if p < pins {
+            result[looks + p] = 0;
         }
     }
 }

@@ -9,18 +9,17 @@ use lib.ListN.{length, getD, drop, List·getD-eq-default}
 use lib.Seq.{drop-cons}
 use borrow.Author.Tests.{lt-ltb, le-ltb, eq-eqb, ne-eqb}
 use Rattle.rules.specs.Cells.{empty}
-use Rattle.rules.specs.Graph.{Node, leaf, gate, pinOf, inversionOf, literalOf, nodeOf, graphOf, pinCount}
+use Rattle.rules.specs.Graph.{leaf, gate, pinOf, inversionOf, literalOf, nodeOf, graphOf, pinCount}
 use Rattle.graph.specs.declared.MaybeLiteral.the-variants.{Made, Refused}
-use Rattle.graph.specs.declared.Literal.{Literal}
-use Rattle.graph.specs.declared.Node.the-variants.{Leaf, Gate}
-use Rattle.graph.specs.declared.Node as code
-use Rattle.graph.specs.Values.{madeLiteral, nodeFor}
+use Rattle.graph.specs.Values.{madeLiteral}
 use Rattle.rules.proofs.Bools.{and-none}
 
+-- a pin of 31 bits and an inversion make a literal
 pub literal-made : (p i : ℕ) → p ≤ 2147483647 → i ≤ 1 → Made (record { 0 = 2 * p + i }) ≡ madeLiteral p i
 unfolding madeLiteral literalOf
 literal-made p i a b = rw (lt-ltb i 2 (omega arith), lt-ltb (2 * p + i) (2 ^ 32) (omega arith), madeLiteral)
 
+-- a greater pin or another inversion makes none
 pub literal-refused : (p i : ℕ) → (2147483647 < p) ⊎ (1 < i) → Refused ≡ madeLiteral p i
 unfolding madeLiteral literalOf
 literal-refused p i (inl a) = rw (le-ltb (2 * p + i) (2 ^ 32) (omega arith), and-none (ltb i 2), madeLiteral)
@@ -31,15 +30,18 @@ pub literal-back : (l : ℕ) → l < 2 ^ 32 → madeLiteral (pinOf l) (inversion
 unfolding pinOf inversionOf
 literal-back l h = sym (literal-made (l / 2) (l % 2) (omega arith) (omega arith)) ∙ ap (λ (n : ℕ). Made (record { 0 = n })) (omega arith)
 
+-- two empty marks are a leaf
 pub node-leaf : (a b : ℕ) → a ≡ 4294967295 → b ≡ 4294967295 → leaf ≡ nodeOf a b
 unfolding nodeOf empty
 node-leaf a b d e = rw (eq-eqb a 4294967295 d, eq-eqb b 4294967295 e, nodeOf)
 
+-- if one number is no empty mark the two are a gate
 pub node-gate : (a b : ℕ) → (a ≡ 4294967295 → ⊥) ⊎ (b ≡ 4294967295 → ⊥) → gate a b ≡ nodeOf a b
 unfolding nodeOf empty
 node-gate a b (inl n) = rw (ne-eqb a 4294967295 n, nodeOf)
 node-gate a b (inr n) = rw (ne-eqb b 4294967295 n, and-none (eqb a 4294967295), nodeOf)
 
+-- a graph has as many nodes as it has pins
 pub graph-length : (xs : List ℕ) → length (graphOf xs) ≡ pinCount xs
 unfolding graphOf pinCount
 graph-length [] = refl
@@ -67,25 +69,15 @@ drop-two xs p h =
 
 -- reading a gate, from what the code tests
 module _ (gates : List ℕ) (p q m : ℕ) (ep : q ≡ p) (em : m ≡ pinCount gates) where
+  -- past the last pin there is a leaf
   pub node-past : m ≤ q → leaf ≡ getD (graphOf gates) p leaf
   node-past h = sym (List·getD-eq-default (graphOf gates) leaf (omega (arith, graph-length gates)))
 
+  -- both numbers of a pin stand in the lent list
   pub node-inside : q < m → 2 * q + 1 < length gates
   unfolding pinCount
   node-inside h = omega arith
 
+  -- the two numbers read there are the pin's node
   pub node-there : q < m → nodeOf (getD gates (2 * q) 0) (getD gates (2 * q + 1) 0) ≡ getD (graphOf gates) p leaf
   node-there h = rw ep (sym (graph-at gates p (omega arith)))
-
--- no two nodes are told alike
-pub node-one : (x y : code.Node) → nodeFor x ≡ nodeFor y → x ≡ y
-unfolding nodeFor
-node-one Leaf Leaf e = refl
-node-one Leaf (Gate a b) e = absurd (let z : _≡_ {A = ℕ} 0 1 = cc in omega arith)
-node-one (Gate a b) Leaf e = absurd (let z : _≡_ {A = ℕ} 0 1 = cc in omega arith)
-node-one (Gate a b) (Gate c d) e =
-    let p : a .0 ≡ c .0 = cc in
-    let q : b .0 ≡ d .0 = cc in
-    let r : a ≡ c = ap {B = Literal} (λ (i : ℕ). record { 0 = i }) p in
-    let s : b ≡ d = ap {B = Literal} (λ (i : ℕ). record { 0 = i }) q in
-    rw (r, s)

@@ -7,6 +7,15 @@ ghost use Rattle.graph.specs.Values.{madeLiteral, nodeFor};
 
 pub struct Pin(pub u32);
 
+impl Pin {
+    // The number as an index: the one way out of a pin, but for being stored.
+    pub fn index(self) -> usize
+        ensures { λ r. ⌜ r ≡ self .0 ⌝ }
+    {
+        wide(self.0)
+    }
+}
+
 // A pin, inverted or not.
 pub struct Literal(pub u32);
 
@@ -68,21 +77,21 @@ pub fn node_of(a: u32, b: u32) -> Node
     Node::Gate(Literal(a), Literal(b))
 }
 
-// The pin of the literal at an index of a lent graph, as an index; 0 past its end.
-pub fn operand(gates: &[u32], at: usize) -> usize
-    ensures { λ r. ⌜ r ≡ pinOf (getD (now (gates .entry)) at 0) ⌝ }
+// The pin of the literal at an index of a lent graph; pin 0 past its end.
+pub fn operand(gates: &[u32], at: usize) -> Pin
+    ensures { λ r. ⌜ r .0 ≡ pinOf (getD (now (gates .entry)) at 0) ⌝ }
 {
     if gates.len() <= at {
-        return 0;
+        return Pin(0);
     }
-    wide(pin_of(Literal(gates[at])).0)
+    pin_of(Literal(gates[at]))
 }
 
 // What drives a pin of a lent graph. A pin above N is a leaf.
 pub fn node_at(gates: &[u32], pin: Pin) -> Node
     ensures { λ r. ⌜ nodeFor r ≡ getD (graphOf (now (gates .entry))) (pin .0) leaf ⌝ }
 {
-    let p = wide(pin.0);
+    let p = pin.index();
     if pin_count(gates) <= p {
         return Node::Leaf;
     }

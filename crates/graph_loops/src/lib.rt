@@ -13,9 +13,15 @@ ghost use mathlib.Core.Bool.{true, _||_};
 ghost use Prim.Native.Nat.{ℕ, _+_, _<_, _≤_};
 ghost use lib.ListN.{length, getD, replicate};
 ghost use Rattle.rules.specs.Loops.{onLoop, loopPin};
-ghost use Rattle.rules.specs.Checks.{pinFound};
 ghost use Rattle.rules.specs.Graph.{graphOf, pinOf, pinCount, below};
+ghost use Rattle.graph_loops.specs.Answers.{loopFor};
 ghost use Rattle.graph_loops.specs.Marks.{Kept, Inside, Rises, Step, Follows, Spread};
+
+// The smallest pin on a loop, or none is on one.
+pub enum Looped {
+    At(Pin),
+    Free,
+}
 
 // A number of a list, 0 past its end.
 fn at(list: &[u32; 65536], i: u32) -> u32 {
@@ -28,6 +34,15 @@ fn put(list: &mut [u32; 65536], i: u32, v: u32) {
     if k < 65536 {
         list[k] = v;
     }
+}
+
+// A pin's number.
+fn low_of(low: &[u32; 65536], p: Pin) -> u32 {
+    at(low, p.0)
+}
+
+fn set_low(low: &mut [u32; 65536], p: Pin, v: u32) {
+    put(low, p.0, v);
 }
 
 fn more(n: u32) -> u32 {
@@ -50,35 +65,36 @@ struct State {
     held: u32,
     number: u32,
     part: u32,
-    next: u32,
+    next: Pin,
 }
 
 // A pin goes on the way: 8 times the pin, with 1 more for each operand that was looked at, and 4 more where the pin is not the first of its
 // component.
-fn enter(s: State, low: &mut [u32; 65536], way: &mut [u32; 65536], p: u32) -> State {
-    put(low, p, s.number);
-    put(way, s.way, p % 65536 * 8);
+fn enter(s: State, low: &mut [u32; 65536], way: &mut [u32; 65536], p: Pin) -> State {
+    let next = s.next;
+    set_low(low, p, s.number);
+    put(way, s.way, p.0 % 65536 * 8);
     State {
         way: more(s.way),
         held: s.held,
         number: more(s.number),
         part: s.part,
-        next: s.next,
+        next: next,
     }
 }
 
-// The held pins of the component of its first pin v get its number.
-fn close(s: State, low: &mut [u32; 65536], way: &[u32; 65536], v: u32) -> State {
-    let first = at(low, v);
+// The held pins of the component of its first pin p get its number.
+fn close(s: State, low: &mut [u32; 65536], way: &[u32; 65536], p: Pin) -> State {
+    let first = low_of(low, p);
     let part = s.part;
     let top = less(s.way);
     let next = s.next;
     let mut n = s.held;
     let mut number = less(s.number);
     while 0 < n {
-        let w = at(way, back(n - 1));
-        if at(low, w) < first {
-            put(low, v, part);
+        let q = Pin(at(way, back(n - 1)));
+        if low_of(low, q) < first {
+            set_low(low, p, part);
             return State {
                 way: top,
                 held: n,
@@ -87,11 +103,11 @@ fn close(s: State, low: &mut [u32; 65536], way: &[u32; 65536], v: u32) -> State 
                 next: next,
             };
         }
-        put(low, w, part);
+        set_low(low, q, part);
         number = less(number);
         n -= 1;
     }
-    put(low, v, part);
+    set_low(low, p, part);
     State {
         way: top,
         held: 0,
@@ -101,18 +117,19 @@ fn close(s: State, low: &mut [u32; 65536], way: &[u32; 65536], v: u32) -> State 
     }
 }
 
-// The last pin v on the way is done, and the first of its component or not.
-fn leave(s: State, low: &mut [u32; 65536], way: &mut [u32; 65536], v: u32, first: bool) -> State {
+// The last pin p on the way is done, and the first of its component or not.
+fn leave(s: State, low: &mut [u32; 65536], way: &mut [u32; 65536], p: Pin, first: bool) -> State {
     if first {
-        return close(s, low, way, v);
+        return close(s, low, way, p);
     }
-    put(way, back(s.held), v);
+    let next = s.next;
+    put(way, back(s.held), p.0);
     State {
         way: less(s.way),
         held: more(s.held),
         number: s.number,
         part: s.part,
-        next: s.next,
+        next: next,
     }
 }
 
@@ -120,27 +137,27 @@ fn leave(s: State, low: &mut [u32; 65536], way: &mut [u32; 65536], v: u32, first
 fn step(gates: &[u32], s: State, low: &mut [u32; 65536], way: &mut [u32; 65536]) -> State {
     let k = less(s.way);
     let f = at(way, k) % 524288;
-    let v = f / 8;
+    let p = Pin(f / 8);
     let t = f % 4;
     if 1 < t {
-        return leave(s, low, way, v, f % 8 < 4);
+        return leave(s, low, way, p, f % 8 < 4);
     }
-    let i = 2 * wide(v) + wide(t);
+    let i = 2 * p.index() + wide(t);
     if gates.len() <= i {
         put(way, k, f + 1);
         return s;
     }
-    let w = gates[i] / 2;
-    if 65535 < w {
+    let q = pin_of(Literal(gates[i]));
+    if 65535 < q.index() {
         put(way, k, f + 1);
         return s;
     }
-    let a = at(low, w);
+    let a = low_of(low, q);
     if a == 0 {
-        return enter(s, low, way, w);
+        return enter(s, low, way, q);
     }
-    if a < at(low, v) {
-        put(low, v, a);
+    if a < low_of(low, p) {
+        set_low(low, p, a);
         if f % 8 < 4 {
             put(way, k, f + 5);
         } else {
@@ -160,9 +177,9 @@ fn start(s: State, low: &mut [u32; 65536], way: &mut [u32; 65536]) -> State {
         held: s.held,
         number: s.number,
         part: s.part,
-        next: more(p),
+        next: Pin(more(p.0)),
     };
-    if at(low, p) != 0 {
+    if low_of(low, p) != 0 {
         return on;
     }
     enter(on, low, way, p)
@@ -177,7 +194,7 @@ fn components(gates: &[u32], low: &mut [u32; 65536], way: &mut [u32; 65536]) {
         held: 0,
         number: 1,
         part: 4294967295,
-        next: 0,
+        next: Pin(0),
     };
     let mut left: usize = 524288;
     while 0 < left {
@@ -185,7 +202,7 @@ fn components(gates: &[u32], low: &mut [u32; 65536], way: &mut [u32; 65536]) {
         let depth = s.way;
         if depth == 0 {
             let p = s.next;
-            if pins <= wide(p) {
+            if pins <= p.index() {
                 return;
             }
             s = start(s, low, way);
@@ -200,7 +217,7 @@ fn rises_to(low: &[u32; 65536], own: u32, more: usize, l: Literal) -> bool
     requires { ⌜ more ≤ 1 ⌝ }
     ensures { λ r. ⌜ (r ≡ true → own + more ≤ getD (now (low .entry)) (pinOf (l .0)) 0) ⌝ }
 {
-    let q = wide(pin_of(l).0);
+    let q = pin_of(l).index();
     if 65535 < q {
         return false;
     }
@@ -209,13 +226,13 @@ fn rises_to(low: &[u32; 65536], own: u32, more: usize, l: Literal) -> bool
 }
 
 // Is the number of each operand of pin p at least `more` above its own?
-fn rises(gates: &[u32], low: &[u32; 65536], p: u32, more: usize) -> bool
-    requires { ⌜ p < 65536 ⌝ }
+fn rises(gates: &[u32], low: &[u32; 65536], p: Pin, more: usize) -> bool
+    requires { ⌜ p .0 < 65536 ⌝ }
     requires { ⌜ more ≤ 1 ⌝ }
-    ensures { λ r. ⌜ (r ≡ true → Rises (now (gates .entry)) (now (low .entry)) more p) ⌝ }
+    ensures { λ r. ⌜ (r ≡ true → Rises (now (gates .entry)) (now (low .entry)) more (p .0)) ⌝ }
 {
-    let own = low[wide(p)];
-    match node_at(gates, Pin(p)) {
+    let own = low[p.index()];
+    match node_at(gates, p) {
         Node::Leaf => true,
         Node::Gate(a, b) => {
             if rises_to(low, own, more, a) {
@@ -233,12 +250,12 @@ fn all_rise(gates: &[u32], low: &[u32; 65536]) -> bool
     ensures { λ r. ⌜ (r ≡ true → (p : ℕ) → p < pinCount (now (gates .entry)) → Rises (now (gates .entry)) (now (low .entry)) 0 p) ⌝ }
 {
     let pins = pin_count(gates);
-    let mut p: u32 = 0;
-    while wide(p) < pins {
+    let mut p = Pin(0);
+    while p.index() < pins {
         if !rises(gates, low, p, 0) {
             return false;
         }
-        p += 1;
+        p = Pin(p.0 + 1);
     }
     true
 }
@@ -251,12 +268,12 @@ fn unmark(gates: &[u32], low: &[u32; 65536], marks: &mut [u8])
     ensures { λ _. ⌜ Kept (now (gates .entry)) (now (marks .exit)) ⌝ }
 {
     let pins = pin_count(gates);
-    let mut p: u32 = 0;
-    while wide(p) < pins {
+    let mut p = Pin(0);
+    while p.index() < pins {
         let q = p;
-        p += 1;
+        p = Pin(q.0 + 1);
         if rises(gates, low, q, 1) {
-            marks[wide(q)] = 0;
+            marks[q.index()] = 0;
         }
     }
 }
@@ -265,7 +282,7 @@ fn unmark(gates: &[u32], low: &[u32; 65536], marks: &mut [u8])
 fn reach_one(seen: &mut [u8], l: Literal) -> bool
     ensures { λ r. ⌜ Step (now (seen .entry)) (now (seen .exit)) (pinOf (l .0) ∷ []) r ⌝ }
 {
-    let q = wide(pin_of(l).0);
+    let q = pin_of(l).index();
     if seen.len() <= q {
         return false;
     }
@@ -290,16 +307,15 @@ fn reach(gates: &[u32], seen: &mut [u8], pin: Pin) -> bool
     }
 }
 
-// The operands of pin q are reached where it is. Returns whether one was not before.
-fn reach_from(gates: &[u32], seen: &mut [u8], q: usize) -> bool
-    requires { ⌜ q < length (now seen) ⌝ }
-    requires { ⌜ q < 65536 ⌝ }
-    ensures { λ r. ⌜ Follows (now (gates .entry)) q (now (seen .entry)) (now (seen .exit)) r ⌝ }
+// The operands of pin p are reached where it is. Returns whether one was not before.
+fn reach_from(gates: &[u32], seen: &mut [u8], p: Pin) -> bool
+    requires { ⌜ p .0 < length (now seen) ⌝ }
+    ensures { λ r. ⌜ Follows (now (gates .entry)) (p .0) (now (seen .entry)) (now (seen .exit)) r ⌝ }
 {
-    if seen[q] == 0 {
+    if seen[p.index()] == 0 {
         return false;
     }
-    reach(gates, seen, Pin(q as u32))
+    reach(gates, seen, p)
 }
 
 fn either(a: bool, b: bool) -> bool
@@ -316,37 +332,37 @@ fn reach_more(gates: &[u32], seen: &mut [u8]) -> bool
 {
     let pins = pin_count(gates);
     let mut any = false;
-    let mut q = 0;
-    while q < pins {
-        let r = reach_from(gates, seen, q);
+    let mut p = Pin(0);
+    while p.index() < pins {
+        let r = reach_from(gates, seen, p);
         any = either(any, r);
-        q += 1;
+        p = Pin(p.0 + 1);
     }
     any
 }
 
-// Pin x behind a list of n pins, unless it is reached.
-fn listed(seen: &[u8], list: &mut [u32; 65536], n: u32, x: u32) -> u32 {
-    let i = wide(x);
+// Pin p behind a list of n pins, unless it is reached.
+fn listed(seen: &[u8], list: &mut [u32; 65536], n: u32, p: Pin) -> u32 {
+    let i = p.index();
     if seen.len() <= i {
         return n;
     }
     if seen[i] != 0 {
         return n;
     }
-    put(list, n, x);
+    put(list, n, p.0);
     more(n)
 }
 
-// The operands of pin q that are not reached, behind a list of n pins. A hint, of which nothing is promised.
-fn queue(gates: &[u32], seen: &[u8], list: &mut [u32; 65536], n: u32, q: u32) -> u32 {
-    match node_at(gates, Pin(q)) {
+// The operands of pin p that are not reached, behind a list of n pins. A hint, of which nothing is promised.
+fn queue(gates: &[u32], seen: &[u8], list: &mut [u32; 65536], n: u32, p: Pin) -> u32 {
+    match node_at(gates, p) {
         Node::Leaf => n,
         Node::Gate(a, b) => {
-            let x = pin_of(a).0;
-            let y = pin_of(b).0;
+            let x = pin_of(a);
+            let y = pin_of(b);
             let k = listed(seen, list, n, x);
-            if x == y {
+            if x.index() == y.index() {
                 return k;
             }
             listed(seen, list, k, y)
@@ -368,11 +384,11 @@ fn reach_along(gates: &[u32], seen: &mut [u8], list: &mut [u32; 65536], n: u32) 
         if k <= i {
             return any;
         }
-        let q = at(list, i);
+        let p = Pin(at(list, i));
         i += 1;
-        k = queue(gates, seen, list, k, q);
-        if wide(q) < pins {
-            let r = reach_from(gates, seen, wide(q));
+        k = queue(gates, seen, list, k, p);
+        if p.index() < pins {
+            let r = reach_from(gates, seen, p);
             any = either(any, r);
         }
     }
@@ -386,11 +402,11 @@ fn spread(gates: &[u32], seen: &mut [u8], list: &mut [u32; 65536], pin: Pin) -> 
     requires { ⌜ now seen ≡ replicate 65536 0 ⌝ }
     ensures { λ r. ⌜ r ≡ onLoop (graphOf (now (gates .entry))) (pin .0) ⌝ }
 {
-    let n = queue(gates, seen, list, 0, pin.0);
+    let n = queue(gates, seen, list, 0, pin);
     reach(gates, seen, pin);
     reach_along(gates, seen, list, n);
     while reach_more(gates, seen) {}
-    seen[wide(pin.0)] != 0
+    seen[pin.index()] != 0
 }
 
 // Is a pin on a loop? The arrays are the function's own.
@@ -405,40 +421,40 @@ fn on_loop(gates: &[u32], pin: Pin) -> bool
 }
 
 // May pin p be on a loop, by its mark, and is it?
-fn looped(gates: &[u32], marks: &[u8], p: u32) -> bool
+fn is_looped(gates: &[u32], marks: &[u8], p: Pin) -> bool
     requires { ⌜ Inside (now gates) ⌝ }
     requires { ⌜ Kept (now gates) (now marks) ⌝ }
-    requires { ⌜ p < pinCount (now gates) ⌝ }
-    ensures { λ r. ⌜ r ≡ onLoop (graphOf (now (gates .entry))) p ⌝ }
+    requires { ⌜ p .0 < pinCount (now gates) ⌝ }
+    ensures { λ r. ⌜ r ≡ onLoop (graphOf (now (gates .entry))) (p .0) ⌝ }
 {
-    if marks[wide(p)] == 0 {
+    if marks[p.index()] == 0 {
         return false;
     }
-    on_loop(gates, Pin(p))
+    on_loop(gates, p)
 }
 
-// The smallest pin on a loop, 0 if there is none, where every pin on a loop has a mark.
-fn search(gates: &[u32], marks: &[u8]) -> u32
+// The smallest pin on a loop, where every pin on a loop has a mark.
+fn search(gates: &[u32], marks: &[u8]) -> Looped
     requires { ⌜ Inside (now gates) ⌝ }
     requires { ⌜ Kept (now gates) (now marks) ⌝ }
-    ensures { λ r. ⌜ r ≡ pinFound (loopPin (graphOf (now (gates .entry)))) ⌝ }
+    ensures { λ r. ⌜ loopFor r ≡ loopPin (graphOf (now (gates .entry))) ⌝ }
 {
     let pins = pin_count(gates);
-    let mut p: u32 = 0;
-    while wide(p) < pins {
-        if looped(gates, marks, p) {
-            return p;
+    let mut p = Pin(0);
+    while p.index() < pins {
+        if is_looped(gates, marks, p) {
+            return Looped::At(p);
         }
-        p += 1;
+        p = Pin(p.0 + 1);
     }
-    0
+    Looped::Free
 }
 
 // The same with marks of its own, by the hint of components, if one may be tried, else with a mark on every pin. It calls itself, and not as
 // the last thing that it does, so that the compiler keeps the arrays' frame out of its callers, who seldom need it: 576 kB, and 320 kB for a search.
-fn found(gates: &[u32], hints: usize) -> u32
+fn found(gates: &[u32], hints: usize) -> Looped
     requires { ⌜ Inside (now gates) ⌝ }
-    ensures { λ r. ⌜ r ≡ pinFound (loopPin (graphOf (now (gates .entry)))) ⌝ }
+    ensures { λ r. ⌜ loopFor r ≡ loopPin (graphOf (now (gates .entry))) ⌝ }
 {
     let mut low: [u32; 65536] = [0; 65536];
     let mut way: [u32; 65536] = [0; 65536];
@@ -451,14 +467,23 @@ fn found(gates: &[u32], hints: usize) -> u32
         unmark(gates, &low, &mut marks);
         return search(gates, &marks);
     }
-    let p = found(gates, 0);
-    if wide(p) < pin_count(gates) { p } else { 0 }
+    let answer = found(gates, 0);
+    match answer {
+        Looped::Free => Looped::Free,
+        Looped::At(p) => {
+            if p.index() < pin_count(gates) {
+                Looped::At(p)
+            } else {
+                Looped::Free
+            }
+        }
+    }
 }
 
-// The smallest pin on a loop, 0 if there is none. Nothing lent is changed.
-pub fn loop_pin(gates: &[u32]) -> u32
+// The smallest pin on a loop. Nothing lent is changed.
+pub fn loop_pin(gates: &[u32]) -> Looped
     requires { ⌜ Inside (now gates) ⌝ }
-    ensures { λ r. ⌜ r ≡ pinFound (loopPin (graphOf (now (gates .entry)))) ⌝ }
+    ensures { λ r. ⌜ loopFor r ≡ loopPin (graphOf (now (gates .entry))) ⌝ }
 {
     found(gates, 1)
 }

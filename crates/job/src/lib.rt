@@ -2,6 +2,8 @@
 mod steps;
 mod walk;
 
+use refusals::NO_JOB;
+use refusals::WRONG_SIZE;
 use walk::is_job;
 use walk::measure;
 use walk::walk;
@@ -47,7 +49,7 @@ pub fn read(bytes: &[u8], gates: &mut [u32], given: &mut [u32], records: &mut [u
 {
     if 8192 < bytes.len() {
         return Answer {
-            number: 11,
+            number: NO_JOB,
             height: 0,
             gates: 0,
             given: 0,
@@ -57,7 +59,7 @@ pub fn read(bytes: &[u8], gates: &mut [u32], given: &mut [u32], records: &mut [u
     let m = measure(bytes, gates, given, records);
     if !is_job(bytes, m.at, m.height, m.gates, m.records) {
         return Answer {
-            number: 11,
+            number: NO_JOB,
             height: 0,
             gates: 0,
             given: 0,
@@ -73,7 +75,7 @@ pub fn read(bytes: &[u8], gates: &mut [u32], given: &mut [u32], records: &mut [u
         records.len(),
     ) {
         return Answer {
-            number: 2,
+            number: WRONG_SIZE,
             height: 0,
             gates: 0,
             given: 0,

@@ -2,6 +2,7 @@
 // that ends past the end met a cut.
 use bits::field;
 use bits::number_width;
+use cells::wide;
 use graph::EMPTY;
 use records::kind_of;
 use records::size_of;
@@ -15,12 +16,6 @@ ghost use Rattle.job.specs.Steps.{oneField, counted, At, FieldsAt, Secti
 pub struct Step {
     pub at: usize,
     pub count: usize,
-}
-
-fn wide(x: u32) -> usize
-    ensures { λ r. ⌜ r ≡ x ⌝ }
-{
-    x as usize
 }
 
 pub fn store(area: &mut [u32], i: usize, x: u32)

@@ -3,6 +3,8 @@ mod fits;
 mod sections;
 
 use fits::judge;
+use refusals::NO_JOB;
+use refusals::WRONG_SIZE;
 use sections::measure;
 use sections::put_job;
 ghost use mathlib.Core.Path.{_≡_};
@@ -29,21 +31,21 @@ pub fn write(
     let judged = judge(height, gates, given, records);
     if judged == 0 {
         return Written {
-            number: 11,
+            number: NO_JOB,
             length: 0,
         };
     }
     let bits = measure(height, gates, given, records, judged - 1, bytes);
     if 65536 < bits {
         return Written {
-            number: 11,
+            number: NO_JOB,
             length: 0,
         };
     }
     let length = bits / 8;
     if bytes.len() < length {
         return Written {
-            number: 2,
+            number: WRONG_SIZE,
             length: 0,
         };
     }

@@ -2,9 +2,12 @@
 // first where it changes nothing, which tells its length, so that an area too short for it stays as it is.
 use cells::Height;
 use cells::is_height;
+use cells::wide;
+use graph::Pin;
 use listing_lines::refused_line;
 use listing_lines::whole;
-use listing_lines::wide;
+use refusals::NO_HEIGHT;
+use refusals::WRONG_SIZE;
 ghost use mathlib.Core.Path.{_≡_};
 ghost use mathlib.Core.Bool.{true};
 ghost use Prim.Native.Nat.{_≤_};
@@ -72,7 +75,7 @@ fn lay(
     let length = whole(&mut nowhere, limit, height, size, n, plan, words, counts);
     if length > out.len() {
         return Written {
-            number: 2,
+            number: WRONG_SIZE,
             length: 0,
         };
     }
@@ -96,13 +99,13 @@ pub fn listing(
 {
     if !is_height(height) {
         return Written {
-            number: 1,
+            number: NO_HEIGHT,
             length: 0,
         };
     }
     if !holds(height, n, plan, words, counts) {
         return Written {
-            number: 2,
+            number: WRONG_SIZE,
             length: 0,
         };
     }
@@ -111,15 +114,15 @@ pub fn listing(
 }
 
 // A refusal's line; the pin is shown where it is not 0.
-pub fn refused(number: u32, stage: usize, pin: usize, out: &mut [u8]) -> Written
-    ensures { λ r. ⌜ outcome (r .number) (r .length) (now (out .exit)) ≡ written (refusedLine number stage pin) (now (out .entry)) ⌝ }
+pub fn refused(number: u32, stage: usize, pin: Pin, out: &mut [u8]) -> Written
+    ensures { λ r. ⌜ outcome (r .number) (r .length) (now (out .exit)) ≡ written (refusedLine number stage (pin .0)) (now (out .entry)) ⌝ }
 {
     let mut nowhere: [u8; 1] = [0; 1];
     let limit = out.len() + 1;
     let length = refused_line(&mut nowhere, limit, number, stage, pin);
     if length > out.len() {
         return Written {
-            number: 2,
+            number: WRONG_SIZE,
             length: 0,
         };
     }
@@ -136,13 +139,13 @@ pub fn answer_text(
     number: u32,
     stages: usize,
     stage: usize,
-    pin: usize,
+    pin: Pin,
     plan: &[u32],
     words: &[u32],
     counts: &[u32],
     out: &mut [u8],
 ) -> Written
-    ensures { λ r. ⌜ outcome (r .number) (r .length) (now (out .exit)) ≡ answered height number stages stage pin (now (plan .entry)) (now (words .entry)) (now (counts .entry)) (now (out .entry)) ⌝ }
+    ensures { λ r. ⌜ outcome (r .number) (r .length) (now (out .exit)) ≡ answered height number stages stage (pin .0) (now (plan .entry)) (now (words .entry)) (now (counts .entry)) (now (out .entry)) ⌝ }
 {
     if number != 0 {
         return refused(number, stage, pin, out);

@@ -1,4 +1,7 @@
 // The lines of a listing, each laid behind the cursor `at`.
+use cells::wide;
+use graph::EMPTY;
+use graph::Pin;
 use text::put_decimal;
 use text::put_text;
 ghost use mathlib.Core.Path.{_≡_};
@@ -12,14 +15,6 @@ ghost use Rattle.listing_lines.specs.Laid.{Laid};
 ghost use Rattle.listing_lines.specs.Stages.{stagesIn, Holds, HoldsOne};
 
 pub mod text;
-
-const EMPTY: u32 = 4294967295;
-
-pub fn wide(x: u32) -> usize
-    ensures { λ r. ⌜ r ≡ x ⌝ }
-{
-    x as usize
-}
 
 // How many cells are filled.
 fn filled(cells: &[u32]) -> usize
@@ -191,19 +186,20 @@ pub fn whole(
     put_text(out, limit, b, b"end\n")
 }
 
-fn pin_text(out: &mut [u8], limit: usize, at: usize, pin: usize) -> usize
-    ensures { λ r. ⌜ Laid limit at (pinText pin) (now (out .entry)) r (now (out .exit)) ⌝ }
+fn pin_text(out: &mut [u8], limit: usize, at: usize, pin: Pin) -> usize
+    ensures { λ r. ⌜ Laid limit at (pinText (pin .0)) (now (out .entry)) r (now (out .exit)) ⌝ }
 {
-    if pin == 0 {
+    let p = pin.index();
+    if p == 0 {
         return put_text(out, limit, at, b"");
     }
     let a = put_text(out, limit, at, b" pin ");
-    put_decimal(out, limit, a, pin)
+    put_decimal(out, limit, a, p)
 }
 
 // The pin is shown where it is not 0.
-pub fn refused_line(out: &mut [u8], limit: usize, number: u32, stage: usize, pin: usize) -> usize
-    ensures { λ r. ⌜ Laid limit 0 (refusedLine number stage pin) (now (out .entry)) r (now (out .exit)) ⌝ }
+pub fn refused_line(out: &mut [u8], limit: usize, number: u32, stage: usize, pin: Pin) -> usize
+    ensures { λ r. ⌜ Laid limit 0 (refusedLine number stage (pin .0)) (now (out .entry)) r (now (out .exit)) ⌝ }
 {
     let a = put_text(out, limit, 0, b"refused ");
     let b = put_decimal(out, limit, a, wide(number));

@@ -1,5 +1,4 @@
 pub mod Joining
 pub mod Placing
 pub mod Outcome
-pub mod Entry
 pub mod Unique

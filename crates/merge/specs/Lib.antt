@@ -1,2 +1,1 @@
 pub mod Merge
-pub mod Entry

@@ -1,5 +1,6 @@
 // Partitions merged while their stages stay few: `process_partitions`, with every area lent.
 use cells::Height;
+use graph::Pin;
 use graph::pin_count;
 use merge_checks::merge_refusal;
 use merge_layout::lay_out;
@@ -17,8 +18,6 @@ ghost use Rattle.stage_runs.specs.Rule.{ruleOf};
 ghost use Rattle.merge_checks.specs.Values.{groupList, areas};
 ghost use Rattle.merge.specs.Merge.{JoinAt, Joined, PlaceAt, Placed, refusedFor, outcome};
 
-mod entry;
-
 // The scope document's number, the sums of stages and words, the refused stage, the partitions left, the unions examined, the refused
 // partition from 1, and with 23 the smallest pin on any loop.
 pub struct Answer {
@@ -29,7 +28,7 @@ pub struct Answer {
     pub partitions: usize,
     pub trials: usize,
     pub refused: usize,
-    pub pin: usize,
+    pub pin: Pin,
 }
 
 fn refuse(number: u32, stage: usize, refused: usize) -> Answer
@@ -43,13 +42,13 @@ fn refuse(number: u32, stage: usize, refused: usize) -> Answer
         partitions: 0,
         trials: 0,
         refused: refused,
-        pin: 0,
+        pin: Pin(0),
     }
 }
 
 // The partitions built, merged and laid out. The table of record starts stands from `table` on, the slots' own numbers from `base` on.
 fn join(
-    height: u32,
+    height: Height,
     rule: WordRule,
     gates: &[u32],
     given: &[u32],
@@ -66,8 +65,8 @@ fn join(
     table: usize,
     base: usize,
 ) -> Answer
-    requires { ⌜ JoinAt height m table base extra (now gates) (now given) (now records) (now indices) (now lengths) (now stages) (now plan) (now words) (now counts) (now work) ⌝ }
-    ensures { λ r. ⌜ Joined (ruleOf rule) height extra (now (gates .entry)) (now (given .entry)) (now (records .entry)) (now (indices .entry)) (now (lengths .entry)) (now (stages .entry)) (now (plan .entry)) r (now (indices .exit)) (now (lengths .exit)) (now (stages .exit)) ⌝ }
+    requires { ⌜ JoinAt (height .0) m table base extra (now gates) (now given) (now records) (now indices) (now lengths) (now stages) (now plan) (now words) (now counts) (now work) ⌝ }
+    ensures { λ r. ⌜ Joined (ruleOf rule) (height .0) extra (now (gates .entry)) (now (given .entry)) (now (records .entry)) (now (indices .entry)) (now (lengths .entry)) (now (stages .entry)) (now (plan .entry)) r (now (indices .exit)) (now (lengths .exit)) (now (stages .exit)) ⌝ }
 {
     let built = build_originals(
         height,
@@ -116,7 +115,7 @@ fn join(
                 partitions: left.partitions,
                 trials: trials,
                 refused: 0,
-                pin: 0,
+                pin: Pin(0),
             }
         }
     }
@@ -124,7 +123,7 @@ fn join(
 
 // The merge of partitions that passed the checks, in areas of exactly their counted sizes.
 fn place(
-    height: u32,
+    height: Height,
     rule: WordRule,
     gates: &[u32],
     given: &[u32],
@@ -138,8 +137,8 @@ fn place(
     counts: &mut [u32],
     work: &mut [u32],
 ) -> Answer
-    requires { ⌜ PlaceAt height extra (now gates) (now given) (now records) (now indices) (now lengths) (now stages) (now plan) (now words) (now counts) (now work) ⌝ }
-    ensures { λ r. ⌜ Placed (ruleOf rule) height extra (now (gates .entry)) (now (given .entry)) (now (records .entry)) (now (indices .entry)) (now (lengths .entry)) (now (stages .entry)) (now (plan .entry)) (now (words .entry)) (now (counts .entry)) (now (work .entry)) r (now (indices .exit)) (now (lengths .exit)) (now (stages .exit)) (now (plan .exit)) (now (words .exit)) (now (counts .exit)) (now (work .exit)) ⌝ }
+    requires { ⌜ PlaceAt (height .0) extra (now gates) (now given) (now records) (now indices) (now lengths) (now stages) (now plan) (now words) (now counts) (now work) ⌝ }
+    ensures { λ r. ⌜ Placed (ruleOf rule) (height .0) extra (now (gates .entry)) (now (given .entry)) (now (records .entry)) (now (indices .entry)) (now (lengths .entry)) (now (stages .entry)) (now (plan .entry)) (now (words .entry)) (now (counts .entry)) (now (work .entry)) r (now (indices .exit)) (now (lengths .exit)) (now (stages .exit)) (now (plan .exit)) (now (words .exit)) (now (counts .exit)) (now (work .exit)) ⌝ }
 {
     empty_all(plan, words, counts, work);
     let m = pin_count(gates);
@@ -202,6 +201,7 @@ pub fn merge_by(
         work,
     );
     if verdict.number != 0 {
+        let pin = verdict.pin;
         return Answer {
             number: verdict.number,
             stages: 0,
@@ -210,7 +210,7 @@ pub fn merge_by(
             partitions: 0,
             trials: 0,
             refused: 0,
-            pin: verdict.pin,
+            pin: pin,
         };
     }
     let limit = Height(height).word_limit();
@@ -218,7 +218,7 @@ pub fn merge_by(
     let own = 8 * lengths.len() + 8 * indices.len();
     let need = 16 * pin_count(gates) + 8 * records.len() + 512 + own;
     place(
-        height,
+        Height(height),
         rule,
         gates,
         given,

@@ -3,7 +3,9 @@ use checks::Verdict;
 use checks::given_right;
 use checks::refusal;
 use columns::wide;
+use graph::Pin;
 use records::size_at;
+use refusals::WRONG_GROUPS;
 use sizes::has_room;
 use sizes::lent_sized;
 use sizes::take_eights;
@@ -136,5 +138,8 @@ pub fn merge_refusal(
     if may_merge(records, indices, lengths, extra) {
         return verdict;
     }
-    Verdict { number: 10, pin: 0 }
+    Verdict {
+        number: WRONG_GROUPS,
+        pin: Pin(0),
+    }
 }

@@ -1,4 +1,5 @@
 // The partitions as they are given. Each stands in a slot: it is built and measured before the first union is tried.
+use cells::Height;
 use columns::wide;
 use merge_slots::store_built;
 use merge_unions::build_union;
@@ -42,7 +43,7 @@ fn note(
 
 // Slot s built and measured, or its refusal.
 pub fn measure(
-    height: u32,
+    height: Height,
     rule: WordRule,
     gates: &[u32],
     given: &[u32],
@@ -58,8 +59,8 @@ pub fn measure(
     n: usize,
     s: usize,
 ) -> Answer
-    requires { ⌜ MeasureAt height m table base n s (now gates) (now given) (now records) (now part) (now plan) (now words) (now counts) (now work) ⌝ }
-    ensures { λ r. ⌜ Measures (ruleOf rule) height m table base n s (now (gates .entry)) (now (given .entry)) (now (records .entry)) (now (part .entry)) (now (plan .entry)) (now (words .entry)) (now (counts .entry)) (now (work .entry)) r (now (plan .exit)) (now (words .exit)) (now (counts .exit)) (now (work .exit)) ⌝ }
+    requires { ⌜ MeasureAt (height .0) m table base n s (now gates) (now given) (now records) (now part) (now plan) (now words) (now counts) (now work) ⌝ }
+    ensures { λ r. ⌜ Measures (ruleOf rule) (height .0) m table base n s (now (gates .entry)) (now (given .entry)) (now (records .entry)) (now (part .entry)) (now (plan .entry)) (now (words .entry)) (now (counts .entry)) (now (work .entry)) r (now (plan .exit)) (now (words .exit)) (now (counts .exit)) (now (work .exit)) ⌝ }
 {
     let a = build_union(
         height,
@@ -107,7 +108,7 @@ fn greater(a: usize, b: usize) -> usize
 
 // Each slot in turn, up to the first that is refused.
 pub fn build_originals(
-    height: u32,
+    height: Height,
     rule: WordRule,
     gates: &[u32],
     given: &[u32],
@@ -122,8 +123,8 @@ pub fn build_originals(
     table: usize,
     base: usize,
 ) -> Originals
-    requires { ⌜ OriginalsAt height m table base (now gates) (now given) (now records) (now indices) (now lengths) (now plan) (now words) (now counts) (now work) ⌝ }
-    ensures { λ r. ⌜ Given (ruleOf rule) height m table base (now (gates .entry)) (now (given .entry)) (now (records .entry)) (now (indices .entry)) (now (lengths .entry)) (now (plan .entry)) (now (words .entry)) (now (counts .entry)) (now (work .entry)) r (now (plan .exit)) (now (words .exit)) (now (counts .exit)) (now (work .exit)) ⌝ }
+    requires { ⌜ OriginalsAt (height .0) m table base (now gates) (now given) (now records) (now indices) (now lengths) (now plan) (now words) (now counts) (now work) ⌝ }
+    ensures { λ r. ⌜ Given (ruleOf rule) (height .0) m table base (now (gates .entry)) (now (given .entry)) (now (records .entry)) (now (indices .entry)) (now (lengths .entry)) (now (plan .entry)) (now (words .entry)) (now (counts .entry)) (now (work .entry)) r (now (plan .exit)) (now (words .exit)) (now (counts .exit)) (now (work .exit)) ⌝ }
 {
     let n = lengths.len();
     let mut most = 0;

@@ -1,4 +1,5 @@
 // Merging, slot by slot: round after round the later slots are ranked, and the first union that is accepted is taken.
+use cells::Height;
 use merge_slots::best;
 use merge_slots::open_all;
 use merge_trials::rank_all;
@@ -21,7 +22,7 @@ pub struct Course {
 
 // The ranked slots after slot i, best first, until a union is accepted. Those that fail are barred.
 fn round(
-    height: u32,
+    height: Height,
     rule: WordRule,
     gates: &[u32],
     given: &[u32],
@@ -40,8 +41,8 @@ fn round(
     ranks: usize,
     trials: usize,
 ) -> Outcome
-    requires { ⌜ RoundAt height m table base i cap ranks trials (now gates) (now given) (now records) (now indices) (now lengths) (now plan) (now words) (now counts) (now work) ⌝ }
-    ensures { λ r. ⌜ Rounded (ruleOf rule) height m table base i cap ranks trials (now (gates .entry)) (now (given .entry)) (now (records .entry)) (now (indices .entry)) (now (lengths .entry)) (now (plan .entry)) (now (work .entry)) r (now (indices .exit)) (now (lengths .exit)) (now (plan .exit)) (now (words .exit)) (now (counts .exit)) (now (work .exit)) ⌝ }
+    requires { ⌜ RoundAt (height .0) m table base i cap ranks trials (now gates) (now given) (now records) (now indices) (now lengths) (now plan) (now words) (now counts) (now work) ⌝ }
+    ensures { λ r. ⌜ Rounded (ruleOf rule) (height .0) m table base i cap ranks trials (now (gates .entry)) (now (given .entry)) (now (records .entry)) (now (indices .entry)) (now (lengths .entry)) (now (plan .entry)) (now (work .entry)) r (now (indices .exit)) (now (lengths .exit)) (now (plan .exit)) (now (words .exit)) (now (counts .exit)) (now (work .exit)) ⌝ }
 {
     let n = lengths.len();
     let end = base + 8 * n;
@@ -90,7 +91,7 @@ fn round(
 
 // Rounds for slot i until none is accepted, at most `fuel`. Returns the unions examined so far.
 fn merge_into(
-    height: u32,
+    height: Height,
     rule: WordRule,
     gates: &[u32],
     given: &[u32],
@@ -110,8 +111,8 @@ fn merge_into(
     fuel: usize,
     trials: usize,
 ) -> usize
-    requires { ⌜ IntoAt height m table base i cap ranks fuel trials (now gates) (now given) (now records) (now indices) (now lengths) (now plan) (now words) (now counts) (now work) ⌝ }
-    ensures { λ r. ⌜ Into (ruleOf rule) height m table base i cap ranks fuel trials (now (gates .entry)) (now (given .entry)) (now (records .entry)) (now (indices .entry)) (now (lengths .entry)) (now (plan .entry)) (now (work .entry)) r (now (indices .exit)) (now (lengths .exit)) (now (plan .exit)) (now (words .exit)) (now (counts .exit)) (now (work .exit)) ⌝ }
+    requires { ⌜ IntoAt (height .0) m table base i cap ranks fuel trials (now gates) (now given) (now records) (now indices) (now lengths) (now plan) (now words) (now counts) (now work) ⌝ }
+    ensures { λ r. ⌜ Into (ruleOf rule) (height .0) m table base i cap ranks fuel trials (now (gates .entry)) (now (given .entry)) (now (records .entry)) (now (indices .entry)) (now (lengths .entry)) (now (plan .entry)) (now (work .entry)) r (now (indices .exit)) (now (lengths .exit)) (now (plan .exit)) (now (words .exit)) (now (counts .exit)) (now (work .exit)) ⌝ }
 {
     let mut t = trials;
     let mut left = fuel;
@@ -159,7 +160,7 @@ fn merge_into(
 
 // Slot i in its turn: if it is full, the later ones are open again, and its rounds follow.
 fn merge_slot(
-    height: u32,
+    height: Height,
     rule: WordRule,
     gates: &[u32],
     given: &[u32],
@@ -179,8 +180,8 @@ fn merge_slot(
     fuel: usize,
     trials: usize,
 ) -> Course
-    requires { ⌜ SlotAt height m table base i cap ranks fuel trials (now gates) (now given) (now records) (now indices) (now lengths) (now plan) (now words) (now counts) (now work) ⌝ }
-    ensures { λ r. ⌜ Stepped (ruleOf rule) height m table base i cap ranks fuel trials (now (gates .entry)) (now (given .entry)) (now (records .entry)) (now (indices .entry)) (now (lengths .entry)) (now (plan .entry)) (now (work .entry)) r (now (indices .exit)) (now (lengths .exit)) (now (plan .exit)) (now (words .exit)) (now (counts .exit)) (now (work .exit)) ⌝ }
+    requires { ⌜ SlotAt (height .0) m table base i cap ranks fuel trials (now gates) (now given) (now records) (now indices) (now lengths) (now plan) (now words) (now counts) (now work) ⌝ }
+    ensures { λ r. ⌜ Stepped (ruleOf rule) (height .0) m table base i cap ranks fuel trials (now (gates .entry)) (now (given .entry)) (now (records .entry)) (now (indices .entry)) (now (lengths .entry)) (now (plan .entry)) (now (work .entry)) r (now (indices .exit)) (now (lengths .exit)) (now (plan .exit)) (now (words .exit)) (now (counts .exit)) (now (work .exit)) ⌝ }
 {
     if lengths[i] == 0 {
         return Course {
@@ -219,7 +220,7 @@ fn merge_slot(
 
 // Every slot in turn. Returns the unions examined.
 pub fn merge_slots(
-    height: u32,
+    height: Height,
     rule: WordRule,
     gates: &[u32],
     given: &[u32],
@@ -236,8 +237,8 @@ pub fn merge_slots(
     cap: usize,
     ranks: usize,
 ) -> usize
-    requires { ⌜ SlotsAt height m table base cap ranks (now gates) (now given) (now records) (now indices) (now lengths) (now plan) (now words) (now counts) (now work) ⌝ }
-    ensures { λ r. ⌜ Slotted (ruleOf rule) height m table base cap ranks (now (gates .entry)) (now (given .entry)) (now (records .entry)) (now (indices .entry)) (now (lengths .entry)) (now (plan .entry)) (now (work .entry)) r (now (indices .exit)) (now (lengths .exit)) (now (plan .exit)) (now (words .exit)) (now (counts .exit)) (now (work .exit)) ⌝ }
+    requires { ⌜ SlotsAt (height .0) m table base cap ranks (now gates) (now given) (now records) (now indices) (now lengths) (now plan) (now words) (now counts) (now work) ⌝ }
+    ensures { λ r. ⌜ Slotted (ruleOf rule) (height .0) m table base cap ranks (now (gates .entry)) (now (given .entry)) (now (records .entry)) (now (indices .entry)) (now (lengths .entry)) (now (plan .entry)) (now (work .entry)) r (now (indices .exit)) (now (lengths .exit)) (now (plan .exit)) (now (words .exit)) (now (counts .exit)) (now (work .exit)) ⌝ }
 {
     let n = lengths.len();
     let mut trials = 0;

@@ -1,4 +1,5 @@
 // What merging into one slot does again and again: the later slots ranked for it, and the trial of one union.
+use cells::Height;
 use merge_slots::BAR;
 use merge_slots::key_slot;
 use merge_slots::start_of;
@@ -122,7 +123,7 @@ pub fn rank_all(
 
 // The build of the union of slots i and j.
 fn build_pair(
-    height: u32,
+    height: Height,
     rule: WordRule,
     gates: &[u32],
     given: &[u32],
@@ -138,8 +139,8 @@ fn build_pair(
     i: usize,
     j: usize,
 ) -> Answer
-    requires { ⌜ BuildAt height m table i j (now gates) (now given) (now records) (now indices) (now lengths) (now plan) (now words) (now counts) (now work) ⌝ }
-    ensures { λ r. ⌜ Built (ruleOf rule) height m table (now (gates .entry)) (now (given .entry)) (now (records .entry)) (groupsAt (now (lengths .entry)) (now (indices .entry)) i) (groupsAt (now (lengths .entry)) (now (indices .entry)) j) (now (plan .entry)) (now (words .entry)) (now (counts .entry)) (now (work .entry)) r (now (plan .exit)) (now (words .exit)) (now (counts .exit)) (now (work .exit)) ⌝ }
+    requires { ⌜ BuildAt (height .0) m table i j (now gates) (now given) (now records) (now indices) (now lengths) (now plan) (now words) (now counts) (now work) ⌝ }
+    ensures { λ r. ⌜ Built (ruleOf rule) (height .0) m table (now (gates .entry)) (now (given .entry)) (now (records .entry)) (groupsAt (now (lengths .entry)) (now (indices .entry)) i) (groupsAt (now (lengths .entry)) (now (indices .entry)) j) (now (plan .entry)) (now (words .entry)) (now (counts .entry)) (now (work .entry)) r (now (plan .exit)) (now (words .exit)) (now (counts .exit)) (now (work .exit)) ⌝ }
 {
     let a = start_of(lengths, i);
     let b = start_of(lengths, i + 1);
@@ -197,7 +198,7 @@ fn join(
 
 // Slot j's union with slot i, taken if it is accepted; otherwise slot j is barred. Was it accepted?
 pub fn try_union(
-    height: u32,
+    height: Height,
     rule: WordRule,
     gates: &[u32],
     given: &[u32],
@@ -215,8 +216,8 @@ pub fn try_union(
     j: usize,
     cap: usize,
 ) -> bool
-    requires { ⌜ TryAt height m table base i j cap (now gates) (now given) (now records) (now indices) (now lengths) (now plan) (now words) (now counts) (now work) ⌝ }
-    ensures { λ r. ⌜ Tried (ruleOf rule) height m table base i j cap (now (gates .entry)) (now (given .entry)) (now (records .entry)) (now (indices .entry)) (now (lengths .entry)) (now (plan .entry)) (now (work .entry)) r (now (indices .exit)) (now (lengths .exit)) (now (plan .exit)) (now (words .exit)) (now (counts .exit)) (now (work .exit)) ⌝ }
+    requires { ⌜ TryAt (height .0) m table base i j cap (now gates) (now given) (now records) (now indices) (now lengths) (now plan) (now words) (now counts) (now work) ⌝ }
+    ensures { λ r. ⌜ Tried (ruleOf rule) (height .0) m table base i j cap (now (gates .entry)) (now (given .entry)) (now (records .entry)) (now (indices .entry)) (now (lengths .entry)) (now (plan .entry)) (now (work .entry)) r (now (indices .exit)) (now (lengths .exit)) (now (plan .exit)) (now (words .exit)) (now (counts .exit)) (now (work .exit)) ⌝ }
 {
     let a = build_pair(
         height,

@@ -2,12 +2,14 @@
 // work area as they find it: what a build reads before it writes is 0, and nothing from the table on is changed.
 use cells::Height;
 use columns::wide;
+use graph::Pin;
 use placer::Answer;
 use placer::areas::empty_all;
 use placer::stages::stages;
 use placer_start::Opening;
 use placer_start::given::mark_given;
 use placer_start::reservation::Reservation;
+use refusals::OVER_RESERVED;
 use reservation::reserve_both;
 use stage_runs::WordRule;
 use waiting::wait_both;
@@ -50,7 +52,7 @@ fn begin_both(
 
 // The reservation and the stages, in empty areas.
 fn attempt(
-    height: u32,
+    height: Height,
     rule: WordRule,
     gates: &[u32],
     given: &[u32],
@@ -64,21 +66,20 @@ fn attempt(
     m: usize,
     table: usize,
 ) -> Answer
-    requires { ⌜ TryAt height m table (now gates) (now given) (now records) (now first) (now second) (now plan) (now words) (now counts) (now work) ⌝ }
-    ensures { λ r. ⌜ Tried (ruleOf rule) height m table (now (gates .entry)) (now (given .entry)) (now (records .entry)) (now (first .entry)) (now (second .entry)) (now (plan .entry)) (now (words .entry)) (now (counts .entry)) (now (work .entry)) r (now (plan .exit)) (now (words .exit)) (now (counts .exit)) (now (work .exit)) ⌝ }
+    requires { ⌜ TryAt (height .0) m table (now gates) (now given) (now records) (now first) (now second) (now plan) (now words) (now counts) (now work) ⌝ }
+    ensures { λ r. ⌜ Tried (ruleOf rule) (height .0) m table (now (gates .entry)) (now (given .entry)) (now (records .entry)) (now (first .entry)) (now (second .entry)) (now (plan .entry)) (now (words .entry)) (now (counts .entry)) (now (work .entry)) r (now (plan .exit)) (now (words .exit)) (now (counts .exit)) (now (work .exit)) ⌝ }
 {
     let limit = words.len();
     let opening = begin_both(given, records, first, second, work, m, table, limit);
     match opening {
         Opening::Over => Answer {
-            number: 6,
+            number: OVER_RESERVED,
             stages: 0,
             words: 0,
             stage: 0,
-            pin: 0,
+            pin: Pin(0),
         },
         Opening::Ready(reserved, n) => {
-            let half = Height(height).level_one_size();
             let rooms = counts.len();
             let room = limit - reserved;
             let size = 16 * m + 512;
@@ -89,8 +90,7 @@ fn attempt(
                 counts,
                 &mut work[0..size],
                 m,
-                wide(height),
-                half,
+                height,
                 rule,
                 rooms,
                 n,
@@ -102,7 +102,7 @@ fn attempt(
 
 // The build of a union's groups. A merge keeps no plan, so every area is empty again.
 pub fn build_union(
-    height: u32,
+    height: Height,
     rule: WordRule,
     gates: &[u32],
     given: &[u32],
@@ -116,8 +116,8 @@ pub fn build_union(
     m: usize,
     table: usize,
 ) -> Answer
-    requires { ⌜ TryAt height m table (now gates) (now given) (now records) (now first) (now second) (now plan) (now words) (now counts) (now work) ⌝ }
-    ensures { λ r. ⌜ Built (ruleOf rule) height m table (now (gates .entry)) (now (given .entry)) (now (records .entry)) (now (first .entry)) (now (second .entry)) (now (plan .entry)) (now (words .entry)) (now (counts .entry)) (now (work .entry)) r (now (plan .exit)) (now (words .exit)) (now (counts .exit)) (now (work .exit)) ⌝ }
+    requires { ⌜ TryAt (height .0) m table (now gates) (now given) (now records) (now first) (now second) (now plan) (now words) (now counts) (now work) ⌝ }
+    ensures { λ r. ⌜ Built (ruleOf rule) (height .0) m table (now (gates .entry)) (now (given .entry)) (now (records .entry)) (now (first .entry)) (now (second .entry)) (now (plan .entry)) (now (words .entry)) (now (counts .entry)) (now (work .entry)) r (now (plan .exit)) (now (words .exit)) (now (counts .exit)) (now (work .exit)) ⌝ }
 {
     let a = attempt(
         height,

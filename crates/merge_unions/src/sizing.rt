@@ -5,9 +5,9 @@ use columns::LISTED;
 use columns::ORDER;
 use columns::PLACE;
 use columns::WAITING;
-use columns::get;
+use columns::pin_at;
 use columns::set_field;
-use columns::wide;
+use graph::Pin;
 use placer_start::given::mark_given;
 use stage_walk::traversal::traverse;
 ghost use Rattle.columns.specs.Fields.{DONE};
@@ -21,7 +21,7 @@ fn clear_along(work: &mut [u32], m: usize, n: usize, f: usize, g: usize)
 {
     let mut i = 0;
     while i < n {
-        let p = get(work, m, i, f);
+        let p = pin_at(work, m, i, f);
         set_field(work, m, p, g, 0);
         i += 1;
     }
@@ -34,7 +34,7 @@ fn unmark_given(given: &[u32], work: &mut [u32], m: usize)
 {
     let mut i = 0;
     while i < given.len() {
-        set_field(work, m, wide(given[i]), DONE, 0);
+        set_field(work, m, Pin(given[i]), DONE, 0);
         i += 1;
     }
 }

@@ -3,5 +3,4 @@ pub mod Course
 pub mod Next
 pub mod Build
 pub mod Outcome
-pub mod Entry
 pub mod Unique

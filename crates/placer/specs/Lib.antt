@@ -1,4 +1,3 @@
 pub mod Answers
 pub mod Stages
 pub mod Build
-pub mod Entry

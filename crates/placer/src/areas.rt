@@ -1,8 +1,7 @@
 // The lent areas, each at its counted size: plan and words become empty marks, counts and work 0.
 use columns::fill_part;
+use graph::EMPTY;
 ghost use Rattle.placer.specs.Build.{Emptied, Tidied};
-
-const EMPTY: u32 = 4294967295;
 
 pub fn empty_all(plan: &mut [u32], words: &mut [u32], counts: &mut [u32], work: &mut [u32])
     ensures { λ _. ⌜ Emptied (now (plan .entry)) (now (words .entry)) (now (counts .entry)) (now (work .entry)) (now (plan .exit)) (now (words .exit)) (now (counts .exit)) (now (work .exit)) ⌝ }

@@ -3,10 +3,11 @@ use areas::empty_all;
 use areas::tidy;
 use cells::Height;
 use checks::check;
-use columns::wide;
+use graph::Pin;
 use graph::pin_count;
 use placer_start::Opening;
 use placer_start::begin;
+use refusals::OVER_RESERVED;
 use stage_runs::WordRule;
 use stages::stages;
 ghost use mathlib.Core.Path.{_≡_};
@@ -18,7 +19,6 @@ ghost use Rattle.placer.specs.Answers.{areas, outcome};
 ghost use Rattle.placer.specs.Build.{PlaceAt, TryAt, Tried, Placed};
 
 pub mod areas;
-mod entry;
 pub mod stages;
 
 // The scope document's number, the stages and words of a whole plan, the refused stage, and with 23 the smallest pin on any loop.
@@ -27,12 +27,12 @@ pub struct Answer {
     pub stages: usize,
     pub words: usize,
     pub stage: usize,
-    pub pin: usize,
+    pub pin: Pin,
 }
 
 // The reservation and the stages, in empty areas.
 fn attempt(
-    height: u32,
+    height: Height,
     rule: WordRule,
     gates: &[u32],
     given: &[u32],
@@ -42,21 +42,20 @@ fn attempt(
     counts: &mut [u32],
     work: &mut [u32],
 ) -> Answer
-    requires { ⌜ TryAt height (now gates) (now given) (now records) (now plan) (now words) (now counts) (now work) ⌝ }
-    ensures { λ r. ⌜ Tried (answerOf (ruleOf rule) height (now (gates .entry)) (now (given .entry)) (now (records .entry)) (length (now (plan .entry)))) (now (plan .entry)) (now (words .entry)) (now (counts .entry)) (now (work .entry)) r (now (plan .exit)) (now (words .exit)) (now (counts .exit)) (now (work .exit)) ⌝ }
+    requires { ⌜ TryAt (height .0) (now gates) (now given) (now records) (now plan) (now words) (now counts) (now work) ⌝ }
+    ensures { λ r. ⌜ Tried (answerOf (ruleOf rule) (height .0) (now (gates .entry)) (now (given .entry)) (now (records .entry)) (length (now (plan .entry)))) (now (plan .entry)) (now (words .entry)) (now (counts .entry)) (now (work .entry)) r (now (plan .exit)) (now (words .exit)) (now (counts .exit)) (now (work .exit)) ⌝ }
 {
     let m = pin_count(gates);
-    let half = Height(height).level_one_size();
     let rooms = counts.len();
     let limit = words.len();
     let opening = begin(given, records, work, m, limit);
     match opening {
         Opening::Over => Answer {
-            number: 6,
+            number: OVER_RESERVED,
             stages: 0,
             words: 0,
             stage: 0,
-            pin: 0,
+            pin: Pin(0),
         },
         Opening::Ready(reserved, n) => {
             let room = limit - reserved;
@@ -67,8 +66,7 @@ fn attempt(
                 counts,
                 work,
                 m,
-                wide(height),
-                half,
+                height,
                 rule,
                 rooms,
                 n,
@@ -80,7 +78,7 @@ fn attempt(
 
 // The build of records that passed the checks, in areas of exactly their counted sizes.
 fn place(
-    height: u32,
+    height: Height,
     rule: WordRule,
     gates: &[u32],
     given: &[u32],
@@ -90,8 +88,8 @@ fn place(
     counts: &mut [u32],
     work: &mut [u32],
 ) -> Answer
-    requires { ⌜ PlaceAt height (now gates) (now given) (now records) (now plan) (now words) (now counts) (now work) ⌝ }
-    ensures { λ r. ⌜ Placed (answerOf (ruleOf rule) height (now (gates .entry)) (now (given .entry)) (now (records .entry)) (length (now (plan .entry)))) (now (plan .entry)) (now (words .entry)) (now (counts .entry)) (now (work .entry)) r (now (plan .exit)) (now (words .exit)) (now (counts .exit)) (now (work .exit)) ⌝ }
+    requires { ⌜ PlaceAt (height .0) (now gates) (now given) (now records) (now plan) (now words) (now counts) (now work) ⌝ }
+    ensures { λ r. ⌜ Placed (answerOf (ruleOf rule) (height .0) (now (gates .entry)) (now (given .entry)) (now (records .entry)) (length (now (plan .entry)))) (now (plan .entry)) (now (words .entry)) (now (counts .entry)) (now (work .entry)) r (now (plan .exit)) (now (words .exit)) (now (counts .exit)) (now (work .exit)) ⌝ }
 {
     empty_all(plan, words, counts, work);
     let a = attempt(
@@ -135,19 +133,20 @@ pub fn build_by(
         work.len(),
     );
     if verdict.number != 0 {
+        let pin = verdict.pin;
         return Answer {
             number: verdict.number,
             stages: 0,
             words: 0,
             stage: 0,
-            pin: verdict.pin,
+            pin: pin,
         };
     }
     let limit = Height(height).word_limit();
     let rooms = Height(height).rooms(plan.len());
     let need = 16 * pin_count(gates) + 8 * records.len() + 512;
     place(
-        height,
+        Height(height),
         rule,
         gates,
         given,

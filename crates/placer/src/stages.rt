@@ -1,11 +1,15 @@
 // Stage after stage, until no pin waits or one is refused.
 use crate::Answer;
+use cells::Height;
+use graph::Pin;
+use refusals::NO_ROOM;
 use stage::Outcome;
 use stage::build_one_stage;
 use stage_runs::WordRule;
 use stage_tally::Tally;
 use stage_tally::spend;
 ghost use Rattle.stage_tally.specs.Spending.{room, Counted};
+ghost use Rattle.rules.specs.Cells.{rowAt};
 ghost use Rattle.rules.specs.Inside.Some.{Some, Every};
 ghost use Rattle.placer.specs.Stages.{OneAt, One, StagesAt, Ran};
 
@@ -17,17 +21,16 @@ fn next_stage(
     counts: &mut [u32],
     work: &mut [u32],
     m: usize,
-    height: usize,
-    half: usize,
+    height: Height,
     rule: WordRule,
     k: usize,
     n: usize,
     tally: Tally,
 ) -> Outcome
-    requires { ⌜ Counted tally × Some (λ C. OneAt C m height half rule k n (tally .spent) (room tally) (now gates) (now plan) (now words) (now counts) (now work)) ⌝ }
-    ensures { λ r. ⌜ Every (λ C. OneAt C m height half rule k n (tally .spent) (room tally) (now (gates .entry)) (now (plan .entry)) (now (words .entry)) (now (counts .entry)) (now (work .entry))) (λ C. One C m k (tally .spent) (now (plan .entry)) (now (words .entry)) (now (counts .entry)) (now (work .entry)) (r .number) (r .words) (r .waiting) (now (plan .exit)) (now (words .exit)) (now (counts .exit)) (now (work .exit))) ⌝ }
+    requires { ⌜ Counted tally × Some (λ C. OneAt C m (height .0) (rowAt (height .0) 1) rule k n (tally .spent) (room tally) (now gates) (now plan) (now words) (now counts) (now work)) ⌝ }
+    ensures { λ r. ⌜ Every (λ C. OneAt C m (height .0) (rowAt (height .0) 1) rule k n (tally .spent) (room tally) (now (gates .entry)) (now (plan .entry)) (now (words .entry)) (now (counts .entry)) (now (work .entry))) (λ C. One C m k (tally .spent) (now (plan .entry)) (now (words .entry)) (now (counts .entry)) (now (work .entry)) (r .number) (r .words) (r .waiting) (now (plan .exit)) (now (words .exit)) (now (counts .exit)) (now (work .exit))) ⌝ }
 {
-    let size = 4 * half;
+    let size = 4 * height.level_one_size();
     let a = k * size;
     let e = a + size;
     let s = build_one_stage(
@@ -37,7 +40,6 @@ fn next_stage(
         words,
         m,
         height,
-        half,
         n,
         rule,
         tally,
@@ -57,15 +59,14 @@ pub fn stages(
     counts: &mut [u32],
     work: &mut [u32],
     m: usize,
-    height: usize,
-    half: usize,
+    height: Height,
     rule: WordRule,
     rooms: usize,
     n: usize,
     room: usize,
 ) -> Answer
-    requires { ⌜ Some (λ C. StagesAt C m height half rule rooms 0 0 n room (now gates) (now plan) (now words) (now counts) (now work)) ⌝ }
-    ensures { λ r. ⌜ Every (λ C. StagesAt C m height half rule rooms 0 0 n room (now (gates .entry)) (now (plan .entry)) (now (words .entry)) (now (counts .entry)) (now (work .entry))) (λ C. Ran C (now (plan .entry)) (now (words .entry)) (now (counts .entry)) (now (work .entry)) r (now (plan .exit)) (now (words .exit)) (now (counts .exit)) (now (work .exit))) ⌝ }
+    requires { ⌜ Some (λ C. StagesAt C m (height .0) (rowAt (height .0) 1) rule rooms 0 0 n room (now gates) (now plan) (now words) (now counts) (now work)) ⌝ }
+    ensures { λ r. ⌜ Every (λ C. StagesAt C m (height .0) (rowAt (height .0) 1) rule rooms 0 0 n room (now (gates .entry)) (now (plan .entry)) (now (words .entry)) (now (counts .entry)) (now (work .entry))) (λ C. Ran C (now (plan .entry)) (now (words .entry)) (now (counts .entry)) (now (work .entry)) r (now (plan .exit)) (now (words .exit)) (now (counts .exit)) (now (work .exit))) ⌝ }
 {
     let limit = words.len();
     let mut tally = Tally {
@@ -78,11 +79,11 @@ pub fn stages(
     while left > 0 {
         if k == rooms {
             return Answer {
-                number: 9,
+                number: NO_ROOM,
                 stages: 0,
                 words: 0,
                 stage: k + 1,
-                pin: 0,
+                pin: Pin(0),
             };
         }
         let s = next_stage(
@@ -93,7 +94,6 @@ pub fn stages(
             work,
             m,
             height,
-            half,
             rule,
             k,
             left,
@@ -106,7 +106,7 @@ pub fn stages(
                 stages: 0,
                 words: 0,
                 stage: k + 1,
-                pin: 0,
+                pin: Pin(0),
             };
         }
         tally = spend(tally, s.words);
@@ -118,6 +118,6 @@ pub fn stages(
         stages: k,
         words: tally.spent,
         stage: 0,
-        pin: 0,
+        pin: Pin(0),
     }
 }

@@ -23,7 +23,7 @@ use Rattle.placer_start.specs.Waiting.{Readable}
 
 unfoldable pub codesOf : Added → List Activation
 codesOf Memory = []
-codesOf (Code p c) = record { pin = p; code = c } ∷ []
+codesOf (Code p c) = record { pin = p .0; code = c } ∷ []
 
 unfoldable pub memoriesOf : Added → ℕ
 memoriesOf Memory = 1

@@ -1,7 +1,7 @@
 // The given pins count as done before the first stage.
 use columns::DONE;
 use columns::set_field;
-use columns::wide;
+use graph::Pin;
 ghost use Rattle.placer_start.specs.Given.{GivenAt, Given};
 
 pub fn mark_given(given: &[u32], work: &mut [u32], m: usize)
@@ -10,7 +10,7 @@ pub fn mark_given(given: &[u32], work: &mut [u32], m: usize)
 {
     let mut i = 0;
     while i < given.len() {
-        set_field(work, m, wide(given[i]), DONE, 1);
+        set_field(work, m, Pin(given[i]), DONE, 1);
         i += 1;
     }
 }

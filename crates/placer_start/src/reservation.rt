@@ -4,11 +4,12 @@
 use columns::RANKED;
 use columns::RECORDS;
 use columns::get;
-use columns::push;
+use columns::set_field;
 use columns::tail_get;
 use columns::tail_set;
 use columns::wide;
 use graph::Literal;
+use graph::Pin;
 use graph::inversion_of;
 use graph::pin_of;
 use records::Kind;
@@ -23,7 +24,7 @@ ghost use Rattle.placer_start.specs.Reservation.{WholeAt, AddsGroup, Cha
 // What a record adds: a memory, or at a pin an activation's number.
 pub enum Added {
     Memory,
-    Code(usize, usize),
+    Code(Pin, usize),
 }
 
 // Memories, and duplicates: activations at a pin beyond its first.
@@ -42,7 +43,7 @@ pub enum Reservation {
 fn output(l: Literal) -> Added
     ensures { λ r. ⌜ AddsGroup (rules.output (l .0)) r ⌝ }
 {
-    Added::Code(wide(pin_of(l).0), 2 + wide(inversion_of(l)))
+    Added::Code(pin_of(l), 2 + wide(inversion_of(l)))
 }
 
 // A flip-flop's, at its data pin: 2 × enable literal + data inversion.
@@ -50,7 +51,7 @@ fn flip_flop(enable: Literal, input: Literal) -> Added
     ensures { λ r. ⌜ AddsGroup (flipFlop (enable .0) (input .0)) r ⌝ }
 {
     Added::Code(
-        wide(pin_of(input).0),
+        pin_of(input),
         2 * wide(enable.0) + wide(inversion_of(input)),
     )
 }
@@ -66,7 +67,7 @@ fn adds(records: &[u32], at: usize) -> Added
         Kind::Memory => Added::Memory,
         Kind::Output => output(Literal(first)),
         Kind::FlipFlop => flip_flop(Literal(first), Literal(records[at + 2])),
-        Kind::StagedPin => Added::Code(wide(first), 2),
+        Kind::StagedPin => Added::Code(Pin(first), 2),
         // A whole record has a known kind.
         Kind::Unknown => Added::Memory,
     }
@@ -89,19 +90,19 @@ fn has_code(work: &[u32], m: usize, head: usize, code: usize) -> bool
 }
 
 // An activation with index k goes before pin p's chain from `head`. It fits, since a literal of one of the m pins is below 131,072.
-fn link(work: &mut [u32], m: usize, k: usize, p: usize, head: usize, code: usize)
-    requires { ⌜ LinkAt m k p head code (now work) ⌝ }
-    ensures { λ _. ⌜ Linked m k p head code (now (work .entry)) (now (work .exit)) ⌝ }
+fn link(work: &mut [u32], m: usize, k: usize, p: Pin, head: usize, code: usize)
+    requires { ⌜ LinkAt m k (p .0) head code (now work) ⌝ }
+    ensures { λ _. ⌜ Linked m k (p .0) head code (now (work .entry)) (now (work .exit)) ⌝ }
 {
     tail_set(work, m, RECORDS + 2 * k, code as u32);
     tail_set(work, m, RECORDS + 2 * k + 1, head as u32);
-    push(work, m, p, RANKED, k + 1);
+    set_field(work, m, p, RANKED, k + 1);
 }
 
 // An activation at pin p, with index k. Returns how many duplicates it adds.
-fn add_code(work: &mut [u32], m: usize, k: usize, p: usize, code: usize) -> usize
-    requires { ⌜ Some (λ ys. CodeAt m k p code ys (now work)) ⌝ }
-    ensures { λ r. ⌜ Every (λ ys. CodeAt m k p code ys (now (work .entry))) (λ ys. Coded m k p code ys (now (work .entry)) (now (work .exit)) r) ⌝ }
+fn add_code(work: &mut [u32], m: usize, k: usize, p: Pin, code: usize) -> usize
+    requires { ⌜ Some (λ ys. CodeAt m k (p .0) code ys (now work)) ⌝ }
+    ensures { λ r. ⌜ Every (λ ys. CodeAt m k (p .0) code ys (now (work .entry))) (λ ys. Coded m k (p .0) code ys (now (work .entry)) (now (work .exit)) r) ⌝ }
 {
     let head = get(work, m, p, RANKED);
     if has_code(work, m, head, code) {
@@ -134,8 +135,8 @@ pub fn add_record(
             memories: memories + 1,
             duplicates: duplicates,
         },
-        Added::Code(pin, code) => {
-            let more = add_code(work, m, k, pin, code);
+        Added::Code(p, code) => {
+            let more = add_code(work, m, k, p, code);
             Count {
                 memories: memories,
                 duplicates: duplicates + more,

@@ -1,6 +1,6 @@
 // The waiting list: the records' pins in their order.
 use columns::wait;
-use columns::wide;
+use graph::Pin;
 use records::endpoint;
 use records::size_at;
 ghost use Rattle.rules.specs.Records.{groupsOf};
@@ -8,11 +8,11 @@ ghost use Rattle.columns.specs.Lists.{WaitAt};
 ghost use Rattle.placer_start.specs.Waiting.{PinWaits, RecordAt, RecordWaits, WaitAllAt, AllWait};
 
 // Pin p behind the n waiting pins, unless it is pin 0 or waits. Returns how many wait.
-fn wait_pin(work: &mut [u32], m: usize, n: usize, p: usize) -> usize
-    requires { ⌜ WaitAt m n p (now work) ⌝ }
-    ensures { λ r. ⌜ PinWaits m n p (now (work .entry)) (now (work .exit)) r ⌝ }
+fn wait_pin(work: &mut [u32], m: usize, n: usize, p: Pin) -> usize
+    requires { ⌜ WaitAt m n (p .0) (now work) ⌝ }
+    ensures { λ r. ⌜ PinWaits m n (p .0) (now (work .entry)) (now (work .exit)) r ⌝ }
 {
-    if p == 0 {
+    if p.index() == 0 {
         return n;
     }
     wait(work, m, n, p)
@@ -27,7 +27,7 @@ pub fn wait_record(records: &[u32], work: &mut [u32], m: usize, n: usize, at: us
     let mut k = n;
     let mut i = 0;
     while i < size {
-        k = wait_pin(work, m, k, wide(endpoint(records, at, i).0));
+        k = wait_pin(work, m, k, endpoint(records, at, i));
         i += 1;
     }
     k

@@ -1,11 +1,13 @@
 // What the job program prints. A file is read, its job built in areas of the program's sizes, and the answer listed. The areas stand
 // on the stack, some 110 kB.
 use cells::Height;
+use graph::Pin;
 use job::read;
 use listing::Written;
 use listing::answer_text;
 use listing::refused;
 use placer::build;
+use refusals::NO_JOB;
 ghost use mathlib.Core.Path.{_≡_};
 ghost use Rattle.rules.specs.Traversal.{neededRuns};
 ghost use Rattle.rules.specs.Listing.{jobText, printed};
@@ -28,12 +30,13 @@ fn built_text(
     ensures { λ r. ⌜ outcome (r .number) (r .length) (now (out .exit)) ≡ written (jobText neededRuns (jobOf height (now (gates .entry)) (now (given .entry)) (now (records .entry)))) (now (out .entry)) ⌝ }
 {
     let a = build(height, gates, given, records, plan, words, counts, work);
+    let pin = a.pin;
     answer_text(
         height,
         a.number,
         a.stages,
         a.stage,
-        a.pin,
+        pin,
         plan,
         words,
         counts,
@@ -105,7 +108,7 @@ fn read_text(
 {
     let a = read(bytes, gates, given, records);
     if a.number != 0 {
-        return refused(11, 0, 0, out);
+        return refused(NO_JOB, 0, Pin(0), out);
     }
     let g = a.gates;
     let n = a.given;

@@ -27,10 +27,12 @@ pub known-none : (k : ℕ) → sizeOf k ≡ 0 → known k ≡ 0
 unfolding known
 known-none k e = rw e (orZero-false k)
 
+-- an unknown kind, read as 0, has size 0 as well
 pub known-size : (k : ℕ) → sizeOf (known k) ≡ sizeOf k
 unfolding known sizeOf orZero
 known-size k = kinds k (λ e. rw e) (λ e. rw e) (λ e. rw e) (λ e. rw e) (λ e. rw (known-none k e) (sym e))
 
+-- a kind that has a size is known, and stays as it is
 pub known-is : (k : ℕ) → 0 < sizeOf k → known k ≡ k
 unfolding known
 known-is k h = rw (lt-ltb 0 (sizeOf k) h) (orZero-true k)
@@ -61,6 +63,7 @@ memory-named : (xs : List ℕ) (i : ℕ) → i < 91 → getD (endpointsOf (group
 unfolding endpointsOf groupAt namedBy pinOf
 memory-named xs i h = List·getD-map pinOf (take 91 xs) i 0 ∙ ap pinOf (getD-take 91 xs i 0 h)
 
+-- the i-th endpoint pin is named by the i-th number behind the kind
 pub endpoints-at : (xs : List ℕ) (i : ℕ) → i < sizeOf (getD xs 0 0) → getD (endpointsOf (groupAt xs)) i 0 ≡ namedBy (getD xs 0 0) (getD xs (suc i) 0)
 unfolding sizeOf
 endpoints-at [] i h = absurd (omega arith)
@@ -107,10 +110,12 @@ module _ (xs : List ℕ) (at : ℕ) where
       let e : suc (sizeOf (getD xs at 0)) ≡ 1 + sizeOf (getD xs at 0) = omega arith in
       front-read (drop at xs) t ∙ rw (kind-at, e, drop-drop (1 + sizeOf (getD xs at 0)) at xs)
 
+  -- past the end there is no record
   pub read-end : length xs ≤ at → read (drop at xs) ≡ groups []
   unfolding read readFrom
   read-end h = rw (drop-of-length-le xs h)
 
+  -- where no whole record stands the list can't be read
   pub read-cut : at < length xs → wholeAt (drop at xs) ≡ false → read (drop at xs) ≡ unreadable
   read-cut h t = rw (drop-cons xs at 0 h) (front-cut (getD xs at 0) (drop (suc at) xs) (rw (drop-cons xs at 0 h) at t))
 
@@ -119,15 +124,18 @@ module _ (xs : List ℕ) (at : ℕ) where
   unfolding sizeAt wholeAt sizeOf orZero
   size-past h = rw (drop-of-length-le xs h)
 
+  -- the size that the code finds, where so many numbers stand behind the kind
   pub size-there : (s : ℕ) → s ≡ sizeOf (getD xs at 0) → s < length xs - at → s ≡ sizeAt xs at
   unfolding sizeAt
   size-there zero e h = rw (whole-test, ← e, orZero-false)
   size-there (suc s) e h = rw (whole-test, ← e, lt-ltb 0 (suc s) (omega arith), lt-ltb (suc s) (length xs - at) h, orZero-true)
 
+  -- size 0 where the record is cut
   pub size-cut : (s : ℕ) → s ≡ sizeOf (getD xs at 0) → length xs - at ≤ s → 0 ≡ sizeAt xs at
   unfolding sizeAt
   size-cut s e h = rw (whole-test, ← e, le-ltb s (length xs - at) h, and-none (ltb 0 s), orZero-false)
 
+  -- a size of 0 means that no whole record stands there
   pub size-none : sizeAt xs at ≡ 0 → wholeAt (drop at xs) ≡ false
   unfolding sizeAt
   size-none e = split (wholeAt (drop at xs))
@@ -141,6 +149,7 @@ module _ (xs : List ℕ) (at : ℕ) where
     pub some : 0 < sizeAt xs at
     pub inside : at + 1 + sizeAt xs at ≤ length xs
 
+  -- a whole record has its kind's size, above 0, and ends within the list
   pub standing : wholeAt (drop at xs) ≡ true → Stands
   unfolding sizeAt
   standing t =
@@ -148,6 +157,7 @@ module _ (xs : List ℕ) (at : ℕ) where
       let s : sizeAt xs at ≡ sizeOf (getD xs at 0) = rw (t, orZero-true (sizeOf (getD xs at 0))) in
       record { is = t; size = s; some = omega (arith, s, rw kind-at at (w .some)); inside = omega (arith, s, length-drop at xs, rw kind-at at (w .inside)) }
 
+  -- a size above 0 is that of a whole record
   pub stands : 0 < sizeAt xs at → Stands
   unfolding sizeAt
   stands h = split (wholeAt (drop at xs)) standing (λ t. absurd (omega (arith, rw (t, orZero-false (sizeOf (getD xs at 0))) at h)))
@@ -157,10 +167,12 @@ module _ (xs : List ℕ) (at : ℕ) where
   unfolding sizeAt
   size-endpoints t = rw t (orZero-true (sizeOf (getD xs at 0)) ∙ sym (endpoints-length (drop at xs) t ∙ ap sizeOf kind-at))
 
+  -- where a whole record stands its i-th pin is read
   pub endpoint-is : wholeAt (drop at xs) ≡ true → (i : ℕ) → endpointAt xs at i ≡ getD (endpointsOf (groupAt (drop at xs))) i 0
   unfolding endpointAt
   endpoint-is t i = rw t (orZero-true (getD (endpointsOf (groupAt (drop at xs))) i 0))
 
+  -- past the record's size there is no pin
   pub endpoint-none : (i : ℕ) → sizeAt xs at ≤ i → 0 ≡ endpointAt xs at i
   unfolding endpointAt sizeAt
   endpoint-none i h = split (wholeAt (drop at xs))
@@ -170,6 +182,7 @@ module _ (xs : List ℕ) (at : ℕ) where
       rw (t, orZero-true, List·getD-eq-default (endpointsOf (groupAt (drop at xs))) 0 {n = i} (omega (arith, l, ap sizeOf kind-at))))
       (λ t. rw (t, orZero-false))
 
+  -- the pin that the code reads from the i-th number is the i-th endpoint
   pub endpoint-there : (i : ℕ) {k q : ℕ} → i < sizeAt xs at → k ≡ known (getD xs at 0) → q ≡ namedBy k (getD xs (at + 1 + i) 0) → q ≡ endpointAt xs at i
   unfolding endpointAt
   endpoint-there i h ek eq =
@@ -184,6 +197,7 @@ pub every-step : (f : ℕ → Bool) (xs : List ℕ) (i : ℕ) → i < length xs 
 unfolding every
 every-step f xs i h = rw (drop-cons xs i 0 h, add-one i) (split (f (getD xs i 0)) (λ t. rw (t, every)) (λ t. rw (t, every)))
 
+-- past the last entry nothing is left to test
 pub every-end : (f : ℕ → Bool) (xs : List ℕ) (i : ℕ) → length xs ≤ i → every f (drop i xs) ≡ true
 unfolding every
 every-end f xs i h = rw (drop-of-length-le xs h)

@@ -28,6 +28,7 @@ pub record Rowed (K s h n : ℕ) : Type 0 where
   pub inside : s * stageSize K ≤ n
   pub upto : h ≤ K
 
+-- what the test of a row establishes: height, stage from 1, inside the plan, level
 pub rowed : (K s h n : ℕ) → hasRow K s h n ≡ true → Rowed K s h n
 unfolding hasRow hasLevel
 rowed K s h n e =
@@ -42,6 +43,7 @@ rowed K s h n e =
       upto = leb-true h K (c .1);
     }
 
+-- for a right height, stage and level only the plan's size is left to test
 pub row-tested : (K s h n : ℕ) → 1 ≤ s → isHeight K ≡ true → h ≤ K → hasRow K s h n ≡ leb (s * stageSize K) n
 unfolding hasRow
 row-tested K s h n a e b = split (leb (s * stageSize K) n) (λ t. simp (e, le-leb 1 s a, t, le-leb h K b)) (λ t. simp (e, le-leb 1 s a, t))
@@ -56,6 +58,7 @@ row-roomed K s h n r a e d =
     rw (row-tested K s h n a (l .height) (l .upto), q)
     (same-truth (leb s (n / stageSize K)) (leb (s * stageSize K) n) (λ t. le-leb _ _ (i .0 (leb-true _ _ t))) (λ t. le-leb _ _ (i .1 (leb-true _ _ t))))
 
+-- stage 0 or a bad level has no row
 pub row-none : (K s h n : ℕ) → (s ≡ 0) ⊎ (hasLevel K h ≡ false) → false ≡ hasRow K s h n
 row-none K s h n d = split (hasRow K s h n)
     (λ t. let r = rowed K s h n t in elim d [ inl e ↦ absurd (omega (arith, r .from)) | inr e ↦ true-false (r .level) e ])
@@ -80,6 +83,7 @@ pub record Stands (K s h n cells size : ℕ) : Type 0 where
   pub inside : (s - 1) * size + cells + cells ≤ n
 
 module _ (K s h n cells size : ℕ) (e : hasRow K s h n ≡ true) (ec : cells ≡ orZero (hasLevel K h) (rowAt K h)) (es : size ≡ orZero (isHeight K) (stageSize K)) where
+  -- a row that passes the test stands at its place, inside the plan
   pub stands : Stands K s h n cells size
   unfolding rowAt
   stands =
@@ -88,10 +92,12 @@ module _ (K s h n cells size : ℕ) (e : hasRow K s h n ≡ true) (ec : cells �
       let b : size ≡ 2 ^ (K + 1) = rw (r .height, orZero-true (2 ^ (K + 1))) at es in
       record { cells-are = a; size-is = b; from = r .from; inside = rw (a, b) (fits s (2 ^ (K + 1)) (2 ^ (K - h)) n (r .from) (r .inside) (twice K h)) }
 
+  -- where the row stands, as the code computes it
   pub span-there : _≡_ {A = Span} (record { start = (s - 1) * size + cells; end = (s - 1) * size + cells + cells }) (spanOf K s h n)
   unfolding spanOf rowFrom
   span-there = let r = stands in rw (e, spanOf, r .cells-are, r .size-is)
 
+-- where there is no such row the part is empty
 pub span-none : (K s h n : ℕ) → hasRow K s h n ≡ false → _≡_ {A = Span} (record { start = 0; end = 0 }) (spanOf K s h n)
 unfolding spanOf
 span-none K s h n e = rw (e, spanOf)

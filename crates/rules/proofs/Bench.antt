@@ -161,6 +161,7 @@ back = let X = setting everyRun 6 (graphOf first) [] (7 ∷ []) in let pl = repl
 abbrev quick : Bool
 quick = let X = setting everyRun 6 (graphOf chain) [] (15 ∷ 12 ∷ []) in sameList (leanPlan X) (filledPlan X) && not (sameList (leanPlan X) (blank X))
 
+-- every row of the table comes out as it says, a pin is taken back whole, the lean loop gives the plan
 pub examples : T (right table && back && quick)
 unfolding everything
 examples = tt

@@ -1,3 +1,4 @@
 pub mod Lengths
+pub mod Words
 pub mod Bounds
 pub mod Rules

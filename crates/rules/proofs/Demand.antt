@@ -54,6 +54,7 @@ operand-in g ok (gate a b) p q e i =
 followed-in : (g : List Node) → Valid g → (p x : ℕ) → In x (below g [] p) → x < length g
 followed-in g ok p x i = operand-in g ok (getD g p leaf) p x refl (below-in g [] p x i .1)
 
+-- in a valid graph operands are pins of it, and have fewer pins under them than their gate
 pub graph : (g : List Node) → Valid g → Graph g (rank g)
 graph g ok = record {
   falls = rank-falls g (followed-in g ok) (loopless-no g (followed-in g ok) (ok .free));
@@ -76,6 +77,7 @@ lower-operand g lower (gate a b) p q e i =
       | inr c ↦ elim (in-cons q (pinOf b) [] c) [ inl d ↦ (rw d (h .1), n) | inr d ↦ in-nil q d ]
     ]
 
+-- a graph is valid where every gate's operands are pins below its own
 pub lower-valid : (g : List Node) → ((p a b : ℕ) → getD g p leaf ≡ gate a b → (pinOf a < p) × (pinOf b < p)) → Valid g
 unfolding operands
 lower-valid g lower =
@@ -127,6 +129,7 @@ module _ (K : ℕ) (g : List Node) (given bits : List ℕ) where
   abbrev pub LoadsRight : (ℕ → Type 0) → List ℕ → Type 0
   LoadsRight held pl = (q : ℕ) → 2 ^ K ≤ q → filled (getD pl q empty) ≡ true → held (getD pl q empty)
 
+  -- a stage whose cells name pins of the graph, fold to their graph values and load what they may
   pub record StageRight (load : ℕ → Bool) (held : ℕ → Type 0) (pl : List ℕ) : Type 0 where
     pub size : length pl ≡ 2 ^ (K + 1)
     pub zeroth : filled (getD pl 0 empty) ≡ false
@@ -134,17 +137,20 @@ module _ (K : ℕ) (g : List Node) (given bits : List ℕ) where
     pub folds : FoldsRight load pl
     pub loads : LoadsRight held pl
 
+  -- the same of every stage in turn; a later one loads what the stage before it holds above level 0
   abbrev pub Right : (ℕ → Bool) → (ℕ → Type 0) → List Stage → Type 0
   Right load held [] = Unit {0}
   Right load held (s ∷ ss) = StageRight load held (s .plan) × Right (loadFrom K g (s .plan) load) (λ n. In n (tree K (s .plan))) ss
 
 module _ (rule : WordRule) (K : ℕ) (g : List Node) (ok : Valid g) (tall : 6 ≤ K) (small : length g ≤ empty) (given bits : List ℕ) where
+  -- a pin's rank: how many pins are under it
   abbrev pub r : ℕ → ℕ
   r p = rank g p
 
   low : 1 ≤ K
   low = omega arith
 
+  -- the graph's operands are of a lower rank
   pub G : Graph g r
   G = graph g ok
 
@@ -196,6 +202,7 @@ module _ (rule : WordRule) (K : ℕ) (g : List Node) (ok : Valid g) (tall : 6 �
 
   -- the build
   module _ (groups : List Group) (named : (q : ℕ) → Ends q groups → q < length g) where
+    -- the pins that wait before the first stage
     abbrev pub waiting : List ℕ
     waiting = waitingOf groups []
 
@@ -230,9 +237,11 @@ module _ (rule : WordRule) (K : ℕ) (g : List Node) (ok : Valid g) (tall : 6 �
     unfolding build
     whole-stages rooms ss e = split (reservable K groups) (λ c. rw (c, build) at e) (λ c. absurd (let d : refusal 6 0 ≡ whole ss = rw (c, build) at e in let z : _≡_ {A = ℕ} 0 1 = cc in omega arith))
 
+    -- a whole plan has no more stages than rooms, and no more words than the reservation leaves
     pub whole-sizes : (rooms : ℕ) (ss : List Stage) → build rule K g given groups rooms ≡ whole ss → Sizes rule K g r G tall small rooms (wordLimit K - reserved groups) ss
     whole-sizes rooms ss e = sizes rule K g r G tall small rooms 1 given waiting ready (wordLimit K - reserved groups) ss (whole-stages rooms ss e)
 
+    -- each stage of a whole plan has a number a position
     pub whole-sized : (rooms : ℕ) (ss : List Stage) → build rule K g given groups rooms ≡ whole ss → Sized (2 ^ (K + 1)) ss
     whole-sized rooms ss e = all-sized rule K g r G tall small rooms 1 given waiting ready (wordLimit K - reserved groups) ss (whole-stages rooms ss e)
 

@@ -16,3 +16,4 @@ pub mod Build
 pub mod Reservation
 pub mod Merge
 pub mod Job
+pub mod Records

@@ -139,6 +139,7 @@ module _ (g : List Node) where
       alone : (p : ℕ) → Once (p ∷ under g p)
       alone p = one (split (mem p (under g p)) (λ e. absurd (no p (under-from p p e))) (λ e. e)) (under-once p)
 
+      -- without loops an operand has fewer pins under it than its gate
       pub rank-falls : Ranked g [] (rank g)
       unfolding rank
       rank-falls p x e = omega (
@@ -149,6 +150,7 @@ module _ (g : List Node) where
         ]),
       )
 
+      -- and a pin of the graph has fewer than N + 1
       pub rank-few : (p : ℕ) → p < length g → rank g p < length g
       unfolding rank
       rank-few p h = omega (arith, once-few (length g) (alone p) (λ q i. elim (in-cons q p (under g p) i) [ inl d ↦ rw d h | inr d ↦ from-inside p (under-from p q d) ]))
@@ -168,6 +170,7 @@ module _ (g : List Node) where
   past n p _ e (missed h) = missed (λ q i j. sooner p q e i (λ l. h q l (omega arith)))
   past n p _ e (met t i j h) = met t (omega arith) (omega arith) (λ q l k. sooner p q e l (λ m. h q m k))
 
+  -- the search gives the first pin on a loop, or nothing where there is none
   pub sought : (n p : ℕ) → Sought n p (loopFrom n g p)
   unfolding loopFrom
   sought zero p = missed (λ q i j. absurd (omega arith))
@@ -186,6 +189,7 @@ module _ (g : List Node) where
     answered _ (met {k = k} t i j h) = least (loop-there g k t) (omega arith)
         (λ q l. split (ltb q k) (λ c. true-false (loop-found g inside q l) (h q (omega arith) (ltb-true q k c))) (λ c. ltb-false q k c))
 
+    -- the pin shown is the smallest on any loop, and none is shown where there is no loop
     pub loop-answered : Answered (loopPin g)
     unfolding loopPin
     loop-answered = answered (loopFrom (length g) g 0) (sought (length g) 0)
@@ -205,6 +209,7 @@ module _ (g : List Node) where
     unfolding loopless
     loopless-no e = loopless-none (loopPin g) loop-answered e
 
+    -- and without loops it is found to be so
     pub no-loopless : ((p : ℕ) → Loop g p → ⊥) → loopless g ≡ true
     unfolding loopless
     no-loopless free = none-loopless (loopPin g) loop-answered free

@@ -1,6 +1,7 @@
 -- Why any two outcomes that a promise allows are the same: a promise is an equation with a definition. Assumes nothing.
 use mathlib.Core.Path.{_≡_, sym, _∙_}
 
+-- two outcomes that equal one definition are equal
 pub one-outcome : {A : Type 0} {x y z : A} → x ≡ z → y ≡ z → x ≡ y
 one-outcome e f = e ∙ sym f
 

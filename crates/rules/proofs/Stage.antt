@@ -2,10 +2,12 @@ pub mod Lengths
 pub mod Puts
 pub mod Staged
 pub mod Last
+pub mod Runs
 pub mod Flat
 pub mod Fuel
 pub mod Over
 pub mod Depth
+pub mod Same
 pub mod Under
 pub mod Branches
 pub mod Refusals

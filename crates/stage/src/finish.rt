@@ -1,5 +1,7 @@
-// Rules 8 to 11 in order after the loop of rules 2 to 7, with tests 7 and 8. m = N + 1; level 1 of the height has `half` cells; o pins are
-// listed, n wait, q are needed; the words go behind `at`, where there is `room` for so many.
+// Rules 8 to 11 in order after the loop of rules 2 to 7, with tests 7 and 8. m = N + 1; o pins are listed, n wait, q are needed; the words go behind `at`, where there is `room` for so many.
+use cells::Height;
+use refusals::NO_CELL;
+use refusals::OVER_WORDS;
 use stage_ending::close::close_stage;
 use stage_ending::last::Kept;
 use stage_ending::last::last_words;
@@ -12,6 +14,7 @@ use stage_tally::is_over;
 use stage_tally::left;
 use stage_tally::spend;
 ghost use Rattle.stage_tally.specs.Spending.{room, Counted};
+ghost use Rattle.rules.specs.Cells.{rowAt};
 ghost use Rattle.rules.specs.Ending as rules;
 ghost use Rattle.rules.specs.Inside.Some.{Some, Every};
 ghost use Rattle.stage_walk.specs.Stands.{SomePlan, EveryPlan};
@@ -30,23 +33,22 @@ fn write_last(
     work: &mut [u32],
     words: &mut [u32],
     m: usize,
-    height: usize,
-    half: usize,
+    height: Height,
     o: usize,
     n: usize,
     at: usize,
     room: usize,
     s: Spent,
 ) -> Kept
-    requires { ⌜ SomePlan (λ C pl. LastingAt C pl m height half o n at room s (now stage) (now work) (now words)) ⌝ }
-    ensures { λ r. ⌜ EveryPlan (λ C pl. LastingAt C pl m height half o n at room s (now (stage .entry)) (now (work .entry)) (now (words .entry))) (λ C pl. Lasting C pl m at room s (now (stage .entry)) (now (work .entry)) (now (words .entry)) r (now (work .exit)) (now (words .exit))) ⌝ }
+    requires { ⌜ SomePlan (λ C pl. LastingAt C pl m (height .0) (rowAt (height .0) 1) o n at room s (now stage) (now work) (now words)) ⌝ }
+    ensures { λ r. ⌜ EveryPlan (λ C pl. LastingAt C pl m (height .0) (rowAt (height .0) 1) o n at room s (now (stage .entry)) (now (work .entry)) (now (words .entry))) (λ C pl. Lasting C pl m at room s (now (stage .entry)) (now (work .entry)) (now (words .entry)) r (now (work .exit)) (now (words .exit))) ⌝ }
 {
     let kept = Kept {
         real: s.real,
         words: s.words,
     };
     if s.last {
-        return last_words(stage, work, words, m, height, half, n, at, room, kept);
+        return last_words(stage, work, words, m, height, n, at, room, kept);
     }
     kept
 }
@@ -57,18 +59,17 @@ fn finish_last(
     work: &mut [u32],
     words: &mut [u32],
     m: usize,
-    height: usize,
-    half: usize,
+    height: Height,
     o: usize,
     n: usize,
     at: usize,
     room: usize,
     s: Spent,
 ) -> Outcome
-    requires { ⌜ SomePlan (λ C pl. LastingAt C pl m height half o n at room s (now stage) (now work) (now words)) ⌝ }
-    ensures { λ r. ⌜ EveryPlan (λ C pl. LastingAt C pl m height half o n at room s (now (stage .entry)) (now (work .entry)) (now (words .entry))) (λ C pl. Ends C pl m at room s (now (stage .entry)) (now (work .entry)) (now (words .entry)) r (now (stage .entry)) (now (work .exit)) (now (words .exit))) ⌝ }
+    requires { ⌜ SomePlan (λ C pl. LastingAt C pl m (height .0) (rowAt (height .0) 1) o n at room s (now stage) (now work) (now words)) ⌝ }
+    ensures { λ r. ⌜ EveryPlan (λ C pl. LastingAt C pl m (height .0) (rowAt (height .0) 1) o n at room s (now (stage .entry)) (now (work .entry)) (now (words .entry))) (λ C pl. Ends C pl m at room s (now (stage .entry)) (now (work .entry)) (now (words .entry)) r (now (stage .entry)) (now (work .exit)) (now (words .exit))) ⌝ }
 {
-    let kept = write_last(stage, work, words, m, height, half, o, n, at, room, s);
+    let kept = write_last(stage, work, words, m, height, o, n, at, room, s);
     let left = close_stage(work, m, o, n, kept.real);
     Outcome {
         number: 0,
@@ -84,8 +85,7 @@ fn finish_rest(
     work: &mut [u32],
     words: &mut [u32],
     m: usize,
-    height: usize,
-    half: usize,
+    height: Height,
     o: usize,
     n: usize,
     q: usize,
@@ -93,14 +93,14 @@ fn finish_rest(
     room: usize,
     s: Spent,
 ) -> Outcome
-    requires { ⌜ SomePlan (λ C pl. RestingAt C pl m height half o n q at room s (now gates) (now stage) (now work) (now words)) ⌝ }
-    ensures { λ r. ⌜ EveryPlan (λ C pl. RestingAt C pl m height half o n q at room s (now (gates .entry)) (now (stage .entry)) (now (work .entry)) (now (words .entry))) (λ C pl. Ends C pl m at room s (now (stage .entry)) (now (work .entry)) (now (words .entry)) r (now (stage .exit)) (now (work .exit)) (now (words .exit))) ⌝ }
+    requires { ⌜ SomePlan (λ C pl. RestingAt C pl m (height .0) (rowAt (height .0) 1) o n q at room s (now gates) (now stage) (now work) (now words)) ⌝ }
+    ensures { λ r. ⌜ EveryPlan (λ C pl. RestingAt C pl m (height .0) (rowAt (height .0) 1) o n q at room s (now (gates .entry)) (now (stage .entry)) (now (work .entry)) (now (words .entry))) (λ C pl. Ends C pl m at room s (now (stage .entry)) (now (work .entry)) (now (words .entry)) r (now (stage .exit)) (now (work .exit)) (now (words .exit))) ⌝ }
 {
-    if fill_rest(gates, stage, work, m, half, q) {
-        return finish_last(stage, work, words, m, height, half, o, n, at, room, s);
+    if fill_rest(gates, stage, work, m, height.level_one_size(), q) {
+        return finish_last(stage, work, words, m, height, o, n, at, room, s);
     }
     Outcome {
-        number: 8,
+        number: NO_CELL,
         words: 0,
         waiting: 0,
     }
@@ -113,52 +113,25 @@ pub fn finish(
     work: &mut [u32],
     words: &mut [u32],
     m: usize,
-    height: usize,
-    half: usize,
+    height: Height,
     o: usize,
     n: usize,
     q: usize,
     rule: WordRule,
     tally: Tally,
 ) -> Outcome
-    requires { ⌜ Counted tally × Some (λ C. FinishAt C m height half o n q rule (tally .spent) (room tally) (now gates) (now stage) (now work) (now words)) ⌝ }
-    ensures { λ r. ⌜ Every (λ C. FinishAt C m height half o n q rule (tally .spent) (room tally) (now (gates .entry)) (now (stage .entry)) (now (work .entry)) (now (words .entry))) (λ C. Finished C m (tally .spent) (room tally) (rules.finish (C .X) (room tally) (now (stage .entry))) (now (stage .entry)) (now (work .entry)) (now (words .entry)) r (now (stage .exit)) (now (work .exit)) (now (words .exit))) ⌝ }
+    requires { ⌜ Counted tally × Some (λ C. FinishAt C m (height .0) (rowAt (height .0) 1) o n q rule (tally .spent) (room tally) (now gates) (now stage) (now work) (now words)) ⌝ }
+    ensures { λ r. ⌜ Every (λ C. FinishAt C m (height .0) (rowAt (height .0) 1) o n q rule (tally .spent) (room tally) (now (gates .entry)) (now (stage .entry)) (now (work .entry)) (now (words .entry))) (λ C. Finished C m (tally .spent) (room tally) (rules.finish (C .X) (room tally) (now (stage .entry))) (now (stage .entry)) (now (work .entry)) (now (words .entry)) r (now (stage .exit)) (now (work .exit)) (now (words .exit))) ⌝ }
 {
     let at = tally.spent;
     let room = left(tally);
-    let s = write_runs(
-        gates,
-        stage,
-        work,
-        words,
-        m,
-        height,
-        half,
-        n,
-        rule,
-        at,
-        room,
-    );
+    let s = write_runs(gates, stage, work, words, m, height, n, rule, at, room);
     if is_over(spend(tally, s.words)) {
         return Outcome {
-            number: 7,
+            number: OVER_WORDS,
             words: 0,
             waiting: 0,
         };
     }
-    finish_rest(
-        gates,
-        stage,
-        work,
-        words,
-        m,
-        height,
-        half,
-        o,
-        n,
-        q,
-        at,
-        room,
-        s,
-    )
+    finish_rest(gates, stage, work, words, m, height, o, n, q, at, room, s)
 }

@@ -84,7 +84,7 @@ pub record UpAt (m K half : ℕ) (pl w : List ℕ) : Type 0 where
   pub pins : Pins m pl
   pub clear : (j : ℕ) → j < 256 → getD w (16 * m + j) 0 ≡ 0
   pub size : length pl ≡ 2 ^ (K + 1)
-  pub low : 1 ≤ K
+  pub low : 6 ≤ K
   pub high : K ≤ 13
   pub row : half ≡ rowAt K 1
 

@@ -9,8 +9,10 @@ use columns::WAITING;
 use columns::enlist;
 use columns::fill_tail;
 use columns::get;
+use columns::pin_at;
 use columns::set_field;
 use columns::swap_out;
+use graph::Pin;
 ghost use Prim.Native.Nat.{_<_};
 ghost use Rattle.columns.specs.Lists.{list};
 ghost use Rattle.columns.specs.Fields as fields;
@@ -18,9 +20,9 @@ ghost use Rattle.stage_ending.specs.Close.{RetireAt, Retired, PinAt, Wip
 ghost use mathlib.Core.List.{[], _∷_};
 
 // The count and the marks of pin p go.
-fn wipe(work: &mut [u32], m: usize, p: usize)
-    requires { ⌜ PinAt m p (now work) ⌝ }
-    ensures { λ _. ⌜ Wiped m (p ∷ []) (now (work .entry)) (now (work .exit)) ⌝ }
+fn wipe(work: &mut [u32], m: usize, p: Pin)
+    requires { ⌜ PinAt m (p .0) (now work) ⌝ }
+    ensures { λ _. ⌜ Wiped m (p .0 ∷ []) (now (work .entry)) (now (work .exit)) ⌝ }
 {
     set_field(work, m, p, CELLS, 0);
     set_field(work, m, p, MARK, 0);
@@ -28,9 +30,9 @@ fn wipe(work: &mut [u32], m: usize, p: usize)
 }
 
 // Pin p is realised if a cell above level 0 holds it, and the stage forgets it.
-fn retire(work: &mut [u32], m: usize, p: usize)
-    requires { ⌜ PinAt m p (now work) ⌝ }
-    ensures { λ _. ⌜ Retired m (p ∷ []) (now (work .entry)) (now (work .exit)) ⌝ }
+fn retire(work: &mut [u32], m: usize, p: Pin)
+    requires { ⌜ PinAt m (p .0) (now work) ⌝ }
+    ensures { λ _. ⌜ Retired m (p .0 ∷ []) (now (work .entry)) (now (work .exit)) ⌝ }
 {
     if get(work, m, p, CELLS) == 0 {
         wipe(work, m, p);
@@ -47,7 +49,7 @@ fn retire_all(work: &mut [u32], m: usize, k: usize)
 {
     let mut i = 0;
     while i < k {
-        let p = get(work, m, i, ORDER);
+        let p = pin_at(work, m, i, ORDER);
         retire(work, m, p);
         i += 1;
     }
@@ -61,7 +63,7 @@ fn leave_all(work: &mut [u32], m: usize, n: usize, r: usize) -> usize
     let mut left = n;
     let mut i = 0;
     while i < r {
-        let p = get(work, m, i, STACK);
+        let p = pin_at(work, m, i, STACK);
         left = swap_out(work, m, left, p);
         i += 1;
     }
@@ -69,9 +71,9 @@ fn leave_all(work: &mut [u32], m: usize, n: usize, r: usize) -> usize
 }
 
 // Pin p, which waits, goes behind the r realised ones if it is not marked in SPARE.
-fn realise(work: &mut [u32], m: usize, r: usize, p: usize) -> usize
-    requires { ⌜ OneAt m r p (now work) ⌝ }
-    ensures { λ e. ⌜ One m r p (now (work .entry)) (now (work .exit)) e ⌝ }
+fn realise(work: &mut [u32], m: usize, r: usize, p: Pin) -> usize
+    requires { ⌜ OneAt m r (p .0) (now work) ⌝ }
+    ensures { λ e. ⌜ One m r (p .0) (now (work .entry)) (now (work .exit)) e ⌝ }
 {
     if get(work, m, p, SPARE) != 0 {
         return r;
@@ -87,7 +89,7 @@ pub fn realise_all(work: &mut [u32], m: usize, n: usize, r: usize) -> usize
     let mut real = r;
     let mut i = 0;
     while i < n {
-        let p = get(work, m, i, WAITING);
+        let p = pin_at(work, m, i, WAITING);
         real = realise(work, m, real, p);
         i += 1;
     }

@@ -1,8 +1,9 @@
-// Rule 10 in the last stage. m = N + 1; level 1 of the height has `half` cells; n pins wait; the words go behind `at`, where there is
-// `room` for so many.
+// Rule 10 in the last stage. m = N + 1; n pins wait; the words go behind `at`, where there is `room` for so many.
 use crate::close::realise_all;
 use crate::words::collect;
 use crate::words::write;
+use cells::Height;
+ghost use Rattle.rules.specs.Cells.{rowAt};
 ghost use Rattle.stage_ending.specs.Last.{LastAt, Lasted};
 
 // The pins realised and the words written so far.
@@ -17,19 +18,18 @@ pub fn last_words(
     work: &mut [u32],
     words: &mut [u32],
     m: usize,
-    height: usize,
-    half: usize,
+    height: Height,
     n: usize,
     at: usize,
     room: usize,
     s: Kept,
 ) -> Kept
-    requires { ⌜ LastAt m height half n at room s (now stage) (now work) (now words) ⌝ }
-    ensures { λ r. ⌜ Lasted m height n at room s (now (stage .entry)) (now (work .entry)) (now (words .entry)) r (now (work .exit)) (now (words .exit)) ⌝ }
+    requires { ⌜ LastAt m (height .0) (rowAt (height .0) 1) n at room s (now stage) (now work) (now words) ⌝ }
+    ensures { λ r. ⌜ Lasted m (height .0) n at room s (now (stage .entry)) (now (work .entry)) (now (words .entry)) r (now (work .exit)) (now (words .exit)) ⌝ }
 {
     let real = s.real;
     let spent = s.words;
-    let k = collect(stage, work, m, height, half);
+    let k = collect(stage, work, m, height);
     if room < spent + k {
         return s;
     }

@@ -2,8 +2,9 @@
 use columns::CELLS;
 use columns::MARK;
 use columns::NEEDED;
-use columns::get;
 use columns::is_in;
+use columns::pin_at;
+use graph::Pin;
 use stage_tree::first_empty;
 use stage_tree::place_bit;
 ghost use Rattle.rules.specs.Inside.Some.{Some, Every};
@@ -18,10 +19,10 @@ fn put_pin(
     m: usize,
     half: usize,
     from: usize,
-    p: usize,
+    p: Pin,
 ) -> usize
-    requires { ⌜ Some (λ C. PinAt C m half from p (now gates) (now stage) (now work)) ⌝ }
-    ensures { λ r. ⌜ Every (λ C. PinAt C m half from p (now (gates .entry)) (now (stage .entry)) (now (work .entry))) (λ C. Pinned C m half p (now (gates .entry)) (now (stage .entry)) (now (work .entry)) r (now (stage .exit)) (now (work .exit))) ⌝ }
+    requires { ⌜ Some (λ C. PinAt C m half from (p .0) (now gates) (now stage) (now work)) ⌝ }
+    ensures { λ r. ⌜ Every (λ C. PinAt C m half from (p .0) (now (gates .entry)) (now (stage .entry)) (now (work .entry))) (λ C. Pinned C m half (p .0) (now (gates .entry)) (now (stage .entry)) (now (work .entry)) r (now (stage .exit)) (now (work .exit))) ⌝ }
 {
     if is_in(work, m, p, MARK) {
         return from;
@@ -52,7 +53,7 @@ fn put_rest(
     let mut from = half;
     let mut i = 0;
     while i < n {
-        let p = get(work, m, i, NEEDED);
+        let p = pin_at(work, m, i, NEEDED);
         from = put_pin(gates, stage, work, m, half, from, p);
         if 2 * half < from {
             return false;

@@ -1,29 +1,32 @@
 // Rule 10: the distinct words of the cells that hold an unrealised tree endpoint, levels 1 upward, cells rising. While they are
 // collected, number j of the tail is one more than word j's place among them, 0 for none.
+use cells::Height;
 use columns::MARK;
 use columns::PLACE;
 use columns::SPARE;
 use columns::is_in;
 use columns::tail_get;
 use columns::tail_set;
-use columns::wide;
+use graph::EMPTY;
+use graph::Pin;
 ghost use mathlib.Core.Path.{_≡_};
+ghost use Rattle.rules.specs.Cells.{rowAt};
 ghost use Prim.Native.Nat.{_+_, _*_, _<_, _≤_};
 ghost use Rattle.rules.specs.Inside.Some.{Some, Every};
 ghost use Rattle.stage_ending.specs.Words.{isEnd, WordAt, Worded, CellAt, Celled, RowAt, Rowed, UpAt, Upped, OneAt, One, WriteAt, Written};
 
-// Does pin c wait, neither realised nor needed?
-fn is_end(work: &[u32], m: usize, c: usize) -> bool
-    requires { do ⌜ (c < m) × (16 * m ≤ (← ⟦work.len()⟧)) ⌝ }
-    ensures { λ r. ⌜ r ≡ isEnd m (now (work .entry)) c ⌝ }
+// Does pin p wait, neither realised nor needed?
+fn is_end(work: &[u32], m: usize, p: Pin) -> bool
+    requires { do ⌜ (p .0 < m) × (16 * m ≤ (← ⟦work.len()⟧)) ⌝ }
+    ensures { λ r. ⌜ r ≡ isEnd m (now (work .entry)) (p .0) ⌝ }
 {
-    if is_in(work, m, c, MARK) {
+    if is_in(work, m, p, MARK) {
         return false;
     }
-    if is_in(work, m, c, SPARE) {
+    if is_in(work, m, p, SPARE) {
         return false;
     }
-    is_in(work, m, c, PLACE)
+    is_in(work, m, p, PLACE)
 }
 
 // Word j behind the n collected ones, unless it is there. Returns how many there are.
@@ -38,17 +41,17 @@ fn word(work: &mut [u32], m: usize, n: usize, j: usize) -> usize
     n + 1
 }
 
-// The word of the cell at position p, if an endpoint stands there.
-fn cell(stage: &[u32], work: &mut [u32], m: usize, n: usize, p: usize) -> usize
-    requires { ⌜ Some (λ ws. CellAt m n p ws (now stage) (now work)) ⌝ }
-    ensures { λ r. ⌜ Every (λ ws. CellAt m n p ws (now (stage .entry)) (now (work .entry))) (λ ws. Celled m p ws (now (stage .entry)) (now (work .entry)) (now (work .exit)) r) ⌝ }
+// The word of the cell at position c, if an endpoint stands there.
+fn cell(stage: &[u32], work: &mut [u32], m: usize, n: usize, c: usize) -> usize
+    requires { ⌜ Some (λ ws. CellAt m n c ws (now stage) (now work)) ⌝ }
+    ensures { λ r. ⌜ Every (λ ws. CellAt m n c ws (now (stage .entry)) (now (work .entry))) (λ ws. Celled m c ws (now (stage .entry)) (now (work .entry)) (now (work .exit)) r) ⌝ }
 {
-    let c = wide(stage[p]);
-    if c == 4294967295 {
+    let p = Pin(stage[c]);
+    if p.0 == EMPTY {
         return n;
     }
-    if is_end(work, m, c) {
-        return word(work, m, n, p / 32);
+    if is_end(work, m, p) {
+        return word(work, m, n, c / 32);
     }
     n
 }
@@ -59,23 +62,24 @@ fn row(stage: &[u32], work: &mut [u32], m: usize, n: usize, a: usize, e: usize) 
     ensures { λ r. ⌜ Every (λ ws. RowAt m n a e ws (now (stage .entry)) (now (work .entry))) (λ ws. Rowed m a e ws (now (stage .entry)) (now (work .entry)) (now (work .exit)) r) ⌝ }
 {
     let mut k = n;
-    let mut p = a;
-    while p < e {
-        k = cell(stage, work, m, k, p);
-        p += 1;
+    let mut c = a;
+    while c < e {
+        k = cell(stage, work, m, k, c);
+        c += 1;
     }
     k
 }
 
-// All levels from 1 upward; `half` is the size of level 1, and each row above it has half the cells. Returns how many words there are.
-pub fn collect(stage: &[u32], work: &mut [u32], m: usize, height: usize, half: usize) -> usize
-    requires { ⌜ UpAt m height half (now stage) (now work) ⌝ }
-    ensures { λ r. ⌜ Upped m height (now (stage .entry)) (now (work .entry)) (now (work .exit)) r ⌝ }
+// All levels from 1 upward; each row has half the cells of the one below. Returns how many words there are.
+pub fn collect(stage: &[u32], work: &mut [u32], m: usize, height: Height) -> usize
+    requires { ⌜ UpAt m (height .0) (rowAt (height .0) 1) (now stage) (now work) ⌝ }
+    ensures { λ r. ⌜ Upped m (height .0) (now (stage .entry)) (now (work .entry)) (now (work .exit)) r ⌝ }
 {
+    let top = height.0;
     let mut n = 0;
-    let mut w = half;
-    let mut h = 1;
-    while h <= height {
+    let mut w = height.level_one_size();
+    let mut h: u32 = 1;
+    while h <= top {
         n = row(stage, work, m, n, w, 2 * w);
         w = w / 2;
         h += 1;

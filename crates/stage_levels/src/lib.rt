@@ -4,7 +4,10 @@ use columns::ORDER;
 use columns::REVERSE;
 use columns::WAITING;
 use columns::get;
-use columns::push;
+use columns::pin_at;
+use columns::set_field;
+use graph::Pin;
+use stage_walk::Next;
 use stage_walk::followed;
 ghost use mathlib.Core.Path.{_≡_};
 ghost use Prim.Native.Nat.{_+_, _*_, _<_, max};
@@ -28,18 +31,26 @@ fn higher(a: usize, b: usize) -> usize
 }
 
 // Pin p's level, by those of the pins followed from it.
-fn level_of(gates: &[u32], work: &[u32], m: usize, p: usize) -> usize
-    requires { ⌜ Some (λ C. LevelAt C m p (now gates) (now work)) ⌝ }
-    ensures { λ r. ⌜ Every (λ C. LevelAt C m p (now (gates .entry)) (now (work .entry))) (λ C. r ≡ over (λ q. getD (now (work .entry)) (LEVEL * m + q) 0) (below (C .X .g) (C .X .done) p)) ⌝ }
+fn level_of(gates: &[u32], work: &[u32], m: usize, p: Pin) -> usize
+    requires { ⌜ Some (λ C. LevelAt C m (p .0) (now gates) (now work)) ⌝ }
+    ensures { λ r. ⌜ Every (λ C. LevelAt C m (p .0) (now (gates .entry)) (now (work .entry))) (λ C. r ≡ over (λ q. getD (now (work .entry)) (LEVEL * m + q) 0) (below (C .X .g) (C .X .done) (p .0))) ⌝ }
 {
-    let a = followed(gates, work, m, p, 0);
-    if a == m {
-        return 0;
+    let first = followed(gates, work, m, p, 0);
+    match first {
+        Next::Nothing => 0,
+        Next::To(a) => {
+            let second = followed(gates, work, m, p, 1);
+            match second {
+                // Two pins are followed, or none.
+                Next::Nothing => 0,
+                Next::To(b) => {
+                    let x = get(work, m, a, LEVEL);
+                    let y = get(work, m, b, LEVEL);
+                    higher(x, y) + 1
+                }
+            }
+        }
     }
-    let b = followed(gates, work, m, p, 1);
-    let x = get(work, m, a, LEVEL);
-    let y = get(work, m, b, LEVEL);
-    higher(x, y) + 1
 }
 
 // The levels of the k pins in the order, with no level before. Returns the greatest.
@@ -50,41 +61,49 @@ pub fn levels(gates: &[u32], work: &mut [u32], m: usize, k: usize) -> usize
     let mut top = 0;
     let mut i = 0;
     while i < k {
-        let p = get(work, m, i, ORDER);
+        let p = pin_at(work, m, i, ORDER);
         let v = level_of(gates, work, m, p);
-        push(work, m, p, LEVEL, v);
+        set_field(work, m, p, LEVEL, v);
         top = higher(v, top);
         i += 1;
     }
     top
 }
 
-// Pin q's reverse level becomes r, if it is lower.
-fn raise(work: &mut [u32], m: usize, q: usize, r: usize)
-    requires { ⌜ REVERSE * m + q < length (now work) ⌝ }
+// Pin p's reverse level becomes r, if it is lower.
+fn raise(work: &mut [u32], m: usize, p: Pin, r: usize)
+    requires { ⌜ REVERSE * m + p .0 < length (now work) ⌝ }
     requires { ⌜ r < 4294967296 ⌝ }
-    ensures { λ _. ⌜ now (work .exit) ≡ set (now (work .entry)) (REVERSE * m + q) (max r (getD (now (work .entry)) (REVERSE * m + q) 0)) ⌝ }
+    ensures { λ _. ⌜ now (work .exit) ≡ set (now (work .entry)) (REVERSE * m + p .0) (max r (getD (now (work .entry)) (REVERSE * m + p .0) 0)) ⌝ }
 {
-    let old = get(work, m, q, REVERSE);
-    push(work, m, q, REVERSE, higher(r, old));
+    let old = get(work, m, p, REVERSE);
+    set_field(work, m, p, REVERSE, higher(r, old));
 }
 
 // Pin p hands its reverse level down.
-fn lift(gates: &[u32], work: &mut [u32], m: usize, p: usize)
-    requires { ⌜ Some (λ C. LiftAt C m p (now gates) (now work)) ⌝ }
-    ensures { λ _. ⌜ Every (λ C. LiftAt C m p (now (gates .entry)) (now (work .entry))) (λ C. Becomes REVERSE m (now (work .entry)) (now (work .exit)) (lift (C .X .g) (C .X .done) p (col REVERSE m (now (work .entry))))) ⌝ }
+fn lift(gates: &[u32], work: &mut [u32], m: usize, p: Pin)
+    requires { ⌜ Some (λ C. LiftAt C m (p .0) (now gates) (now work)) ⌝ }
+    ensures { λ _. ⌜ Every (λ C. LiftAt C m (p .0) (now (gates .entry)) (now (work .entry))) (λ C. Becomes REVERSE m (now (work .entry)) (now (work .exit)) (lift (C .X .g) (C .X .done) (p .0) (col REVERSE m (now (work .entry))))) ⌝ }
 {
     let r = get(work, m, p, REVERSE);
     if r == 0 {
         return;
     }
-    let a = followed(gates, work, m, p, 0);
-    if a == m {
-        return;
+    let first = followed(gates, work, m, p, 0);
+    match first {
+        Next::Nothing => {}
+        Next::To(a) => {
+            let second = followed(gates, work, m, p, 1);
+            match second {
+                // Two pins are followed, or none.
+                Next::Nothing => {}
+                Next::To(b) => {
+                    raise(work, m, a, r + 1);
+                    raise(work, m, b, r + 1);
+                }
+            }
+        }
     }
-    let b = followed(gates, work, m, p, 1);
-    raise(work, m, a, r + 1);
-    raise(work, m, b, r + 1);
 }
 
 // The n waiting pins start.
@@ -94,7 +113,7 @@ fn start(work: &mut [u32], m: usize, n: usize)
 {
     let mut i = 0;
     while i < n {
-        let p = get(work, m, i, WAITING);
+        let p = pin_at(work, m, i, WAITING);
         raise(work, m, p, 1);
         i += 1;
     }
@@ -108,7 +127,7 @@ fn lower(gates: &[u32], work: &mut [u32], m: usize, k: usize)
     let mut i = k;
     while i > 0 {
         i -= 1;
-        let p = get(work, m, i, ORDER);
+        let p = pin_at(work, m, i, ORDER);
         lift(gates, work, m, p);
     }
 }

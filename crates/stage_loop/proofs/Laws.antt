@@ -1,2 +1,4 @@
-pub mod Loop
+pub mod Tries
+pub mod Turns
+pub mod Levels
 pub mod Filling

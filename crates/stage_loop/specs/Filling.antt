@@ -3,7 +3,6 @@ use mathlib.Core.Path.{_≡_}
 use mathlib.Core.List.{List, map}
 use Prim.Native.Nat.{ℕ, _+_, _*_, _≤_, min}
 use lib.ListN.{length, getD}
-use Rattle.rules.specs.Cells.{rowAt}
 use Rattle.rules.specs.Traversal.{levelAt, greatest}
 use Rattle.rules.specs.Placing.{neededOf, filledPlan}
 use Rattle.rules.specs.Inside.Lean.{blank, leanPlan}
@@ -20,12 +19,11 @@ pub record RowAt (K h : ℕ) : Type 0 where
   pub level : h ≤ K
 
 -- the empty plan, and the level to start at
-pub record GrowAt (C : Context) (m n k h K half : ℕ) (gates pl w : List ℕ) : Type 0 where
+pub record GrowAt (C : Context) (m n k h K : ℕ) (gates pl w : List ℕ) : Type 0 where
   pub plan : Plan C m n k h gates pl w
   pub first : pl ≡ blank (C .X)
   pub level : h ≡ min (greatest (map (levelAt (C .X)) (C .X .order)) 0) (C .X .K)
   pub height : K ≡ C .X .K
-  pub row : half ≡ rowAt K 1
 
 pub record Grown (C : Context) (m : ℕ) (w pl′ w′ : List ℕ) : Type 0 where
   pub is : pl′ ≡ leanPlan (C .X)
@@ -33,7 +31,7 @@ pub record Grown (C : Context) (m : ℕ) (w pl′ w′ : List ℕ) : Type 0 wher
   pub tally : Tally C m pl′ w′
 
 -- nothing is placed or counted yet; top is the greatest level
-pub record FillAt (C : Context) (m n k top K half : ℕ) (gates pl w : List ℕ) : Type 0 where
+pub record FillAt (C : Context) (m n k top K : ℕ) (gates pl w : List ℕ) : Type 0 where
   pub set : Set C m n k gates w
   pub clear : Clear MARK m w
   pub first : pl ≡ blank (C .X)
@@ -42,7 +40,6 @@ pub record FillAt (C : Context) (m n k top K half : ℕ) (gates pl w : List ℕ)
   pub pins : getD w (16 * m + PINS) 0 ≡ 0
   pub most : top ≡ greatest (map (levelAt (C .X)) (C .X .order)) 0
   pub height : K ≡ C .X .K
-  pub row : half ≡ rowAt K 1
 
 -- the contract: the plan of rules 2 to 7 with its counts, and its q needed pins
 pub record FilledTree (C : Context) (m : ℕ) (gates pl w : List ℕ) (q : ℕ) (pl′ w′ : List ℕ) : Type 0 where

@@ -2,7 +2,7 @@
 use mathlib.Core.Path.{_≡_}
 use mathlib.Core.Logic.{_≢_}
 use mathlib.Core.List.{List, [], _∷_}
-use Prim.Native.Nat.{ℕ, suc, _+_, _-_, _*_, _<_, _≤_}
+use Prim.Native.Nat.{ℕ, suc, _+_, _*_, _<_, _≤_}
 use lib.ListN.{length, getD}
 use Rattle.rules.specs.Lists.{Found, nothing, found}
 use Rattle.rules.specs.Cells.{levelOneSize, rowAt}
@@ -40,11 +40,7 @@ pub record Counted (C : Context) (m : ℕ) (pl w w′ : List ℕ) (c : ℕ) : Ty
   pub kept : Kept m w w′
   pub tally : Tally C m pl w′
 
--- ---- rule 7: 0 for no room, else one more than the bound
-
-unfoldable pub coded : Found → ℕ
-coded nothing = 0
-coded (found c) = suc c
+-- ---- rule 7: a bound that has room, if there is one
 
 pub record SettleAt (C : Context) (m n k half most : ℕ) (gates pl w : List ℕ) : Type 0 where
   pub set : Set C m n k gates w
@@ -53,9 +49,9 @@ pub record SettleAt (C : Context) (m n k half most : ℕ) (gates pl w : List ℕ
   pub cap : half ≡ levelOneSize (C .X .K)
   pub few : most ≤ m
 
-pub record Settled (C : Context) (m most : ℕ) (pl w w′ : List ℕ) (c : ℕ) : Type 0 where
-  pub code : c ≡ coded (recount (C .X) most pl)
-  pub few : c ≤ m + 1
+pub record Settled (C : Context) (m most : ℕ) (pl w w′ : List ℕ) (c : Found) : Type 0 where
+  pub is : c ≡ recount (C .X) most pl
+  pub few : (b : ℕ) → c ≡ found b → b ≤ m
   pub kept : Kept m w w′
   pub tally : Tally C m pl w′
 
@@ -68,11 +64,11 @@ pub record TryAt (C : Context) (m n k h wd half p q most : ℕ) (gates pl w : Li
   pub cap : half ≡ levelOneSize (C .X .K)
   pub few : most ≤ m
 
-pub record Tried (C : Context) (m h p q most : ℕ) (pl w pl′ w′ : List ℕ) (c : ℕ) : Type 0 where
-  pub code : c ≡ coded (recount (C .X) most (placed (C .X) h p q pl))
-  pub few : c ≤ m + 1
-  pub none : c ≡ 0 → pl′ ≡ pl
-  pub some : 0 < c → pl′ ≡ placed (C .X) h p q pl
+pub record Tried (C : Context) (m h p q most : ℕ) (pl w pl′ w′ : List ℕ) (c : Found) : Type 0 where
+  pub is : c ≡ recount (C .X) most (placed (C .X) h p q pl)
+  pub few : (b : ℕ) → c ≡ found b → b ≤ m
+  pub none : c ≡ nothing → pl′ ≡ pl
+  pub some : (b : ℕ) → c ≡ found b → pl′ ≡ placed (C .X) h p q pl
   pub kept : Kept m w w′
   pub tally : Tally C m pl′ w′
 
@@ -106,10 +102,9 @@ pub record Gone (C : Context) (m n k l wd half : ℕ) (gates pl w : List ℕ) (i
   pub kept : Kept m w w′
   pub at : At C m n k l wd half gates pl′ w′ j e b′
 
-pub record Turned (C : Context) (m n k l wd half : ℕ) (gates pl w : List ℕ) (i e b : ℕ) (pl′ w′ : List ℕ) (c : ℕ) : Type 0 where
-  pub stop : c ≡ 0 → Ended C m l pl w i e b pl′ w′ b
-  pub on : 0 < c → Gone C m n k l wd half gates pl w i e b pl′ w′ (i + 1) (c - 1)
-  pub few : c ≤ m + 1
+pub record Turned (C : Context) (m n k l wd half : ℕ) (gates pl w : List ℕ) (i e b : ℕ) (pl′ w′ : List ℕ) (c : Found) : Type 0 where
+  pub stop : c ≡ nothing → Ended C m l pl w i e b pl′ w′ b
+  pub on : (d : ℕ) → c ≡ found d → Gone C m n k l wd half gates pl w i e b pl′ w′ (i + 1) d
 
 -- ---- all levels from l + 1 down
 

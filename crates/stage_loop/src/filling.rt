@@ -1,6 +1,7 @@
 // Rules 2 to 7 on an empty stage: where the loop starts, and the needed pins of the plan that it leaves.
 use crate::lean::lean;
 use cells::Height;
+use cells::wide;
 use stage_needed::needed;
 ghost use mathlib.Core.Path.{_≡_};
 ghost use Prim.Native.Nat.{min};
@@ -9,21 +10,22 @@ ghost use Rattle.rules.specs.Inside.Some.{Some, Every};
 ghost use Rattle.stage_loop.specs.Filling.{RowAt, GrowAt, Grown, FillAt, FilledTree};
 
 // Rule 2: the level to start at.
-fn start_level(top: usize, height: usize) -> usize
-    ensures { λ r. ⌜ r ≡ min top height ⌝ }
+fn start_level(top: usize, height: Height) -> usize
+    ensures { λ r. ⌜ r ≡ min top (height .0) ⌝ }
 {
-    if height < top {
-        return height;
+    let most = wide(height.0);
+    if most < top {
+        return most;
     }
     top
 }
 
 // Where the row of a level begins.
-fn row_at(height: usize, level: usize) -> usize
-    requires { ⌜ RowAt height level ⌝ }
-    ensures { λ r. ⌜ r ≡ rowAt height level ⌝ }
+fn row_at(height: Height, h: usize) -> usize
+    requires { ⌜ RowAt (height .0) h ⌝ }
+    ensures { λ r. ⌜ r ≡ rowAt (height .0) h ⌝ }
 {
-    Height(height as u32).row_at(level as u32)
+    height.row_at(h as u32)
 }
 
 // From level h of an empty stage down. Levels 1 and 0 have no turn of their own.
@@ -35,17 +37,17 @@ fn grow(
     n: usize,
     k: usize,
     h: usize,
-    height: usize,
-    half: usize,
+    height: Height,
 )
-    requires { ⌜ Some (λ C. GrowAt C m n k h height half (now gates) (now stage) (now work)) ⌝ }
-    ensures { λ _. ⌜ Every (λ C. GrowAt C m n k h height half (now (gates .entry)) (now (stage .entry)) (now (work .entry))) (λ C. Grown C m (now (work .entry)) (now (stage .exit)) (now (work .exit))) ⌝ }
+    requires { ⌜ Some (λ C. GrowAt C m n k h (height .0) (now gates) (now stage) (now work)) ⌝ }
+    ensures { λ _. ⌜ Every (λ C. GrowAt C m n k h (height .0) (now (gates .entry)) (now (stage .entry)) (now (work .entry))) (λ C. Grown C m (now (work .entry)) (now (stage .exit)) (now (work .exit))) ⌝ }
 {
     if h < 2 {
         return;
     }
     let most = needed(gates, work, m, n, k);
     let w = row_at(height, h);
+    let half = height.level_one_size();
     lean(gates, stage, work, m, n, k, h - 1, w, half, most);
 }
 
@@ -58,13 +60,12 @@ pub fn fill_tree(
     n: usize,
     k: usize,
     top: usize,
-    height: usize,
-    half: usize,
+    height: Height,
 ) -> usize
-    requires { ⌜ Some (λ C. FillAt C m n k top height half (now gates) (now stage) (now work)) ⌝ }
-    ensures { λ q. ⌜ Every (λ C. FillAt C m n k top height half (now (gates .entry)) (now (stage .entry)) (now (work .entry))) (λ C. FilledTree C m (now (gates .entry)) (now (stage .entry)) (now (work .entry)) q (now (stage .exit)) (now (work .exit))) ⌝ }
+    requires { ⌜ Some (λ C. FillAt C m n k top (height .0) (now gates) (now stage) (now work)) ⌝ }
+    ensures { λ q. ⌜ Every (λ C. FillAt C m n k top (height .0) (now (gates .entry)) (now (stage .entry)) (now (work .entry))) (λ C. FilledTree C m (now (gates .entry)) (now (stage .entry)) (now (work .entry)) q (now (stage .exit)) (now (work .exit))) ⌝ }
 {
     let h = start_level(top, height);
-    grow(gates, stage, work, m, n, k, h, height, half);
+    grow(gates, stage, work, m, n, k, h, height);
     needed(gates, work, m, n, k)
 }

@@ -4,8 +4,10 @@ use columns::CELLS;
 use columns::ENDS;
 use columns::RANKED;
 use columns::STARTS;
-use columns::get;
 use columns::is_in;
+use columns::number_at;
+use columns::pin_at;
+use graph::Pin;
 use stage_needed::needed;
 use stage_tree::first_empty;
 use stage_tree::place_bit;
@@ -13,9 +15,16 @@ use stage_tree::purge_bit;
 use stage_tree::room;
 ghost use Prim.Native.Nat.{_+_, _*_, _<_};
 ghost use Rattle.rules.specs.Inside.Some.{Some, Every};
+ghost use Rattle.stage_loop.specs.Bounds.{asFound};
 ghost use Rattle.stage_loop.specs.Loop.{SettleAt, Settled, TryAt, Tried, Next, Turned, At, Ended, LeanAt, Leaned};
 
-// Rule 7: 0 for no room, else one more than a number that the needed pins don't exceed.
+// What is known of the needed pins: a number that they don't exceed, or that there is no room for them.
+enum Bound {
+    AtMost(usize),
+    NoRoom,
+}
+
+// Rule 7.
 fn settle(
     gates: &[u32],
     stage: &[u32],
@@ -25,21 +34,21 @@ fn settle(
     k: usize,
     half: usize,
     most: usize,
-) -> usize
+) -> Bound
     requires { ⌜ Some (λ C. SettleAt C m n k half most (now gates) (now stage) (now work)) ⌝ }
-    ensures { λ r. ⌜ Every (λ C. SettleAt C m n k half most (now (gates .entry)) (now (stage .entry)) (now (work .entry))) (λ C. Settled C m most (now (stage .entry)) (now (work .entry)) (now (work .exit)) r) ⌝ }
+    ensures { λ r. ⌜ Every (λ C. SettleAt C m n k half most (now (gates .entry)) (now (stage .entry)) (now (work .entry))) (λ C. Settled C m most (now (stage .entry)) (now (work .entry)) (now (work .exit)) (asFound r)) ⌝ }
 {
     if room(work, m, half, most) {
-        return most + 1;
+        return Bound::AtMost(most);
     }
-    let c = needed(gates, work, m, n, k);
-    if room(work, m, half, c) {
-        return c + 1;
+    let count = needed(gates, work, m, n, k);
+    if room(work, m, half, count) {
+        return Bound::AtMost(count);
     }
-    0
+    Bound::NoRoom
 }
 
-// Places pin q at the cell p, and takes it back if that leaves no room.
+// Places pin p at the cell c, and takes it back if that leaves no room.
 fn attempt(
     gates: &[u32],
     stage: &mut [u32],
@@ -50,20 +59,22 @@ fn attempt(
     h: usize,
     w: usize,
     half: usize,
-    p: usize,
-    q: usize,
+    c: usize,
+    p: Pin,
     most: usize,
-) -> usize
-    requires { ⌜ Some (λ C. TryAt C m n k h w half p q most (now gates) (now stage) (now work)) ⌝ }
-    ensures { λ r. ⌜ Every (λ C. TryAt C m n k h w half p q most (now (gates .entry)) (now (stage .entry)) (now (work .entry))) (λ C. Tried C m h p q most (now (stage .entry)) (now (work .entry)) (now (stage .exit)) (now (work .exit)) r) ⌝ }
+) -> Bound
+    requires { ⌜ Some (λ C. TryAt C m n k h w half c (p .0) most (now gates) (now stage) (now work)) ⌝ }
+    ensures { λ r. ⌜ Every (λ C. TryAt C m n k h w half c (p .0) most (now (gates .entry)) (now (stage .entry)) (now (work .entry))) (λ C. Tried C m h c (p .0) most (now (stage .entry)) (now (work .entry)) (now (stage .exit)) (now (work .exit)) (asFound r)) ⌝ }
 {
-    place_bit(gates, stage, work, m, h, w, p, q);
-    let c = settle(gates, stage, work, m, n, k, half, most);
-    if c == 0 {
-        purge_bit(stage, work, m, h, w, p);
-        return 0;
+    place_bit(gates, stage, work, m, h, w, c, p);
+    let bound = settle(gates, stage, work, m, n, k, half, most);
+    match bound {
+        Bound::NoRoom => {
+            purge_bit(stage, work, m, h, w, c);
+            Bound::NoRoom
+        }
+        Bound::AtMost(b) => Bound::AtMost(b),
     }
-    c
 }
 
 // One turn at level l + 1: the candidate at i of e.
@@ -80,20 +91,20 @@ fn turn(
     i: usize,
     e: usize,
     most: usize,
-) -> usize
+) -> Bound
     requires { ⌜ Some (λ C. Next C m n k l w half (now gates) (now stage) (now work) i e most) ⌝ }
-    ensures { λ r. ⌜ Every (λ C. Next C m n k l w half (now (gates .entry)) (now (stage .entry)) (now (work .entry)) i e most) (λ C. Turned C m n k l w half (now (gates .entry)) (now (stage .entry)) (now (work .entry)) i e most (now (stage .exit)) (now (work .exit)) r) ⌝ }
+    ensures { λ r. ⌜ Every (λ C. Next C m n k l w half (now (gates .entry)) (now (stage .entry)) (now (work .entry)) i e most) (λ C. Turned C m n k l w half (now (gates .entry)) (now (stage .entry)) (now (work .entry)) i e most (now (stage .exit)) (now (work .exit)) (asFound r)) ⌝ }
 {
-    let q = get(work, m, i, RANKED);
-    if is_in(work, m, q, CELLS) {
-        return most + 1;
+    let p = pin_at(work, m, i, RANKED);
+    if is_in(work, m, p, CELLS) {
+        return Bound::AtMost(most);
     }
     let end = 2 * w;
-    let p = first_empty(stage, w, end);
-    if p >= end {
-        return 0;
+    let c = first_empty(stage, w, end);
+    if c >= end {
+        return Bound::NoRoom;
     }
-    attempt(gates, stage, work, m, n, k, l + 1, w, half, p, q, most)
+    attempt(gates, stage, work, m, n, k, l + 1, w, half, c, p, most)
 }
 
 // The candidates of level l + 1 from `start` to e, one after the other; the last bound.
@@ -117,11 +128,15 @@ fn sweep(
     let mut i = start;
     let mut b = most;
     while i < e {
-        let c = turn(gates, stage, work, m, n, k, l, w, half, i, e, b);
-        if c == 0 {
-            return b;
+        let bound = turn(gates, stage, work, m, n, k, l, w, half, i, e, b);
+        match bound {
+            Bound::NoRoom => {
+                return b;
+            }
+            Bound::AtMost(count) => {
+                b = count;
+            }
         }
-        b = c - 1;
         i += 1;
     }
     b
@@ -147,8 +162,8 @@ pub fn lean(
     let mut w = width;
     let mut b = most;
     while l > 0 {
-        let start = get(work, m, l + 1, STARTS);
-        let e = get(work, m, l + 1, ENDS);
+        let start = number_at(work, m, l + 1, STARTS);
+        let e = number_at(work, m, l + 1, ENDS);
         b = sweep(gates, stage, work, m, n, k, l, w, half, start, e, b);
         l -= 1;
         w = 2 * w;

@@ -8,7 +8,10 @@ use columns::PLACE;
 use columns::enlist;
 use columns::get;
 use columns::is_in;
+use columns::pin_at;
 use columns::set_field;
+use graph::Pin;
+use stage_walk::Next;
 use stage_walk::followed;
 ghost use mathlib.Core.List.{[], _∷_};
 ghost use Rattle.rules.specs.Lists.{keep};
@@ -17,26 +20,26 @@ ghost use Rattle.rules.specs.Inside.Lean.{lacks};
 ghost use Rattle.stage_walk.specs.Stands.{SomePlan, EveryPlan};
 ghost use Rattle.stage_needed.specs.Needed.{missing, Needs, AskAt, ItselfAt, NeedAt, NeededAt, Collected, UnmarkAt, Unmarked, Needed};
 
-// Pin q behind the needed list of n pins, if it has level 0 and is not placed. Returns how many are listed.
-fn ask(work: &mut [u32], m: usize, n: usize, q: usize) -> usize
-    requires { ⌜ SomePlan (λ C pl. AskAt C pl m (now work) n q) ⌝ }
-    ensures { λ r. ⌜ EveryPlan (λ C pl. AskAt C pl m (now (work .entry)) n q) (λ C pl. Needs m (now (work .entry)) n (now (work .exit)) r (keep (missing C pl) (q ∷ []))) ⌝ }
+// Pin p behind the needed list of n pins, if it has level 0 and is not placed. Returns how many are listed.
+fn ask(work: &mut [u32], m: usize, n: usize, p: Pin) -> usize
+    requires { ⌜ SomePlan (λ C pl. AskAt C pl m (now work) n (p .0)) ⌝ }
+    ensures { λ r. ⌜ EveryPlan (λ C pl. AskAt C pl m (now (work .entry)) n (p .0)) (λ C pl. Needs m (now (work .entry)) n (now (work .exit)) r (keep (missing C pl) (p .0 ∷ []))) ⌝ }
 {
-    if get(work, m, q, LEVEL) != 0 {
+    if get(work, m, p, LEVEL) != 0 {
         return n;
     }
-    if is_in(work, m, q, CELLS) {
+    if is_in(work, m, p, CELLS) {
         return n;
     }
-    enlist(work, m, n, NEEDED, MARK, q)
+    enlist(work, m, n, NEEDED, MARK, p)
 }
 
-// Pin p of level l, 0 or 1, itself, at level 0 if it waits.
-fn itself(work: &mut [u32], m: usize, n: usize, p: usize, l: usize) -> usize
-    requires { ⌜ SomePlan (λ C pl. ItselfAt C pl m (now work) n p l) ⌝ }
-    ensures { λ r. ⌜ EveryPlan (λ C pl. ItselfAt C pl m (now (work .entry)) n p l) (λ C pl. Needs m (now (work .entry)) n (now (work .exit)) r (asked (C .X) (treeOf (C .X) pl) p l)) ⌝ }
+// Pin p of level h, 0 or 1, itself, at level 0 if it waits.
+fn itself(work: &mut [u32], m: usize, n: usize, p: Pin, h: usize) -> usize
+    requires { ⌜ SomePlan (λ C pl. ItselfAt C pl m (now work) n (p .0) h) ⌝ }
+    ensures { λ r. ⌜ EveryPlan (λ C pl. ItselfAt C pl m (now (work .entry)) n (p .0) h) (λ C pl. Needs m (now (work .entry)) n (now (work .exit)) r (asked (C .X) (treeOf (C .X) pl) (p .0) h)) ⌝ }
 {
-    if l == 1 {
+    if h == 1 {
         return enlist(work, m, n, NEEDED, MARK, p);
     }
     if is_in(work, m, p, PLACE) {
@@ -46,21 +49,32 @@ fn itself(work: &mut [u32], m: usize, n: usize, p: usize, l: usize) -> usize
 }
 
 // What pin p makes needed.
-fn need(gates: &[u32], work: &mut [u32], m: usize, n: usize, p: usize) -> usize
-    requires { ⌜ SomePlan (λ C pl. NeedAt C pl m (now gates) (now work) n p) ⌝ }
-    ensures { λ r. ⌜ EveryPlan (λ C pl. NeedAt C pl m (now (gates .entry)) (now (work .entry)) n p) (λ C pl. Needs m (now (work .entry)) n (now (work .exit)) r (lacks (C .X) (treeOf (C .X) pl) p)) ⌝ }
+fn need(gates: &[u32], work: &mut [u32], m: usize, n: usize, p: Pin) -> usize
+    requires { ⌜ SomePlan (λ C pl. NeedAt C pl m (now gates) (now work) n (p .0)) ⌝ }
+    ensures { λ r. ⌜ EveryPlan (λ C pl. NeedAt C pl m (now (gates .entry)) (now (work .entry)) n (p .0)) (λ C pl. Needs m (now (work .entry)) n (now (work .exit)) r (lacks (C .X) (treeOf (C .X) pl) (p .0))) ⌝ }
 {
     if is_in(work, m, p, CELLS) {
         return n;
     }
-    let l = get(work, m, p, LEVEL);
-    if l < 2 {
-        return itself(work, m, n, p, l);
+    let h = get(work, m, p, LEVEL);
+    if h < 2 {
+        return itself(work, m, n, p, h);
     }
-    let a = followed(gates, work, m, p, 0);
-    let b = followed(gates, work, m, p, 1);
-    let s = ask(work, m, n, a);
-    ask(work, m, s, b)
+    let first = followed(gates, work, m, p, 0);
+    match first {
+        // From level 2 on two pins are followed.
+        Next::Nothing => n,
+        Next::To(a) => {
+            let second = followed(gates, work, m, p, 1);
+            match second {
+                Next::Nothing => n,
+                Next::To(b) => {
+                    let k = ask(work, m, n, a);
+                    ask(work, m, k, b)
+                }
+            }
+        }
+    }
 }
 
 // The same for each of the k listed pins.
@@ -71,21 +85,21 @@ fn collect(gates: &[u32], work: &mut [u32], m: usize, n: usize, k: usize) -> usi
     let mut r = 0;
     let mut i = 0;
     while i < k {
-        let p = get(work, m, i, ORDER);
+        let p = pin_at(work, m, i, ORDER);
         r = need(gates, work, m, r, p);
         i += 1;
     }
     r
 }
 
-// The marks of the r needed pins go.
-fn unmark(work: &mut [u32], m: usize, r: usize)
-    requires { ⌜ UnmarkAt m r (now work) ⌝ }
+// The marks of the n needed pins go.
+fn unmark(work: &mut [u32], m: usize, n: usize)
+    requires { ⌜ UnmarkAt m n (now work) ⌝ }
     ensures { λ _. ⌜ Unmarked m [] (now (work .entry)) (now (work .exit)) ⌝ }
 {
     let mut i = 0;
-    while i < r {
-        let p = get(work, m, i, NEEDED);
+    while i < n {
+        let p = pin_at(work, m, i, NEEDED);
         set_field(work, m, p, MARK, 0);
         i += 1;
     }

@@ -14,13 +14,13 @@ use Rattle.rules.specs.Lists.{mem, Out}
 use Rattle.rules.proofs.Lists.Members.{true-false, eqb-true, in-reverse, or-true, mem-other}
 use Rattle.rules.proofs.Walk.Reverse.{out-sub}
 use Rattle.columns.specs.Area.{Frame, among, col, put}
-use Rattle.columns.specs.Fields.{ORDER, LEVEL, STARTS, ENDS, REVERSE, LISTED, SPARE}
+use Rattle.columns.specs.Fields.{ORDER, LEVEL, STARTS, ENDS, REVERSE, LISTED}
 use Rattle.columns.specs.Lists.{list, bit, Holds, Marks, Clear}
 use Rattle.columns.proofs.Area.Columns.{getD-col, at-set}
 use Rattle.columns.proofs.Area.Frames.{frame-none, frame-then, frame-more, frame-set, frame-front, frame-room}
 use Rattle.columns.proofs.Lists.Entries.{frame-list, holds-at, holds-pin, holds-self, holds-frame}
 use Rattle.columns.proofs.Lists.Clears.{zero-stays, clear-frame, front-clear}
-use Rattle.stage_walk.specs.Stands.{Context, Reversed, Set, Fresh}
+use Rattle.stage_walk.specs.Stands.{Context, Reversed, Set}
 use Rattle.stage_prepare.specs.Ranking.{Beyond}
 use Rattle.stage_prepare.specs.Prepared.{atPins, ForgetAt, Unlisted, Forgot}
 use Rattle.stage_walk.proofs.Contexts.{order-is}
@@ -43,10 +43,12 @@ module _ {m k : ℕ} {w₀ : List ℕ} (A : ForgetAt m k w₀) where
   abbrev xs : List ℕ
   xs = list ORDER m k w₀
 
+  -- at the start every pin of the order is still listed
   pub unlisted-none : Unlisted m k 0 w₀ w₀
   unlisted-none = record { frame = frame-none; zeros = A .outside }
 
   module _ {i : ℕ} {w : List ℕ} (U : Unlisted m k i w₀ w) where
+    -- at the end no pin of the order is listed
     pub unlisted-end : i ≡ k → Unlisted m k k w₀ w
     unlisted-end e = rw e at U
 
@@ -54,12 +56,14 @@ module _ {m k : ℕ} {w₀ : List ℕ} (A : ForgetAt m k w₀) where
       held : Holds ORDER m k xs w
       held = holds-frame (A .order) (U .frame) refl (omega arith)
 
+      -- a pin of the order is a pin of the area
       pub unlist-pin : p < m
       unlist-pin = rw ep (holds-pin held i h)
 
       next : drop i xs ≡ p ∷ drop (suc i) xs
       next = drop-cons xs i 0 (omega (arith, A .order .count)) ∙ ap (λ (x : ℕ). x ∷ drop (suc i) xs) (sym (ep ∙ holds-at held i h))
 
+      -- three stores forget one pin
       pub unlisted-more : (w₁ w₂ w₃ : List ℕ) → w₁ ≡ set w (LISTED * m + p) 0 → w₂ ≡ set w₁ (LEVEL * m + p) 0 → w₃ ≡ set w₂ (REVERSE * m + p) 0 → Unlisted m k (i + 1) w₀ w₃
       unlisted-more w₁ w₂ w₃ e₁ e₂ e₃ = rw (e₃, e₂, e₁, add-one i) (record {
         frame = frame-then (U .frame) (frame-then (frame-set LISTED p 0 unlist-pin (omega arith) refl)
@@ -108,6 +112,7 @@ module _ {m k : ℕ} {w : List ℕ} (A : ForgetAt m k w) (u : List ℕ) (U : Unl
   room : 16 * m + 512 ≤ length u
   room = frame-room (U .frame) (A .area) .room
 
+  -- with the two fronts cleared the walks have left no trace
   pub forgot : Forgot m w w′
   forgot = record {
     frame = frame-then (frame-more refl (U .frame)) (frame-more refl both);
@@ -120,6 +125,7 @@ module _ {m k : ℕ} {w : List ℕ} (A : ForgetAt m k w) (u : List ℕ) (U : Unl
 
 -- ---- when it may be asked for: what `prepare` left stands
 
+-- what `prepare` left may be forgotten
 pub forget-at : {C : Context} {m n k : ℕ} {gates w : List ℕ} → Set C m n k gates w → Reversed C m w → Marks LISTED m (C .X .order) w → Beyond m k w → ForgetAt m k w
 forget-at {C} {m} {n} {k} {gates} {w} S R M b = record {
   area = S .begun .base .area;
@@ -148,26 +154,4 @@ forget-frame {m} {k} {w} A {fs} {w′} fr a b c d e g = record {
   order = holds-self (holds-frame (A .order) fr a (omega arith));
   outside = λ f t p h o. each (λ i. getD w (i * m + p) 0 ≡ 0 → getD w′ (i * m + p) 0 ≡ 0) (λ z. fr .cell LISTED g (omega arith) p h ∙ z) (λ z. fr .cell LEVEL b (omega arith) p h ∙ z) (λ z. fr .cell REVERSE e (omega arith) p h ∙ z) f t (A .outside f t p h (rw (frame-list fr ORDER k a (omega arith)) at o));
   beyond = λ v l h. (fr .cell STARTS c (omega arith) v h ∙ A .beyond v l h .0, fr .cell ENDS d (omega arith) v h ∙ A .beyond v l h .1);
-}
-
--- ---- the next stage finds what this one found
-
-pub fresh-again : {m : ℕ} {w w′ : List ℕ} → Forgot m w w′ → Clear SPARE m w → Fresh m w′
-fresh-again F z = record {
-  listed = F .listed;
-  levels = F .levels;
-  reverse = F .reverse;
-  starts = F .starts;
-  ends = F .ends;
-  spare = clear-frame z (F .frame) refl (omega arith);
-}
-
-pub fresh-frame : {m : ℕ} {w : List ℕ} → Fresh m w → {fs : List ℕ} {w′ : List ℕ} → Frame fs m w w′ → among fs LISTED ≡ false → among fs LEVEL ≡ false → among fs REVERSE ≡ false → among fs STARTS ≡ false → among fs ENDS ≡ false → among fs SPARE ≡ false → Fresh m w′
-fresh-frame Z fr a b c d e f = record {
-  listed = clear-frame (Z .listed) fr a (omega arith);
-  levels = clear-frame (Z .levels) fr b (omega arith);
-  reverse = clear-frame (Z .reverse) fr c (omega arith);
-  starts = clear-frame (Z .starts) fr d (omega arith);
-  ends = clear-frame (Z .ends) fr e (omega arith);
-  spare = clear-frame (Z .spare) fr f (omega arith);
 }

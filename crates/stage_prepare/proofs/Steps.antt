@@ -18,6 +18,7 @@ use Rattle.stage_prepare.specs.Prepared.{PrepareAt, Prepared}
 use Rattle.stage_walk.proofs.traversal.Loops.{begun-reads, begun-frame}
 use Rattle.stage_levels.proofs.Laws.Rising.{along-frame}
 
+-- at the start the traversal may be made
 pub step-traverse : {C : Context} {m n : ℕ} {gates w : List ℕ} → PrepareAt C m n gates w → TraverseAt C m n gates w
 step-traverse A = record { begun = A .begun; clear = A .fresh .listed }
 
@@ -25,6 +26,7 @@ module _ {C : Context} {m n k : ℕ} {gates w w₁ : List ℕ} (A : PrepareAt C 
   begun₁ : Begun C m n gates w₁
   begun₁ = begun-frame (A .begun) (T .frame) refl refl refl
 
+  -- behind the traversal the levels
   pub step-levels : LevelsAt C m k gates w₁
   step-levels = record { along = record { reads = begun-reads begun₁; ordered = record { order = T .order } }; clear = clear-frame (A .fresh .levels) (T .frame) refl (omega arith) }
 
@@ -35,6 +37,7 @@ module _ {C : Context} {m n k : ℕ} {gates w w₁ : List ℕ} (A : PrepareAt C 
     along₂ : Along C m k gates w₂
     along₂ = along-frame (step-levels .along) (L .column .frame) refl refl
 
+    -- behind the levels the reverse levels
     pub step-reverse : ReverseAt C m n k gates w₂
     step-reverse = record { begun = begun-frame (A .begun) frame₂ refl refl refl; ordered = along₂ .ordered; clear = clear-frame (A .fresh .reverse) frame₂ refl (omega arith) }
 
@@ -45,6 +48,7 @@ module _ {C : Context} {m n k : ℕ} {gates w w₁ : List ℕ} (A : PrepareAt C 
       begun₃ : Begun C m n gates w₃
       begun₃ = begun-frame (A .begun) frame₃ refl refl refl
 
+      -- behind the reverse levels the ranked lists
       pub step-lists : ListsAt C m k w₃
       step-lists = record {
         area = begun₃ .base .area;
@@ -58,6 +62,7 @@ module _ {C : Context} {m n k : ℕ} {gates w w₁ : List ℕ} (A : PrepareAt C 
       }
 
       module _ {w₄ : List ℕ} (S : Lists C m k w₃ w₄) where
+        -- together they are what a stage has before its first placing
         pub step-all : Prepared C m n gates w w₄ k top
         step-all = record {
           frame = frame-then (frame-more refl frame₃) (frame-more refl (S .frame));

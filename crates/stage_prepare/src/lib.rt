@@ -6,7 +6,7 @@ use columns::ORDER;
 use columns::REVERSE;
 use columns::STARTS;
 use columns::clear_front;
-use columns::get;
+use columns::pin_at;
 use columns::set_field;
 use ranking::level_lists;
 use stage_levels::levels;
@@ -45,7 +45,7 @@ fn unlist(work: &mut [u32], m: usize, k: usize)
 {
     let mut i = 0;
     while i < k {
-        let p = get(work, m, i, ORDER);
+        let p = pin_at(work, m, i, ORDER);
         set_field(work, m, p, LISTED, 0);
         set_field(work, m, p, LEVEL, 0);
         set_field(work, m, p, REVERSE, 0);

@@ -5,3 +5,4 @@ pub mod Rule
 pub mod Puts
 pub mod Written
 pub mod Ran
+pub mod Half

@@ -6,6 +6,8 @@ use columns::SPARE;
 use columns::WAITING;
 use columns::enlist;
 use columns::get;
+use columns::pin_at;
+use graph::Pin;
 ghost use Prim.Native.Nat.{_<_};
 ghost use Rattle.stage_runs.specs.Classes.{ClassAt, Classed, SplitAt, Classes};
 
@@ -16,9 +18,9 @@ pub struct Split {
 }
 
 // Pin p, which waits: if it is not in the tree, it is needed at level 0 or 1, else untouched.
-fn class(work: &mut [u32], m: usize, p: usize, s: Split) -> Split
-    requires { ⌜ ClassAt m (s .needed) p (now work) ⌝ }
-    ensures { λ r. ⌜ Classed m (s .needed) (s .untouched) p (now (work .entry)) (now (work .exit)) (r .needed) (r .untouched) ⌝ }
+fn class(work: &mut [u32], m: usize, p: Pin, s: Split) -> Split
+    requires { ⌜ ClassAt m (s .needed) (p .0) (now work) ⌝ }
+    ensures { λ r. ⌜ Classed m (s .needed) (s .untouched) (p .0) (now (work .entry)) (now (work .exit)) (r .needed) (r .untouched) ⌝ }
 {
     if get(work, m, p, CELLS) != 0 {
         return s;
@@ -46,7 +48,7 @@ pub fn split_waiting(work: &mut [u32], m: usize, n: usize) -> Split
     let mut untouched = false;
     let mut i = 0;
     while i < n {
-        let p = get(work, m, i, WAITING);
+        let p = pin_at(work, m, i, WAITING);
         let s = class(
             work,
             m,

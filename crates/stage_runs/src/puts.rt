@@ -5,9 +5,11 @@ use columns::PHASE;
 use columns::PLACE;
 use columns::STACK;
 use columns::enlist;
-use columns::get;
 use columns::is_in;
+use columns::pin_at;
 use columns::wide;
+use graph::EMPTY;
+use graph::Pin;
 use stage_sparse::Runs;
 use stage_tree::place_bit;
 ghost use mathlib.Core.Path.{_≡_};
@@ -19,15 +21,13 @@ ghost use Rattle.rules.specs.Inside.Some.{Some, Every};
 ghost use Rattle.stage_runs.specs.Puts.{CellAt, RunAt, Put, NoteAt, Noted, RecordAt, PutRecord, WriteAt, Wrote};
 ghost use Rattle.stage_runs.specs.Rule.{ruleOf};
 
-const EMPTY: u32 = 4294967295;
-
 // How many of the needed waiting pins are put, and how many pins are realised.
 pub struct Puts {
     pub next: usize,
     pub real: usize,
 }
 
-// Rule 8 at the cell at position p, of k needed waiting pins.
+// Rule 8 at the cell at position c, of k needed waiting pins.
 fn put_cell(
     gates: &[u32],
     stage: &mut [u32],
@@ -35,30 +35,29 @@ fn put_cell(
     m: usize,
     half: usize,
     k: usize,
-    p: usize,
+    c: usize,
     s: Puts,
 ) -> Puts
-    requires { ⌜ Some (λ C. CellAt C m half k p s (now gates) (now stage) (now work)) ⌝ }
-    ensures { λ r. ⌜ Every (λ C. CellAt C m half k p s (now (gates .entry)) (now (stage .entry)) (now (work .entry))) (λ C. Put C m k (putCell (C .X) p) (now (gates .entry)) s (now (stage .entry)) (now (work .entry)) r (now (stage .exit)) (now (work .exit))) ⌝ }
+    requires { ⌜ Some (λ C. CellAt C m half k c s (now gates) (now stage) (now work)) ⌝ }
+    ensures { λ r. ⌜ Every (λ C. CellAt C m half k c s (now (gates .entry)) (now (stage .entry)) (now (work .entry))) (λ C. Put C m k (putCell (C .X) c) (now (gates .entry)) s (now (stage .entry)) (now (work .entry)) r (now (stage .exit)) (now (work .exit))) ⌝ }
 {
     let next = s.next;
     let real = s.real;
     if next == k {
         return s;
     }
-    let c = stage[p];
-    if c == EMPTY {
-        let e = get(work, m, next, PHASE);
-        place_bit(gates, stage, work, m, 1, half, p, e);
-        let more = enlist(work, m, real, STACK, MARK, e);
+    let p = Pin(stage[c]);
+    if p.0 == EMPTY {
+        let q = pin_at(work, m, next, PHASE);
+        place_bit(gates, stage, work, m, 1, half, c, q);
+        let more = enlist(work, m, real, STACK, MARK, q);
         return Puts {
             next: next + 1,
             real: more,
         };
     }
-    let q = wide(c);
-    if is_in(work, m, q, PLACE) {
-        let more = enlist(work, m, real, STACK, MARK, q);
+    if is_in(work, m, p, PLACE) {
+        let more = enlist(work, m, real, STACK, MARK, p);
         return Puts {
             next: next,
             real: more,

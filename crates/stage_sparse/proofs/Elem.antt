@@ -26,12 +26,15 @@ use Rattle.stage_sparse.proofs.Sparse as T
 use Rattle.stage_sparse.proofs.Sparse.Laws as T′
 use Rattle.stage_sparse.proofs.Runs.Laws as R′
 
+-- the record as a type of the language
 abbrev pub row : RattleType
 row = T.the-row
 
+-- the record's type in the code
 abbrev pub ty : Ty
 ty = T′.mir
 
+-- the type of the records with their count, in the code
 abbrev pub runs : Ty
 runs = R′.mir
 
@@ -39,12 +42,15 @@ runs = R′.mir
 abbrev pub name : Ty
 name = pointee (T.the-row .written)
 
+-- a local that holds a whole record
 abbrev pub held : Row
 held = whole T.the-row
 
+-- how a record is copied: field by field
 abbrev pub copies : Copies.Cp T.the-row
 copies = Copies.cStruct T.the-type T′.the-laws T′.the-copy
 
+-- a record passed by value as a parameter
 abbrev pub pk : {n : ℕ} → PK n
 pk = pVal record {
   ty = T.the-row;
@@ -63,6 +69,7 @@ pk = pVal record {
   of-mem = whole-mem 𝓤 H A W T.the-row;
 }
 
+-- a record passed by value as a result
 abbrev pub rk : {n : ℕ} → RK n
 rk = rVal record {
   ty = T.the-row;
@@ -89,8 +96,10 @@ nil = record { filled = 0; start = 0 }
 pub yields : {M : Type 1} (𝓤 : URA M) (H : Heap 𝓤) (A : Atoms 𝓤) → Given 𝓤 H A → Yields 𝓤 H A (λ (ρ : Rho). Unit {0}) T′.mir held held T.the-row (λ x. x) (λ x. x)
 yields 𝓤 H A W = yields-copy 𝓤 H A W (λ ρ. Unit) T.the-row refl (copies .copy 𝓤 H A W) held (λ x. x) (λ x. x) (λ ρ _. mem-whole 𝓤 H A W T.the-row ρ) (λ ρ _. whole-mem 𝓤 H A W T.the-row ρ)
 
+-- a record's machine values are of its type
 pub lawful : {M : Type 1} (𝓤 : URA M) (H : Heap 𝓤) (A : Atoms 𝓤) → Given 𝓤 H A → Lawful 𝓤 H A T.the-row
 lawful 𝓤 H A W = LL.lawful T.the-type T′.the-laws 𝓤 H A W
 
+-- a local that holds a record reads as the record's machine value
 pub reads : {M : Type 1} (𝓤 : URA M) (H : Heap 𝓤) (A : Atoms 𝓤) → Given 𝓤 H A → ReadsAs 𝓤 H A held T′.mir (λ x. only (copies .vals x))
 reads 𝓤 H A W = reads-struct 𝓤 H A W T.the-type T′.the-laws

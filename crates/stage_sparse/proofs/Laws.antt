@@ -1,2 +1,4 @@
 pub mod Plain
+pub mod Places
 pub mod Runs
+pub mod Slices

@@ -1,12 +1,13 @@
 // Placing a pin in the tree with all that it pulls in below, and taking it back. Cells above level 0 are counted by pin; the filled
-// cells of level 1 and the distinct pins above level 0 are kept as numbers. m = N + 1, and w is where the row of the cell p begins.
+// cells of level 1 and the distinct pins above level 0 are kept as numbers. m = N + 1, and w is where the row of the cell c begins.
 use columns::CELLS;
 use columns::LEVEL;
 use columns::ONES;
 use columns::PINS;
 use columns::get;
 use columns::tail_get;
-use columns::wide;
+use graph::EMPTY;
+use graph::Pin;
 use graph::operand;
 ghost use mathlib.Core.Path.{_≡_};
 ghost use Rattle.rules.specs.Inside.Some.{Some, Every};
@@ -14,20 +15,17 @@ ghost use Rattle.stage_tree.specs.Counts.{CountAt, UncountAt, OneMore, R
 ghost use Rattle.stage_tree.specs.Bits.{FillAt, Filled, EmptyAt, Emptied, PlaceAt, SplitAt, Placed, PurgeAt, Purged};
 ghost use Rattle.stage_tree.specs.Search.{SearchAt, First};
 
-// An empty cell.
-const EMPTY: u32 = 4294967295;
-
 // The lowest empty cell from a to e, e if there is none.
 pub fn first_empty(stage: &[u32], a: usize, e: usize) -> usize
     requires { ⌜ SearchAt (now stage) a e ⌝ }
     ensures { λ r. ⌜ First (now (stage .entry)) a e r ⌝ }
 {
-    let mut p = a;
-    while p < e {
-        if stage[p] == EMPTY {
-            return p;
+    let mut c = a;
+    while c < e {
+        if stage[c] == EMPTY {
+            return c;
         }
-        p += 1;
+        c += 1;
     }
     e
 }
@@ -45,15 +43,15 @@ pub fn room(work: &[u32], m: usize, half: usize, b: usize) -> bool
     b + ones < half
 }
 
-// One more cell above level 0 holds pin n.
-fn count_pin(work: &mut [u32], m: usize, n: usize)
-    requires { ⌜ CountAt m n (now work) ⌝ }
-    ensures { λ _. ⌜ OneMore m n (now (work .entry)) (now (work .exit)) ⌝ }
+// One more cell above level 0 holds pin p.
+fn count_pin(work: &mut [u32], m: usize, p: Pin)
+    requires { ⌜ CountAt m (p .0) (now work) ⌝ }
+    ensures { λ _. ⌜ OneMore m (p .0) (now (work .entry)) (now (work .exit)) ⌝ }
 {
-    let at = CELLS * m + n;
-    let c = work[at];
-    work[at] = c + 1;
-    if c != 0 {
+    let at = CELLS * m + p.index();
+    let n = work[at];
+    work[at] = n + 1;
+    if n != 0 {
         return;
     }
     let pins = 16 * m + PINS;
@@ -61,30 +59,30 @@ fn count_pin(work: &mut [u32], m: usize, n: usize)
 }
 
 // One cell fewer does.
-fn uncount_pin(work: &mut [u32], m: usize, n: usize)
-    requires { ⌜ UncountAt m n (now work) ⌝ }
-    ensures { λ _. ⌜ OneMore m n (now (work .exit)) (now (work .entry)) ⌝ }
+fn uncount_pin(work: &mut [u32], m: usize, p: Pin)
+    requires { ⌜ UncountAt m (p .0) (now work) ⌝ }
+    ensures { λ _. ⌜ OneMore m (p .0) (now (work .exit)) (now (work .entry)) ⌝ }
 {
-    let at = CELLS * m + n;
-    let c = work[at] - 1;
-    work[at] = c;
-    if c != 0 {
+    let at = CELLS * m + p.index();
+    let n = work[at] - 1;
+    work[at] = n;
+    if n != 0 {
         return;
     }
     let pins = 16 * m + PINS;
     work[pins] = work[pins] - 1;
 }
 
-// Pin n into the cell p of level h.
-fn fill_cell(stage: &mut [u32], work: &mut [u32], m: usize, h: usize, p: usize, n: usize)
-    requires { ⌜ Some (λ C. FillAt C m h p n (now stage) (now work)) ⌝ }
-    ensures { λ _. ⌜ Every (λ C. FillAt C m h p n (now (stage .entry)) (now (work .entry))) (λ C. Filled C m p n (now (stage .entry)) (now (work .entry)) (now (stage .exit)) (now (work .exit))) ⌝ }
+// Pin p into the cell c of level h.
+fn fill_cell(stage: &mut [u32], work: &mut [u32], m: usize, h: usize, c: usize, p: Pin)
+    requires { ⌜ Some (λ C. FillAt C m h c (p .0) (now stage) (now work)) ⌝ }
+    ensures { λ _. ⌜ Every (λ C. FillAt C m h c (p .0) (now (stage .entry)) (now (work .entry))) (λ C. Filled C m c (p .0) (now (stage .entry)) (now (work .entry)) (now (stage .exit)) (now (work .exit))) ⌝ }
 {
-    stage[p] = n as u32;
+    stage[c] = p.0;
     if h == 0 { // level 0 is not counted
         return;
     }
-    count_pin(work, m, n);
+    count_pin(work, m, p);
     if h != 1 { // level 1 is counted apart
         return;
     }
@@ -92,16 +90,16 @@ fn fill_cell(stage: &mut [u32], work: &mut [u32], m: usize, h: usize, p: usize, 
     work[ones] = work[ones] + 1;
 }
 
-// Pin n out of the cell p of level h.
-fn empty_cell(stage: &mut [u32], work: &mut [u32], m: usize, h: usize, p: usize, n: usize)
-    requires { ⌜ Some (λ C. EmptyAt C m h p n (now stage) (now work)) ⌝ }
-    ensures { λ _. ⌜ Every (λ C. EmptyAt C m h p n (now (stage .entry)) (now (work .entry))) (λ C. Emptied C m p (now (stage .entry)) (now (work .entry)) (now (stage .exit)) (now (work .exit))) ⌝ }
+// Pin p out of the cell c of level h.
+fn empty_cell(stage: &mut [u32], work: &mut [u32], m: usize, h: usize, c: usize, p: Pin)
+    requires { ⌜ Some (λ C. EmptyAt C m h c (p .0) (now stage) (now work)) ⌝ }
+    ensures { λ _. ⌜ Every (λ C. EmptyAt C m h c (p .0) (now (stage .entry)) (now (work .entry))) (λ C. Emptied C m c (now (stage .entry)) (now (work .entry)) (now (stage .exit)) (now (work .exit))) ⌝ }
 {
-    stage[p] = EMPTY;
+    stage[c] = EMPTY;
     if h == 0 {
         return;
     }
-    uncount_pin(work, m, n);
+    uncount_pin(work, m, p);
     if h != 1 {
         return;
     }
@@ -109,7 +107,7 @@ fn empty_cell(stage: &mut [u32], work: &mut [u32], m: usize, h: usize, p: usize,
     work[ones] = work[ones] - 1;
 }
 
-// Rule 5: places pin n at the cell p of level h.
+// Rule 5: places pin p at the cell c of level h.
 pub fn place_bit(
     gates: &[u32],
     stage: &mut [u32],
@@ -117,24 +115,24 @@ pub fn place_bit(
     m: usize,
     h: usize,
     w: usize,
-    p: usize,
-    n: usize,
+    c: usize,
+    p: Pin,
 )
-    requires { ⌜ Some (λ C. PlaceAt C m h w p n (now gates) (now stage) (now work)) ⌝ }
-    ensures { λ _. ⌜ Every (λ C. PlaceAt C m h w p n (now (gates .entry)) (now (stage .entry)) (now (work .entry))) (λ C. Placed C m h w p n (now (stage .entry)) (now (work .entry)) (now (stage .exit)) (now (work .exit))) ⌝ }
+    requires { ⌜ Some (λ C. PlaceAt C m h w c (p .0) (now gates) (now stage) (now work)) ⌝ }
+    ensures { λ _. ⌜ Every (λ C. PlaceAt C m h w c (p .0) (now (gates .entry)) (now (stage .entry)) (now (work .entry))) (λ C. Placed C m h w c (p .0) (now (stage .entry)) (now (work .entry)) (now (stage .exit)) (now (work .exit))) ⌝ }
 {
-    fill_cell(stage, work, m, h, p, n);
+    fill_cell(stage, work, m, h, c, p);
     if h == 0 {
         return;
     }
-    if get(work, m, n, LEVEL) < h {
-        place_bit(gates, stage, work, m, h - 1, 2 * w, p + w, n);
+    if get(work, m, p, LEVEL) < h {
+        place_bit(gates, stage, work, m, h - 1, 2 * w, c + w, p);
         return;
     }
-    split_gate(gates, stage, work, m, h, w, p, n);
+    split_gate(gates, stage, work, m, h, w, c, p);
 }
 
-// Places the operands of the gate n, which stands at p, at the two lower cells.
+// Places the operands of the gate p, which stands at c, at the two lower cells.
 fn split_gate(
     gates: &[u32],
     stage: &mut [u32],
@@ -142,35 +140,36 @@ fn split_gate(
     m: usize,
     h: usize,
     w: usize,
-    p: usize,
-    n: usize,
+    c: usize,
+    p: Pin,
 )
-    requires { ⌜ Some (λ C. SplitAt C m h w p n (now gates) (now stage) (now work)) ⌝ }
-    ensures { λ _. ⌜ Every (λ C. SplitAt C m h w p n (now (gates .entry)) (now (stage .entry)) (now (work .entry))) (λ C. Placed C m h w p n (now (stage .entry)) (now (work .entry)) (now (stage .exit)) (now (work .exit))) ⌝ }
+    requires { ⌜ Some (λ C. SplitAt C m h w c (p .0) (now gates) (now stage) (now work)) ⌝ }
+    ensures { λ _. ⌜ Every (λ C. SplitAt C m h w c (p .0) (now (gates .entry)) (now (stage .entry)) (now (work .entry))) (λ C. Placed C m h w c (p .0) (now (stage .entry)) (now (work .entry)) (now (stage .exit)) (now (work .exit))) ⌝ }
 {
-    let a = operand(gates, 2 * n);
-    let b = operand(gates, 2 * n + 1);
+    let at = 2 * p.index();
+    let a = operand(gates, at);
+    let b = operand(gates, at + 1);
     let next = h - 1;
     let low = 2 * w;
-    place_bit(gates, stage, work, m, next, low, p + w, a);
-    place_bit(gates, stage, work, m, next, low, p + low, b);
+    place_bit(gates, stage, work, m, next, low, c + w, a);
+    place_bit(gates, stage, work, m, next, low, c + low, b);
 }
 
-// Rule 7: takes back what stands at the cell p of level h, with everything under it.
-pub fn purge_bit(stage: &mut [u32], work: &mut [u32], m: usize, h: usize, w: usize, p: usize)
-    requires { ⌜ Some (λ C. PurgeAt C m h w p (now stage) (now work)) ⌝ }
-    ensures { λ _. ⌜ Every (λ C. PurgeAt C m h w p (now (stage .entry)) (now (work .entry))) (λ C. Purged C m h w p (now (stage .entry)) (now (work .entry)) (now (stage .exit)) (now (work .exit))) ⌝ }
+// Rule 7: takes back what stands at the cell c of level h, with everything under it.
+pub fn purge_bit(stage: &mut [u32], work: &mut [u32], m: usize, h: usize, w: usize, c: usize)
+    requires { ⌜ Some (λ C. PurgeAt C m h w c (now stage) (now work)) ⌝ }
+    ensures { λ _. ⌜ Every (λ C. PurgeAt C m h w c (now (stage .entry)) (now (work .entry))) (λ C. Purged C m h w c (now (stage .entry)) (now (work .entry)) (now (stage .exit)) (now (work .exit))) ⌝ }
 {
-    let n = stage[p];
-    if n == EMPTY {
+    let v = stage[c];
+    if v == EMPTY {
         return;
     }
-    empty_cell(stage, work, m, h, p, wide(n));
+    empty_cell(stage, work, m, h, c, Pin(v));
     if h == 0 {
         return;
     }
     let next = h - 1;
     let low = 2 * w;
-    purge_bit(stage, work, m, next, low, p + w);
-    purge_bit(stage, work, m, next, low, p + low);
+    purge_bit(stage, work, m, next, low, c + w);
+    purge_bit(stage, work, m, next, low, c + low);
 }

@@ -1,25 +1,20 @@
--- A context from what a stage is handed, and the bounds that hold in every context: levels are below N + 1, lists of listed pins are no longer than that. Assumes nothing.
+-- A context from what a stage is handed, and what holds in every context: levels are below N + 1, and the order is as long as the traversal. Assumes nothing.
 use mathlib.Core.Path.{_≡_, refl, _∙_, ap}
 use mathlib.Core.List.{List, reverse}
 use Prim.Native.Nat.{ℕ, _<_, _≤_}
 use native.Mathlib.Omega.{arith}
 use lib.ListN.{length, length-reverse}
-use Rattle.rules.specs.Lists.{distinct, gather, In, Once, nobody, one}
+use Rattle.rules.specs.Lists.{In}
 use Rattle.rules.specs.Cells.{empty}
 use Rattle.rules.specs.Graph.{Node}
-use Rattle.rules.specs.Traversal.{WordRule, Setting, setting, levelAt, traverse}
-use Rattle.rules.specs.Inside.Lean.{wanted, lacks}
-use Rattle.rules.specs.Placing.{treeOf}
-use Rattle.rules.specs.Inside.Walks.{Topo, none, more, Graph, Ready, Work}
-use Rattle.rules.proofs.Walk.Levels.{length-levels}
-use Rattle.rules.proofs.Needed.Needs.{setting-sound, asked-listed}
-use Rattle.rules.proofs.Needed.Lacks.{wanted-in}
+use Rattle.rules.specs.Traversal.{WordRule, setting, levelAt}
+use Rattle.rules.specs.Inside.Walks.{Graph, Ready, Work}
+use Rattle.rules.proofs.Needed.Needs.{setting-sound}
 use Rattle.rules.proofs.Fold.Whole.{mark}
-use Rattle.rules.proofs.Written.Words.{once-insertAll}
 use Rattle.rules.proofs.Build.Bounds.{depth-rank}
-use Rattle.columns.proofs.Lists.Swap.{once-few}
 use Rattle.stage_walk.specs.Stands.{Context}
 
+-- 65,536 pins are below the empty mark
 pub unfold-empty : (n : ℕ) → n ≤ 65536 → n ≤ empty
 unfolding empty
 unfold-empty n h = omega arith
@@ -54,39 +49,18 @@ module _ (C : Context) where
   abbrev m : ℕ
   m = length (C .X .g)
 
+  -- a listed pin's level is below the number of pins
   pub level-below : (p : ℕ) → In p (C .X .seen) → levelAt (C .X) p < m
   level-below p i = omega (arith, C .S .level p i, depth-rank (C .X .g) (C .X .done) (C .r) (C .S .ranked) m p, C .S .fuel p i)
 
-  pub length-lv : length (C .X .lv) ≡ m
-  unfolding setting
-  length-lv = ap (λ (Y : Setting). length (Y .lv)) (C .is) ∙ length-levels (C .X .g) (C .X .done) (C .r) (C .S .ranked) (traverse m (C .X .g) (C .X .done) (C .X .waiting))
-
 -- ---- lists of listed pins
 
-topo-once : (g : List Node) (done : List ℕ) {s : List ℕ} → Topo g done s → Once s
-topo-once g done none = nobody
-topo-once g done (more o h t) = one o (topo-once g done t)
-
 module _ (C : Context) where
-  pub seen-once : Once (C .X .seen)
-  seen-once = topo-once (C .X .g) (C .X .done) (C .S .visited .topo)
-
-  pub seen-few : length (C .X .seen) ≤ length (C .X .g)
-  seen-few = once-few seen-once (length (C .X .g)) (C .S .bound)
-
+  -- the order is the traversal turned round
   pub order-is : C .X .order ≡ reverse (C .X .seen)
   unfolding setting
   order-is = rw (C .is) refl
 
+  -- order and traversal have the same length
   pub order-length : length (C .X .order) ≡ length (C .X .seen)
   order-length = ap length order-is ∙ length-reverse (C .X .seen)
-
-  -- a needed pin is listed
-  pub wanted-listed : (pl : List ℕ) (x : ℕ) → In x (wanted (C .X) pl) → In x (C .X .seen)
-  wanted-listed pl x i =
-      let k = wanted-in (C .X) pl x i in
-      asked-listed (C .X) (C .r) (length (C .X .g)) (C .S) (treeOf (C .X) pl) (k .0) (levelAt (C .X) (k .0)) x (C .S .listed (k .0) (k .1)) (k .3)
-
-  pub wanted-few : (pl : List ℕ) → length (wanted (C .X) pl) ≤ length (C .X .g)
-  unfolding wanted distinct
-  wanted-few pl = once-few (once-insertAll (gather (lacks (C .X) (treeOf (C .X) pl)) (C .X .order)) nobody) (length (C .X .g)) (λ x i. C .S .bound x (wanted-listed pl x i))

@@ -20,6 +20,7 @@ use Rattle.columns.proofs.Area.Frames.{frame-room}
 use Rattle.columns.proofs.Lists.Marks.{marks-frame}
 use Rattle.stage_walk.specs.Stands.{Context, Reads}
 
+-- the two lent numbers of a pin are its node
 pub graph-at : (m : ℕ) (gates : List ℕ) → length gates ≡ 2 * m → (p : ℕ) → p < m → getD (graphOf gates) p leaf ≡ nodeOf (getD gates (2 * p) 0) (getD gates (2 * p + 1) 0)
 unfolding graphOf
 graph-at zero gates e p h = absurd (omega arith)
@@ -38,6 +39,7 @@ kth-none xs m k h e = elim (decLt k (length xs)) [
   | no l ↦ omega (arith, l)
 ]
 
+-- a pin other than m is one of them
 pub kth-some : (xs : List ℕ) (m k : ℕ) → (getD xs k m ≡ m → ⊥) → k < length xs
 kth-some xs m k ne = elim (decLt k (length xs)) [ yes l ↦ l | no l ↦ absurd (ne (List·getD-eq-default xs m (omega (arith, l)))) ]
 
@@ -46,6 +48,7 @@ module _ (C : Context) where
   pub follow-pin : (p x : ℕ) → In x (below (C .X .g) (C .X .done) p) → x < length (C .X .g)
   follow-pin p x i = C .G .inside p x (below-sub (C .X .g) [] (C .X .done) (λ q e. in-nil q e) p x i)
 
+  -- a followed pin has a lower rank
   pub follow-rank : (p x : ℕ) → In x (below (C .X .g) (C .X .done) p) → C .r x < C .r p
   follow-rank p x i = C .S .ranked p x i
 
@@ -58,10 +61,12 @@ module _ (C : Context) where
       by leaf d e = inl (rw (e, below, d, operands))
       by (gate a b) d e = inr (pinOf a, pinOf b, rw (e, below, d, operands))
 
+  -- at most two pins are followed from one
   pub two-most : (p : ℕ) → length (below (C .X .g) (C .X .done) p) ≤ 2
   two-most p = elim (two p) [ inl e ↦ rw e (omega arith) | inr k ↦ rw (k .2) (omega arith) ]
 
 module _ (C : Context) {m : ℕ} {gates w : List ℕ} (R : Reads C m gates w) where
+  -- what is read of the graph stays where the marks are not named
   pub reads-frame : {fs : List ℕ} {w′ : List ℕ} → Frame fs m w w′ → among fs DONE ≡ false → Reads C m gates w′
   reads-frame fr e = record {
     base = record { area = frame-room fr (R .base .area); size = R .base .size; graph = R .base .graph; pair = R .base .pair };
@@ -78,6 +83,7 @@ module _ (C : Context) {m : ℕ} {gates w : List ℕ} (R : Reads C m gates w) wh
     node : getD (C .X .g) p leaf ≡ nodeOf a b
     node = ap (λ (g : List Node). getD g p leaf) (R .base .graph) ∙ graph-at m gates (R .base .pair) p h
 
+    -- nothing is followed from a given or realised pin
     pub follow-done : In p (C .X .done) → below (C .X .g) (C .X .done) p ≡ []
     unfolding below
     follow-done e = rw (e, below)
@@ -87,6 +93,7 @@ module _ (C : Context) {m : ℕ} {gates w : List ℕ} (R : Reads C m gates w) wh
     as-gate (inl n) = rw (ne-eqb a 4294967295 n, nodeOf)
     as-gate (inr n) = split (eqb a 4294967295) (λ e. rw (e, ne-eqb b 4294967295 n, nodeOf)) (λ e. rw (e, nodeOf))
 
+    -- from a gate its two operands are followed
     pub follow-gate : Out p (C .X .done) → (a ≡ 4294967295 → ⊥) → below (C .X .g) (C .X .done) p ≡ a / 2 ∷ b / 2 ∷ []
     unfolding below operands pinOf
     follow-gate o n = rw (o, below, node ∙ as-gate (inl n), operands)
@@ -107,19 +114,25 @@ module _ (C : Context) {m : ℕ} {gates w : List ℕ} (R : Reads C m gates w) wh
     pub kth-past : (k : ℕ) → 2 ≤ k → m ≡ getD (below (C .X .g) (C .X .done) p) k m
     kth-past k l = sym (List·getD-eq-default (below (C .X .g) (C .X .done) p) m (omega (arith, two-most C p)))
 
+    -- a given or realised pin leads to none
     pub kth-done : (k : ℕ) → In p (C .X .done) → m ≡ getD (below (C .X .g) (C .X .done) p) k m
     kth-done k e = rw (follow-done e)
 
+    -- a leaf leads to none either
     pub kth-leaf : (k : ℕ) → Out p (C .X .done) → a ≡ 4294967295 → m ≡ getD (below (C .X .g) (C .X .done) p) k m
     kth-leaf k o e = rw (follow-leaf o e)
 
-    pub kth-first : (k q : ℕ) → Out p (C .X .done) → (a ≡ 4294967295 → ⊥) → k ≡ 0 → q ≡ pinOf a → q ≡ getD (below (C .X .g) (C .X .done) p) k m
+    -- a gate leads to its operand, which is a pin
+    pub kth-operand : (k q : ℕ) → k < 2 → Out p (C .X .done) → (a ≡ 4294967295 → ⊥) → q ≡ pinOf (getD gates (2 * p + k) 0) → (q ≡ getD (below (C .X .g) (C .X .done) p) k m) × (q ≡ m → ⊥)
     unfolding pinOf
-    kth-first k q o n z e = rw (z, follow-gate o n) e
-
-    pub kth-second : (k q : ℕ) → k < 2 → Out p (C .X .done) → (a ≡ 4294967295 → ⊥) → (k ≡ 0 → ⊥) → q ≡ pinOf b → q ≡ getD (below (C .X .g) (C .X .done) p) k m
-    unfolding pinOf
-    kth-second k q l o n z e = let one : k ≡ 1 = omega arith in rw (one, follow-gate o n) e
+    kth-operand k q l o n e =
+        let i = is k q l e in
+        (i, λ z. omega (arith, follow-pin C p q (rw i (in-getD (below (C .X .g) (C .X .done) p) k m (rw (follow-gate o n) l))), R .base .size))
+      where
+        is : (k q : ℕ) → k < 2 → q ≡ pinOf (getD gates (2 * p + k) 0) → q ≡ getD (below (C .X .g) (C .X .done) p) k m
+        is zero q l e = let z : 2 * p + 0 ≡ 2 * p = omega arith in rw (follow-gate o n) (rw z at e)
+        is (suc zero) q l e = rw (follow-gate o n) e
+        is (suc (suc k)) q l e = absurd (omega arith)
 
 -- the two pins followed from p, where the code has asked for them
 pub record Both (C : Context) (m p a b : ℕ) : Type 0 where
@@ -133,6 +146,7 @@ module _ (C : Context) {m : ℕ} {gates w : List ℕ} (R : Reads C m gates w) (p
   abbrev bs : List ℕ
   bs = below (C .X .g) (C .X .done) p
 
+  -- no first pin: nothing is followed
   pub none-of : a ≡ getD bs 0 m → a ≡ m → bs ≡ []
   none-of e z = nil bs (kth-none bs m 0 (λ x i. omega (arith, follow-pin C p x i, R .base .size)) (sym e ∙ z))
     where
@@ -140,6 +154,7 @@ module _ (C : Context) {m : ℕ} {gates w : List ℕ} (R : Reads C m gates w) (p
       nil [] h = refl
       nil (x ∷ xs) h = absurd (omega arith)
 
+  -- a first pin: there is a second, and these two are followed
   pub both-of : (b : ℕ) → a ≡ getD bs 0 m → (a ≡ m → ⊥) → b ≡ getD bs 1 m → Both C m p a b
   both-of b ea ne eb = record {
     is = is;

@@ -8,6 +8,7 @@ use lib.Seq.{drop-cons}
 use Rattle.columns.specs.Fields.{RANKED}
 use Rattle.stage_walk.specs.Stands.{ranked}
 
+-- the next entry of a ranked list, and what is left behind it
 pub ranked-cons : (m : ℕ) (w : List ℕ) (i e : ℕ) → i < e → e ≤ m → 16 * m ≤ length w → ranked m w i e ≡ getD w (RANKED * m + i) 0 ∷ ranked m w (i + 1) e
 unfolding ranked
 ranked-cons m w i e a b l =
@@ -15,6 +16,7 @@ ranked-cons m w i e a b l =
     let y : RANKED * m + (i + 1) ≡ suc (RANKED * m + i) = omega arith in
     rw (z, y, drop-cons w (RANKED * m + i) 0 (omega arith)) refl
 
+-- at its end nothing is left
 pub ranked-end : (m : ℕ) (w : List ℕ) (i e : ℕ) → e ≤ i → ranked m w i e ≡ []
 unfolding ranked
 ranked-end m w i e a = let z : e - i ≡ 0 = omega arith in rw z

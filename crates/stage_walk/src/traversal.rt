@@ -1,14 +1,18 @@
 // Rule 1. The deep recursion is a stack of pins and phases in the work area.
+use super::Next;
 use super::followed;
 use columns::LISTED;
 use columns::ORDER;
 use columns::PHASE;
 use columns::STACK;
 use columns::WAITING;
-use columns::get;
 use columns::is_in;
+use columns::number_at;
+use columns::pin_at;
 use columns::push;
+use columns::put_number;
 use columns::set_field;
+use graph::Pin;
 ghost use mathlib.Core.Path.{_≡_};
 ghost use mathlib.Core.Bool.{not, _&&_};
 ghost use Prim.Native.Nat.{_+_, _*_, _<_};
@@ -25,41 +29,38 @@ pub struct At {
 }
 
 // Pin p behind the order of n pins.
-fn list(work: &mut [u32], m: usize, n: usize, p: usize)
+fn list(work: &mut [u32], m: usize, n: usize, p: Pin)
     requires { ⌜ ORDER * m + n < length (now work) ⌝ }
-    requires { ⌜ LISTED * m + p < length (now work) ⌝ }
-    requires { ⌜ p < 4294967296 ⌝ }
-    ensures { λ _. ⌜ now (work .exit) ≡ set (set (now (work .entry)) (ORDER * m + n) p) (LISTED * m + p) 1 ⌝ }
+    requires { ⌜ LISTED * m + p .0 < length (now work) ⌝ }
+    ensures { λ _. ⌜ now (work .exit) ≡ set (set (now (work .entry)) (ORDER * m + n) (p .0)) (LISTED * m + p .0) 1 ⌝ }
 {
     push(work, m, n, ORDER, p);
     set_field(work, m, p, LISTED, 1);
 }
 
 // Pin q, to be visited, at place `at` of the stack.
-fn enter(work: &mut [u32], m: usize, at: usize, q: usize)
+fn enter(work: &mut [u32], m: usize, at: usize, q: Pin)
     requires { ⌜ PHASE * m + at < length (now work) ⌝ }
-    requires { ⌜ q < 4294967296 ⌝ }
-    ensures { λ _. ⌜ now (work .exit) ≡ set (set (now (work .entry)) (STACK * m + at) q) (PHASE * m + at) 0 ⌝ }
+    ensures { λ _. ⌜ now (work .exit) ≡ set (set (now (work .entry)) (STACK * m + at) (q .0)) (PHASE * m + at) 0 ⌝ }
 {
     push(work, m, at, STACK, q);
-    set_field(work, m, at, PHASE, 0);
+    put_number(work, m, at, PHASE, 0);
 }
 
 // The item at `top` goes to phase k, and pin q is put on it.
-fn descend(work: &mut [u32], m: usize, top: usize, k: usize, q: usize)
+fn descend(work: &mut [u32], m: usize, top: usize, k: usize, q: Pin)
     requires { ⌜ PHASE * m + (top + 1) < length (now work) ⌝ }
     requires { ⌜ k < 4294967296 ⌝ }
-    requires { ⌜ q < 4294967296 ⌝ }
-    ensures { λ _. ⌜ now (work .exit) ≡ set (set (set (now (work .entry)) (PHASE * m + top) k) (STACK * m + (top + 1)) q) (PHASE * m + (top + 1)) 0 ⌝ }
+    ensures { λ _. ⌜ now (work .exit) ≡ set (set (set (now (work .entry)) (PHASE * m + top) k) (STACK * m + (top + 1)) (q .0)) (PHASE * m + (top + 1)) 0 ⌝ }
 {
-    push(work, m, top, PHASE, k);
+    put_number(work, m, top, PHASE, k);
     enter(work, m, top + 1, q);
 }
 
 // Whether pin p is to be visited and is listed already.
-fn passed(work: &[u32], m: usize, p: usize, k: usize) -> bool
-    requires { ⌜ LISTED * m + p < length (now work) ⌝ }
-    ensures { λ b. ⌜ b ≡ eqb k 0 && not (eqb (getD (now (work .entry)) (LISTED * m + p) 0) 0) ⌝ }
+fn passed(work: &[u32], m: usize, p: Pin, k: usize) -> bool
+    requires { ⌜ LISTED * m + p .0 < length (now work) ⌝ }
+    ensures { λ b. ⌜ b ≡ eqb k 0 && not (eqb (getD (now (work .entry)) (LISTED * m + p .0) 0) 0) ⌝ }
 {
     if k != 0 {
         return false;
@@ -72,26 +73,30 @@ fn step(gates: &[u32], work: &mut [u32], m: usize, top: usize, n: usize) -> At
     requires { ⌜ Some (λ C. Going C m (now gates) (now work) (top + 1) n) ⌝ }
     ensures { λ a. ⌜ Every (λ C. Going C m (now (gates .entry)) (now (work .entry)) (top + 1) n) (λ C. Stepped C m (now (gates .entry)) (now (work .entry)) (top + 1) n (now (work .exit)) (a .depth) (a .listed)) ⌝ }
 {
-    let p = get(work, m, top, STACK);
-    let k = get(work, m, top, PHASE);
+    let p = pin_at(work, m, top, STACK);
+    let k = number_at(work, m, top, PHASE);
     if passed(work, m, p, k) {
         return At {
             depth: top,
             listed: n,
         };
     }
-    let q = followed(gates, work, m, p, k);
-    if q == m {
-        list(work, m, n, p);
-        return At {
-            depth: top,
-            listed: n + 1,
-        };
-    }
-    descend(work, m, top, k + 1, q);
-    At {
-        depth: top + 2,
-        listed: n,
+    let next = followed(gates, work, m, p, k);
+    match next {
+        Next::Nothing => {
+            list(work, m, n, p);
+            At {
+                depth: top,
+                listed: n + 1,
+            }
+        }
+        Next::To(q) => {
+            descend(work, m, top, k + 1, q);
+            At {
+                depth: top + 2,
+                listed: n,
+            }
+        }
     }
 }
 
@@ -111,9 +116,9 @@ fn run(gates: &[u32], work: &mut [u32], m: usize, items: usize, n: usize) -> usi
 }
 
 // Lists pin p after all below it. Returns how many pins are listed.
-fn visit(gates: &[u32], work: &mut [u32], m: usize, n: usize, p: usize) -> usize
-    requires { ⌜ Some (λ C. VisitAt C m (now gates) (now work) n p) ⌝ }
-    ensures { λ r. ⌜ Every (λ C. VisitAt C m (now (gates .entry)) (now (work .entry)) n p) (λ C. Visited C m (now (gates .entry)) (now (work .entry)) n p (now (work .exit)) r) ⌝ }
+fn visit(gates: &[u32], work: &mut [u32], m: usize, n: usize, p: Pin) -> usize
+    requires { ⌜ Some (λ C. VisitAt C m (now gates) (now work) n (p .0)) ⌝ }
+    ensures { λ r. ⌜ Every (λ C. VisitAt C m (now (gates .entry)) (now (work .entry)) n (p .0)) (λ C. Visited C m (now (gates .entry)) (now (work .entry)) n (p .0) (now (work .exit)) r) ⌝ }
 {
     enter(work, m, 0, p);
     run(gates, work, m, 1, n)
@@ -127,7 +132,7 @@ pub fn traverse(gates: &[u32], work: &mut [u32], m: usize, n: usize) -> usize
     let mut listed = 0;
     let mut i = 0;
     while i < n {
-        let p = get(work, m, i, WAITING);
+        let p = pin_at(work, m, i, WAITING);
         listed = visit(gates, work, m, listed, p);
         i += 1;
     }

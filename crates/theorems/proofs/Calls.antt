@@ -43,6 +43,7 @@ checked C = refusalOf (C .height) (rules.sizesRight (C .height) (C .gates) (C .r
 abbrev pub input : (C : Call) → checked C ≡ 0 → Input
 input C e = record { rule = C .rule; K = C .height; sized = rules.sizesRight (C .height) (C .gates) (C .records) (C .entry); gates = C .gates; given = C .given; records = C .records; passes = e }
 
+-- the rooms that a call lends
 abbrev pub roomsOf : Call → ℕ
 roomsOf C = rooms (C .height) (length (C .entry .plan))
 
@@ -53,6 +54,7 @@ pub record Told (C : Call) (b : rules.Answer) : Type 0 where
   pub words : C .exit .words ≡ laidOver (padded (wordLimit (C .height)) empty (rules.wordsOf (rules.stagesOf b))) (C .entry .words)
   pub counts : C .exit .counts ≡ laidOver (padded (roomsOf C) 0 (rules.countsOf (rules.stagesOf b))) (C .entry .counts)
 
+-- a call that the checks let pass tells the rules' answer
 pub answered : (C : Call) (e : checked C ≡ 0) → Told C (built (input C e) (roomsOf C))
 unfolding outcome areas rules.placer rules.answerOf rules.areasAfter
 answered C e =

@@ -23,6 +23,7 @@ use Rattle.theorems.proofs.Passing.{tall, small, valid, named, counted}
 abbrev pub Loaded : Input → ℕ → Type 0
 Loaded I n = In n (I .given) ⊎ (getD (graph I) n leaf ≡ leaf)
 
+-- every stage of a whole plan is right for what the first stage loads
 pub right : (I : Input) (rooms : ℕ) (ss : List Stage) → built I rooms ≡ whole ss → (bits : List ℕ) → Right (I .K) (graph I) (I .given) bits (firstLoad (graph I) (I .given) bits) (Loaded I) ss
 right I rooms ss e bits = whole-right (I .rule) (I .K) (graph I) (valid I) (tall I) (small I) (I .given) bits (groups I) (named I) rooms ss e
 
@@ -31,6 +32,7 @@ module _ (I : Input) (L : ℕ) (ss : List Stage) (e : built I (rooms (I .K) L) �
   pub few : length ss ≤ rooms (I .K) L
   few = whole-sizes (I .rule) (I .K) (graph I) (valid I) (tall I) (small I) (I .given) [] (groups I) (named I) (rooms (I .K) L) ss e .few
 
+  -- the cells of the whole plan fit in a plan area of L numbers
   pub cells-fit : length (cellsOf ss) ≤ L
   unfolding rooms
   cells-fit =

@@ -18,19 +18,24 @@ module _ (I : Input) where
   all : Passed (I .K) (I .sized) (I .gates) (I .given) (I .records)
   all = passed (I .K) (I .sized) (I .gates) (I .given) (I .records) (I .passes)
 
+  -- the height is at least 6
   pub tall : 6 ≤ I .K
   unfolding isHeight
   tall = leb-true 6 (I .K) (and-true (leb 6 (I .K)) (leb (I .K) 13) (all .height) .0)
 
+  -- the graph has its operands inside and no loop
   pub valid : Valid (graph I)
   valid = all .valid
 
+  -- the graph has one node for each pin
   pub counted : length (graph I) ≡ pinCount (I .gates)
   counted = all .pins
 
+  -- the graph's pins are below the empty mark
   pub small : length (graph I) ≤ empty
   unfolding empty
   small = omega (arith, all .few, all .pins)
 
+  -- every endpoint is a pin of the graph
   pub named : (q : ℕ) → Ends q (groups I) → q < length (graph I)
   named q i = omega (arith, all .named q i, all .pins)

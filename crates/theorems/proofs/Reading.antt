@@ -61,6 +61,7 @@ length-counts (s ∷ ss) = ap suc (length-counts ss)
 count-at : (ss : List Stage) (more : List ℕ) (i : ℕ) → i ≤ length ss → take i (countsOf ss ++ more) ≡ take i (countsOf ss)
 count-at ss more i h = take-append-le i (countsOf ss) more (rw length-counts h)
 
+-- a cell that holds a pin is filled
 pub filled-pin : (q : ℕ) → q < empty → filled q ≡ true
 unfolding filled
 filled-pin q h = split (eqb q empty) (λ e. absurd (omega (arith, eqb-true q empty e))) (λ e. rw e)

@@ -22,8 +22,10 @@ rooms-enough I rooms h n k e = demand.rooms-enough (I .rule) (I .K) (graph I) (v
 pub refused-where : (I : Input) (rooms n k : ℕ) → built I rooms ≡ refusal n k → ((n ≡ 6) × (k ≡ 0) × ReservationOver (I .K) (groups I)) ⊎ Refused (I .rule) (I .K) (graph I) (I .given) (groups I) rooms n k
 refused-where I rooms n k e = build-refused (I .rule) (I .K) (graph I) (I .given) (groups I) rooms n k e
 
+-- where the reservation is over the build is refused with 6
 pub six-given : (I : Input) (rooms : ℕ) → ReservationOver (I .K) (groups I) → built I rooms ≡ refusal 6 0
 six-given I rooms h = six-build (I .rule) (I .K) (graph I) (I .given) (groups I) rooms h
 
+-- where a stage runs out of capacity the build is refused with its number, at that stage
 pub refusal-given : (I : Input) (rooms n k : ℕ) → Refused (I .rule) (I .K) (graph I) (I .given) (groups I) rooms n k → built I rooms ≡ refusal n k
 refusal-given I rooms n k h = refused-build (I .rule) (I .K) (graph I) (I .given) (groups I) rooms n k h

@@ -26,6 +26,7 @@ module _ (K : ℕ) (gates given records : List ℕ) (a : Areas) where
   abbrev Better : Type 0
   Better = (placer neededRuns K gates given records a .reply .number ≡ 0) × (placer neededRuns K gates given records a .reply .stages ≤ placer everyRun K gates given records a .reply .stages)
 
+  -- a call that the old rule answers with 0 the new one answers with 0, with no more stages
   pub call-never-costs : placer everyRun K gates given records a .reply .number ≡ 0 → Better
   unfolding placer answerOf reply refuse refuseChecked
   call-never-costs z = checked (refusalOf K (sizesRight K gates records a) gates given records) refl

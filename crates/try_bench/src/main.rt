@@ -1,10 +1,9 @@
 // The scope document's bench examples marked "run only", and the first one: the builds' answers and what stands in their areas.
+use graph::EMPTY;
 use libc::STDOUT_FILENO;
 use placer::Answer;
 use placer::build_by;
 use stage_runs::WordRule;
-
-const EMPTY: u32 = 4294967295;
 
 fn main() {
     first(WordRule::EveryRun);

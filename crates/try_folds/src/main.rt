@@ -5,6 +5,7 @@ mod values;
 
 use bits::set_bits;
 use fold::fold;
+use graph::EMPTY;
 use libc::STDIN_FILENO;
 use libc::STDOUT_FILENO;
 use try_cases::add;
@@ -19,8 +20,6 @@ use try_cases::text::number;
 use try_cases::text::piece;
 use try_cases::text::put;
 use values::set_values;
-
-const EMPTY: u32 = 4294967295;
 
 // What the result holds before a fold.
 const OLD: u32 = 7;

@@ -67,6 +67,7 @@ small : length g ≤ empty
 unfolding empty
 small = omega arith
 
+-- the example's context at a height
 pub example : (K : ℕ) → 6 ≤ K → K ≤ 13 → Context
 unfolding setting
 example K low high = record {
@@ -107,6 +108,7 @@ module _ (K : ℕ) (low : 6 ≤ K) (high : K ≤ 13) where
   unfolding example setting traverse thread visit below operands pinOf mem levels over col begun
   levelled = record { levels = refl }
 
+  -- in an empty stage and a begun area the trial may be made
   pub trial : (w : ℕ) (pl u : List ℕ) → w ≡ rowAt K 2 → pl ≡ replicate (2 ^ (K + 1)) empty → u ≡ begun 640 → Trial C 8 2 w 7 gates pl u
   unfolding example setting traverse thread visit below operands pinOf mem levels over levelAt blank
   trial w pl u row e d = record {
@@ -129,6 +131,7 @@ begins {K} Z w pl u r e d =
       at = trial K (t .low) (t .high) w pl u (r ∙ rw l (orZero-true (rowAt K 2))) (e ∙ rw (Z .stage) refl) (d ∙ rw (Z .work) refl);
     }
 
+-- the size of a stage, as the program gets it, and its bound
 pub stage-room : (K size : ℕ) → isHeight K ≡ true → size ≡ orZero (isHeight K) (stageSize K) → (size ≡ stageSize K) × (size ≤ 16384)
 stage-room K size h e =
     let s : size ≡ stageSize K = e ∙ rw h (orZero-true (stageSize K)) in

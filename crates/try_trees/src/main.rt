@@ -8,6 +8,8 @@ use columns::PINS;
 use columns::fill_part;
 use columns::set_field;
 use columns::tail_get;
+use graph::EMPTY;
+use graph::Pin;
 use io::print_decimal;
 use io::write_all;
 use stage_tree::first_empty;
@@ -20,26 +22,24 @@ ghost use Rattle.columns.specs.Area.{Room};
 ghost use Rattle.rules.specs.Inside.Some.{Some};
 ghost use Rattle.try_trees.specs.Example.{Trial, Same, SizedFor, begun};
 
-const EMPTY: u32 = 4294967295;
-
 const OUT: i32 = 1;
 
 // A filled cell's position and pin.
-fn list_cell(p: usize, n: u32) {
-    if n == EMPTY {
+fn list_cell(c: usize, v: u32) {
+    if v == EMPTY {
         return;
     }
-    print_decimal(OUT, p as u64);
+    print_decimal(OUT, c as u64);
     write_all(OUT, b" ");
-    print_decimal(OUT, n as u64);
+    print_decimal(OUT, v as u64);
     write_all(OUT, b"\n");
 }
 
 fn list_cells(stage: &[u32]) {
-    let mut p = 0;
-    while p < stage.len() {
-        list_cell(p, stage[p]);
-        p += 1;
+    let mut c = 0;
+    while c < stage.len() {
+        list_cell(c, stage[c]);
+        c += 1;
     }
 }
 
@@ -60,7 +60,7 @@ fn list(stage: &[u32], work: &[u32], m: usize)
     list_counts(work, m);
 }
 
-// Pin n of level h into the lowest empty cell of its level, and back.
+// Pin p of level h into the lowest empty cell of its level, and back.
 fn there_and_back(
     gates: &[u32],
     stage: &mut [u32],
@@ -68,19 +68,19 @@ fn there_and_back(
     m: usize,
     h: usize,
     w: usize,
-    n: usize,
+    p: Pin,
 )
-    requires { ⌜ Some (λ C. Trial C m h w n (now gates) (now stage) (now work)) ⌝ }
+    requires { ⌜ Some (λ C. Trial C m h w (p .0) (now gates) (now stage) (now work)) ⌝ }
     ensures { λ _. ⌜ Same (now (stage .entry)) (now (work .entry)) (now (stage .exit)) (now (work .exit)) ⌝ }
 {
     let end = 2 * w;
-    let p = first_empty(stage, w, end);
-    if p >= end {
+    let c = first_empty(stage, w, end);
+    if c >= end {
         return;
     }
-    place_bit(gates, stage, work, m, h, w, p, n);
+    place_bit(gates, stage, work, m, h, w, c, p);
     list(stage, work, m);
-    purge_bit(stage, work, m, h, w, p);
+    purge_bit(stage, work, m, h, w, c);
     list(stage, work, m);
 }
 
@@ -90,14 +90,14 @@ fn begin(work: &mut [u32])
     ensures { λ _. ⌜ now (work .exit) ≡ begun (length (now (work .entry))) ⌝ }
 {
     fill_part(work, 0);
-    set_field(work, 8, 5, LEVEL, 1);
-    set_field(work, 8, 6, LEVEL, 1);
-    set_field(work, 8, 7, LEVEL, 2);
+    set_field(work, 8, Pin(5), LEVEL, 1);
+    set_field(work, 8, Pin(6), LEVEL, 1);
+    set_field(work, 8, Pin(7), LEVEL, 2);
 }
 
 // Pins 1 to 4 are leaves, 5 = (2, 4), 6 = (6, 9), 7 = (10, 12).
-fn try_example(stage: &mut [u32], work: &mut [u32], k: u32)
-    requires { ⌜ SizedFor k (now stage) (now work) ⌝ }
+fn try_example(stage: &mut [u32], work: &mut [u32], height: Height)
+    requires { ⌜ SizedFor (height .0) (now stage) (now work) ⌝ }
 {
     let gates = [
         EMPTY,
@@ -119,8 +119,8 @@ fn try_example(stage: &mut [u32], work: &mut [u32], k: u32)
     ];
     fill_part(stage, EMPTY);
     begin(work);
-    let w = Height(k).row_at(2);
-    there_and_back(&gates, stage, work, 8, 2, w, 7);
+    let w = height.row_at(2);
+    there_and_back(&gates, stage, work, 8, 2, w, Pin(7));
 }
 
 // For a stage of any height.
@@ -134,11 +134,12 @@ fn show(k: u32) {
     if is_height(k) {
         let mut room = largest();
         let mut work = [0u32; 640];
-        let size = Height(k).stage_size();
+        let height = Height(k);
+        let size = height.stage_size();
         write_all(OUT, b"height ");
         print_decimal(OUT, k as u64);
         write_all(OUT, b"\n");
-        try_example(&mut room[0..size], &mut work, k);
+        try_example(&mut room[0..size], &mut work, height);
     }
 }
 

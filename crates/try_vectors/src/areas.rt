@@ -1,4 +1,5 @@
 // What is handed over and lent in a build and a merge alike.
+pub use graph::EMPTY;
 use try_cases::front;
 use try_cases::item;
 use try_cases::more;
@@ -7,8 +8,6 @@ use try_cases::number;
 use try_cases::part;
 use try_cases::set;
 use try_cases::tell;
-
-pub const EMPTY: u32 = 4294967295;
 
 // What the areas hold before.
 pub const OLD: u32 = 7;

@@ -20,6 +20,7 @@ every-at f [] e i h = absurd (omega arith)
 every-at f (x ∷ xs) e zero h = split (f x) (λ d. d) (λ d. true-false (rw (d, every) at e) refl)
 every-at f (x ∷ xs) e (suc i) h = split (f x) (λ d. every-at f xs (rw (d, every) at e) i (omega arith)) (λ d. true-false (rw (d, every) at e) refl)
 
+-- pins that pass the check are below n
 pub pins-right : (n : ℕ) (xs : List ℕ) → givenRight n xs ≡ true → (i : ℕ) → i < length xs → getD xs i 0 < n
 unfolding givenRight
 pins-right n xs e i h = ltb-true (getD xs i 0) n (every-at (λ p. ltb p n) xs e i h)
@@ -40,6 +41,7 @@ inside n q (gate x y ∷ g) e zero a b d =
 inside n q (gate x y ∷ g) e (suc i) a b d =
     inside n (suc q) g (and-true (ltb 0 q && ltb 0 (pinOf x) && ltb (pinOf x) n && ltb 0 (pinOf y) && ltb (pinOf y) n) (nodesRight n (suc q) g) e .1) i a b d
 
+-- a graph has one node for each two numbers
 pub length-graph : (m : ℕ) (gates : List ℕ) → length gates ≡ 2 * m → length (graphOf gates) ≡ m
 unfolding graphOf
 length-graph zero [] e = refl
@@ -49,11 +51,13 @@ length-graph (suc m) [] e = absurd (omega arith)
 length-graph (suc m) (a ∷ []) e = absurd (omega arith)
 length-graph (suc m) (a ∷ b ∷ xs) e = ap suc (length-graph m xs (omega arith))
 
+-- a graph that the checks let pass
 pub record Right (m : ℕ) (gates : List ℕ) : Type 0 where
   pub pair : length gates ≡ 2 * m
   pub small : m ≤ 65536
   pub valid : Valid (graphOf gates)
 
+-- what the checks say of it
 pub graph-right : (gates : List ℕ) → graphRight gates ≡ true → loopsRight gates ≡ true → Right (pinCount gates) gates
 unfolding graphRight pinCount loopsRight
 graph-right gates e f =

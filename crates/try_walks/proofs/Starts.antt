@@ -35,9 +35,11 @@ use Rattle.try_walks.proofs.Rights.{pins-right, length-graph, Right, gr
 -- ---- given pins
 
 module _ {m : ℕ} {given w₀ : List ℕ} (A : GiveAt m given w₀) where
+  -- before the first given pin the area is as it was
   pub given-none : Given m w₀ w₀
   given-none = record { frame = frame-none; done = []; marks = marks-none (A .zeros) }
 
+  -- one more given pin is marked
   pub given-more : {w : List ℕ} → Given m w₀ w → (p : ℕ) (w′ : List ℕ) → p < m → w′ ≡ set w (DONE * m + p) 1 → Given m w₀ w′
   given-more {w} U p w′ h e = rw e (record {
     frame = frame-then (U .frame) (frame-set DONE p 1 h (omega arith) refl);
@@ -48,18 +50,22 @@ module _ {m : ℕ} {given w₀ : List ℕ} (A : GiveAt m given w₀) where
 -- ---- waiting pins
 
 module _ {m : ℕ} {waiting w₀ : List ℕ} (A : WaitAt m waiting w₀) where
+  -- before the first waiting pin none waits
   pub waiting-none : Waiting m w₀ w₀ 0
   waiting-none = record { frame = frame-none; pins = []; placed = placed-none (A .zeros) }
 
   module _ {w : List ℕ} {n : ℕ} (U : Waiting m w₀ w n) where
+    -- the next waiting pin may be listed
     pub waiting-at : (p : ℕ) → p < m → WaitOne m n p w
     waiting-at p h = wait-at (U .placed) (frame-room (U .frame) (A .area)) h
 
+    -- one more waiting pin is listed
     pub waiting-more : (p : ℕ) {w′ : List ℕ} {r : ℕ} → Waits m n p w w′ r → Waiting m w₀ w′ r
     waiting-more p s = record { frame = frame-then (U .frame) (s .frame); pins = insert p (list WAITING m n w); placed = s .now }
 
 -- ---- the beginning
 
+-- there are few enough pins, and the area has room
 pub small-pins : {m : ℕ} {gates given waiting w : List ℕ} → StartAt m gates given waiting w → (m ≤ 65536) × (16 * m + 512 ≤ length w)
 small-pins {gates = gates} A = rw (A .pins) (graph-right gates (A .show .graph) (A .show .free) .small, A .show .room)
 
@@ -76,10 +82,12 @@ module _ {m : ℕ} {gates given waiting w : List ℕ} (A : StartAt m gates given
   zero-at : (j : ℕ) → j < 16 * m → getD v j 0 ≡ 0
   zero-at j h = rw ev (at-laid (16 * m) 0 w j h)
 
+  -- in a cleared area the given pins may be marked
   pub give-at : GiveAt m given v
   give-at = record { area = area; pins = rw (A .pins) (pins-right _ given (A .show .gives)); zeros = λ p h. zero-at (DONE * m + p) (omega arith) }
 
   module _ (u : List ℕ) (G : Given m v u) where
+    -- with the given pins marked the waiting pins may be listed
     pub list-at : WaitAt m waiting u
     list-at = record {
       area = frame-room (G .frame) area;
@@ -87,6 +95,7 @@ module _ {m : ℕ} {gates given waiting w : List ℕ} (A : StartAt m gates given
       zeros = λ p h. G .frame .cell PLACE refl (omega arith) p h ∙ zero-at (PLACE * m + p) (omega arith);
     }
 
+    -- with both done a stage may start
     pub started : (w′ : List ℕ) (n : ℕ) → Waiting m u w′ n → Some (λ C. Started C m n gates w′)
     unfolding context setting
     started w′ n W = record {
@@ -131,6 +140,7 @@ no-cells : (K x : ℕ) → cellsHolding K [] x ≡ 0
 unfolding cellsHolding count
 no-cells K x = rw take-nil
 
+-- with nothing placed the needed pins may be listed
 pub needed-at : {C : Context} {m n k top : ℕ} {gates w w′ : List ℕ} → Started C m n gates w → Prepared C m n gates w w′ k top → NeededAt C [] m n k gates w′
 needed-at {C} S P = step-needed (P .set) []
     (λ x h. P .frame .cell CELLS refl (omega arith) x h ∙ S .cells x h ∙ sym (no-cells (C .X .K) x))

@@ -6,10 +6,10 @@ use columns::ORDER;
 use columns::RANKED;
 use columns::REVERSE;
 use columns::clear;
-use columns::get;
+use columns::number_at;
 use columns::set_field;
 use columns::wait;
-use columns::wide;
+use graph::Pin;
 use io::print_decimal;
 use io::write_all;
 use stage_needed::needed;
@@ -28,7 +28,7 @@ fn row(name: &[u8], work: &[u32], m: usize, f: usize, n: usize)
     let mut i = 0;
     while i < n {
         write_all(1, b" ");
-        print_decimal(1, get(work, m, i, f) as u64);
+        print_decimal(1, number_at(work, m, i, f) as u64);
         i += 1;
     }
     write_all(1, b"\n");
@@ -41,7 +41,7 @@ fn give(work: &mut [u32], m: usize, given: &[u32])
 {
     let mut i = 0;
     while i < given.len() {
-        set_field(work, m, wide(given[i]), DONE, 1);
+        set_field(work, m, Pin(given[i]), DONE, 1);
         i += 1;
     }
 }
@@ -54,7 +54,7 @@ fn list(work: &mut [u32], m: usize, waiting: &[u32]) -> usize
     let mut n = 0;
     let mut i = 0;
     while i < waiting.len() {
-        n = wait(work, m, n, wide(waiting[i]));
+        n = wait(work, m, n, Pin(waiting[i]));
         i += 1;
     }
     n

@@ -15,10 +15,12 @@ use Rattle.rules.specs.Job.{bitsOf, numberOf, cut, got, field}
 use Rattle.rules.proofs.Job.Bits.{Bits, bits-gather, bits-take, bits-drop, number-below, gather-width}
 use Rattle.bits.specs.Fields.{bitsIn, FieldAt, FieldIs}
 
+-- what the bytes hold are bits, 0 or 1
 pub bits-bits : (xs : List ℕ) → Bits (bitsIn xs)
 unfolding bitsIn
 bits-bits xs = bits-gather 8 xs
 
+-- every byte has eight bits
 pub bits-length : (xs : List ℕ) → length (bitsIn xs) ≡ 8 * length xs
 unfolding bitsIn
 bits-length xs = gather-width 8 xs
@@ -62,11 +64,13 @@ module _ {at w : ℕ} {xs : List ℕ} (A : FieldAt at w xs) where
       let p : 2 ^ i ≤ 2 ^ 17 = pow-mono {i = i} {j = 17} (let s = A .short in omega arith) in
       record { upto = h; is = e; below = b; small = omega arith }
 
+  -- before the first bit the number is 0
   pub summed-none : Summed at w xs 0 0
   unfolding numberOf
   summed-none = summed 0 0 (omega arith) refl
 
   module _ {i n : ℕ} (S : Summed at w xs i n) where
+    -- the next bit doubles the number and is added to it
     pub summed-more : i < w → (b : ℕ) → b ≡ getD (bitsIn xs) (at + i) 0 → Summed at w xs (i + 1) (2 * n + b)
     summed-more h b e =
         let bs = drop at (bitsIn xs) in
@@ -74,6 +78,7 @@ module _ {at w : ℕ} {xs : List ℕ} (A : FieldAt at w xs) where
         let t : take (i + 1) bs ≡ take i bs ++ (getD bs i 0 ∷ []) = rw (add-one i) (take-suc bs i 0 (omega (arith, length-drop at (bitsIn xs), bits-length xs))) in
         summed (i + 1) (2 * n + b) (omega arith) (rw (t, number-end (take i bs) (getD bs i 0) 0, ← S .is, e, getD-drop at (bitsIn xs) i 0))
 
+    -- once all w bits are read the number is the field's
     pub summed-done : w ≤ i → FieldIs at w xs n
     summed-done h = let e : i ≡ w = let u = S .upto in omega arith in record { is = rw e at (S .is); below = rw e at (S .below) }
 
@@ -85,6 +90,7 @@ field-there at w xs n F h =
     let t : leb w (length bs) ≡ true = le-leb w (length bs) (omega (arith, length-drop at (bitsIn xs), bits-length xs)) in
     rw (t, field, ← F .is, drop-drop w at (bitsIn xs))
 
+-- a field that reaches past the last byte is cut
 pub field-lost : (at w : ℕ) (xs : List ℕ) → 8 * length xs - at < w → field w (drop at (bitsIn xs)) ≡ cut
 unfolding field
 field-lost at w xs h =

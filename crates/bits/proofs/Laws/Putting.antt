@@ -14,6 +14,7 @@ use Rattle.bits.specs.Fields.{bitsIn}
 use Rattle.bits.specs.Putting.{BitAt, WithBit, Put}
 use Rattle.bits.proofs.Laws.Fields.{bits-length}
 
+-- bits put, and more put right behind them, are one longer list put
 pub sets-append : (a : List ℕ) (s : ℕ) (xs ys : List ℕ) → sets (sets a s xs) (s + length xs) ys ≡ sets a s (xs ++ ys)
 sets-append a s [] ys = rw (add-zero s)
 sets-append a s (x ∷ xs) ys = let e : s + suc (length xs) ≡ suc s + length xs = omega arith in rw e (sets-append (set a s x) (suc s) xs ys)
@@ -63,6 +64,7 @@ product zero p h k = omega arith
 product (suc zero) p h k = omega arith
 product (suc (suc b)) p h k = absurd (omega arith)
 
+-- what changing bit i adds and takes away, and that no step leaves a byte's range
 pub record Weighed (x i b p : ℕ) : Type 0 where
   pub some : 0 < p
   pub new : b * p ≤ 128
@@ -78,9 +80,11 @@ weighed x i b h k l =
     record { some = pow-pos (7 - i); new = product b p l light; old = product (x / p % 2) p (omega arith) light; less = omega arith; is = omega arith }
 
 module _ {x i b p : ℕ} (A : BitAt x i b) (e : p ≡ 2 ^ (7 - i)) where
+  -- the weight of place i is the power of two that the code shifts to
   pub weigh : Weighed x i b p
   weigh = rw e (weighed x i b (A .byte) (A .inside) (A .bit))
 
+  -- the byte that the code computes has the new bit in place i, the others as they were
   pub with-bit : WithBit x i b (x + b * p - x / p % 2 * p)
   with-bit =
       let bs = set (bitsOf 8 x) i b in
@@ -104,9 +108,11 @@ set-byte (x ∷ xs) (suc q) i b y h k e =
     let d : 8 * suc q + i ≡ length (bitsOf 8 x) + (8 * q + i) = omega (arith, width 8 x) in
     rw (d, seam (bitsOf 8 x) (gather (bitsOf 8) xs) (8 * q + i) b) (ap (λ (r : List ℕ). bitsOf 8 x ++ r) (set-byte xs q i b y (omega arith) k e))
 
+-- a byte stored with another bit is that one bit stored among all bits
 pub bit-put : (xs : List ℕ) (at b y : ℕ) → at / 8 < length xs → WithBit (getD xs (at / 8) 0) (at % 8) b y → bitsIn (set xs (at / 8) y) ≡ set (bitsIn xs) at b
 bit-put xs at b y h W = let e : 8 * (at / 8) + at % 8 ≡ at = omega arith in rw e at (set-byte xs (at / 8) (at % 8) b y h (omega arith) (W .is))
 
+-- a bit past the last byte is put nowhere
 pub bit-past : (xs : List ℕ) (at b : ℕ) → length xs ≤ at / 8 → bitsIn xs ≡ set (bitsIn xs) at b
 bit-past xs at b h = sym (set-out (bitsIn xs) at b (omega (arith, bits-length xs)))
 
@@ -118,45 +124,55 @@ pub record Left (whole rest xs xs′ : List ℕ) (at at′ : ℕ) : Type 0 where
   pub is : sets (bitsIn xs′) at′ rest ≡ sets (bitsIn xs) at whole
   pub ends : at′ + length rest ≡ at + length whole
 
+-- at the start all is left to put
 pub left-all : {whole xs : List ℕ} {at : ℕ} → Left whole whole xs xs at at
 left-all = record { len = refl; is = refl; ends = refl }
 
 module _ {whole rest xs xs₁ : List ℕ} {at at₁ : ℕ} where
+  -- one bit put, the others are left
   pub left-bit : {b : ℕ} {xs₂ : List ℕ} → Left whole (b ∷ rest) xs xs₁ at at₁ → bitsIn xs₂ ≡ set (bitsIn xs₁) at₁ b → Left whole rest xs xs₂ at (at₁ + 1)
   left-bit {b} {xs₂} L e =
       let l : length xs₂ ≡ length xs₁ = omega (arith, bits-length xs₂, bits-length xs₁, ap length e, length-set (bitsIn xs₁) at₁ b) in
       let s : at₁ + 1 ≡ suc at₁ = omega arith in
       record { len = l ∙ L .len; is = rw (e, s) (L .is); ends = omega (arith, L .ends) }
 
+  -- some bits put, those behind them are left
   pub left-step : {bs xs₂ : List ℕ} {at₂ : ℕ} → Left whole (bs ++ rest) xs xs₁ at at₁ → Put bs xs₁ xs₂ at₁ at₂ → Left whole rest xs xs₂ at at₂
   left-step {bs} L P = record { len = P .len ∙ L .len; is = rw (P .is, P .behind, sets-append (bitsIn xs₁) at₁ bs rest) (L .is); ends = omega (arith, L .ends, P .behind, length-append bs rest) }
 
+-- when nothing is left all bits stand
 pub left-none : {whole xs xs₁ : List ℕ} {at at₁ : ℕ} → Left whole [] xs xs₁ at at₁ → Put whole xs xs₁ at at₁
 left-none L = record { len = L .len; is = L .is; behind = omega (arith, L .ends) }
 
+-- one list of bits behind the other is both put
 pub put-then : {bs cs xs xs₁ xs₂ : List ℕ} {at at₁ at₂ : ℕ} → Put bs xs xs₁ at at₁ → Put cs xs₁ xs₂ at₁ at₂ → Put (bs ++ cs) xs xs₂ at at₂
 put-then {bs} {cs} {xs} {xs₁} {xs₂} {at} P Q = record { len = Q .len ∙ P .len; is = rw (Q .is, P .is, P .behind) (sets-append (bitsIn xs) at bs cs); behind = omega (arith, P .behind, Q .behind, length-append bs cs) }
 
 -- ---- a field, bit by bit
 
+-- a field while it is put: so many of its low bits are left
 pub record Going (n w left from at : ℕ) (xs xs′ : List ℕ) : Type 0 where
   pub upto : left ≤ w
   pub here : at + left ≡ from + w
   pub rest : Left (bitsOf w n) (bitsOf left n) xs xs′ from at
 
+-- at the start all bits of the field are left
 pub going-all : {n w from : ℕ} {xs : List ℕ} → Going n w w from from xs xs
 going-all = record { upto = omega arith; here = refl; rest = left-all }
 
+-- the highest bit that is left is put next
 pub going-bit : {n w left from at : ℕ} {xs xs₁ xs₂ : List ℕ} → 0 < left → Going n w left from at xs xs₁ → bitsIn xs₂ ≡ set (bitsIn xs₁) at (n / 2 ^ (left - 1) % 2) → Going n w (left - 1) from (at + 1) xs xs₂
 unfolding bitsOf
 going-bit {left = zero} h G e = absurd (omega arith)
 going-bit {left = suc left} h G e = let s : suc left - 1 ≡ left = omega arith in rw s (record { upto = omega (arith, G .upto); here = omega (arith, G .here); rest = left-bit (G .rest) (rw s at e) })
 
+-- when no bit is left the field stands
 pub going-none : {n w left from at : ℕ} {xs xs₁ : List ℕ} → left ≤ 0 → Going n w left from at xs xs₁ → Put (bitsOf w n) xs xs₁ from at
 unfolding bitsOf
 going-none {left = zero} h G = left-none (G .rest)
 going-none {left = suc left} h G = absurd (omega arith)
 
+-- a shifted 1 is the weight of place i, within 32 bits
 pub shifted : (i : ℕ) → i < 8 → 1 * 2 ^ (7 - i) % 2 ^ 32 ≡ 2 ^ (7 - i)
 shifted i h = let l : 2 ^ (7 - i) ≤ 2 ^ 7 = pow-mono {i = 7 - i} {j = 7} (omega arith) in let small : 2 ^ (7 - i) < 2 ^ 32 = omega arith in omega (arith, mod-eq-of-lt small)
 

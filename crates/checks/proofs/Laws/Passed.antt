@@ -8,23 +8,22 @@ use native.Mathlib.Omega.{arith}
 use lib.Dec.{leb, ltb, eqb}
 use lib.ListN.{length, getD, drop}
 use borrow.Author.Tests.{leb-true, ltb-true, eqb-true}
+use Rattle.rules.proofs.Records.{groups-of}
 use Rattle.checks.specs.Passed.{Passed, Below}
-use Rattle.rules.specs.Lists.{every, Found, nothing, found, In}
+use Rattle.rules.specs.Lists.{every, In}
 use Rattle.rules.specs.Cells.{isHeight}
 use Rattle.rules.specs.Graph.{Node, leaf, gate, pinOf, operands, graphOf, pinCount, below}
-use Rattle.rules.specs.Loops.{loopPin, isNothing, loopless, Loop, Valid}
 use Rattle.rules.specs.Records.{Group, Groups?, unreadable, groups, sizeOf, groupAt, wholeAt, andThen, read, endpointsOf, allNamed, groupsOf, Ends, first, later}
-use Rattle.rules.specs.Checks.{nodesRight, graphRight, loopsRight, pinFound, groupsRight, recordsRight, givenRight, refusalOf}
+use Rattle.rules.specs.Checks.{nodesRight, graphRight, loopsRight, groupsRight, recordsRight, givenRight, refusalOf}
 use Rattle.rules.proofs.Lists.Members.{every-in, split, and-true, true-false, in-getD, in-cons, in-nil}
 use Rattle.rules.proofs.Walk.Reverse.{below-in}
-use Rattle.rules.proofs.Loops.{Answered, none, least, loop-answered}
 use Rattle.records.specs.Values.{sizeAt, endpointAt}
 use Rattle.graph.proofs.Gates.{graph-length}
 use Rattle.graph_loops.specs.Marks.{Inside}
-use Rattle.graph_loops.proofs.Laws.{loop-user}
 use Rattle.records.proofs.Reading.{read-step, read-end, read-cut, size-endpoints, endpoint-is}
 use Rattle.checks.proofs.Laws.Refusing.{refusal-1, refusal-2, refusal-3, refusal-23, refusal-4, refusal-5}
 
+-- a gate that passes check 3 has pins above 0 and below n, and the gates behind it pass
 pub gate-below : (n p a b : ℕ) (g : List Node) → nodesRight n p (gate a b ∷ g) ≡ true → Below n a b × (nodesRight n (suc p) g ≡ true)
 unfolding nodesRight
 gate-below n p a b g e =
@@ -38,6 +37,7 @@ gate-below n p a b g e =
 same-gate : {a b c d : ℕ} → gate a b ≡ gate c d → (a ≡ c) × (b ≡ d)
 same-gate e = (cc, cc)
 
+-- so has every gate of a list that passes check 3
 pub gates-below : (n q : ℕ) (g : List Node) → nodesRight n q g ≡ true → (p a b : ℕ) → getD g p leaf ≡ gate a b → Below n a b
 unfolding nodesRight
 gates-below n q [] r p a b e = absurd (let z : _≡_ {A = ℕ} 0 1 = cc in omega arith)
@@ -57,10 +57,6 @@ unfolding groupsRight
 all-read n unreadable e = true-false e refl
 all-read n (groups gs) e = (gs, refl, e)
 
-pub groups-of : (xs : List ℕ) (gs : List Group) → read xs ≡ groups gs → groupsOf xs ≡ gs
-unfolding groupsOf
-groups-of xs gs e = rw (e, groupsOf)
-
 graph-passed : (gates : List ℕ) → graphRight gates ≡ true → (length gates ≡ 2 * pinCount gates) × (1 ≤ pinCount gates) × (pinCount gates ≤ 65536) × (nodesRight (pinCount gates) 0 (graphOf gates) ≡ true)
 unfolding graphRight pinCount
 graph-passed gates e =
@@ -72,6 +68,7 @@ graph-passed gates e =
 
 -- ---- loops
 
+-- an operand of a right gate is a pin above 0 and below n
 pub operand-above : (n : ℕ) (x : Node) (q : ℕ) → ((a b : ℕ) → x ≡ gate a b → Below n a b) → In q (operands x) → (0 < q) × (q < n)
 unfolding operands
 operand-above n leaf q h i = in-nil q i
@@ -86,28 +83,9 @@ module _ (gates : List ℕ) (e : graphRight gates ≡ true) where
   followed : (p x : ℕ) → In x (below (graphOf gates) [] p) → (0 < x) × (x < pinCount gates)
   followed p x i = operand-above (pinCount gates) (getD (graphOf gates) p leaf) x (λ a b d. gates-below (pinCount gates) 0 (graphOf gates) (graph-passed gates e .3) p a b d) (below-in (graphOf gates) [] p x i .1)
 
+  -- every operand in a graph that passes check 3 is one of its pins
   pub inside : Inside gates
   inside = record { few = graph-passed gates e .2; pins = λ p x i. followed p x i .1 }
-
-  -- pin 0 is no operand, so it is on no loop, and 0 says that there is none
-  found-none : (a : Found) → Answered (graphOf gates) a → pinFound a ≡ 0 → isNothing a ≡ true
-  unfolding pinFound isNothing
-  found-none _ (none h) z = refl
-  found-none _ (least {k = k} l i h) z = absurd (let u = loop-user (graphOf gates) k refl l in omega (arith, followed (u .0) k (u .1) .0))
-
-  found-some : (a : Found) → (pinFound a ≡ 0 → ⊥) → isNothing a ≡ false
-  unfolding pinFound isNothing
-  found-some nothing z = absurd (z refl)
-  found-some (found p) z = refl
-
-  module _ (n : ℕ) (d : n ≡ pinFound (loopPin (graphOf gates))) where
-    pub loops-none : n ≡ 0 → loopsRight gates ≡ true
-    unfolding loopsRight loopless
-    loops-none z = found-none (loopPin (graphOf gates)) (loop-answered (graphOf gates) (λ p x i. rw (graph-length gates) (followed p x i .1))) (sym d ∙ z)
-
-    pub loops-some : (n ≡ 0 → ⊥) → loopsRight gates ≡ false
-    unfolding loopsRight loopless
-    loops-some z = found-some (loopPin (graphOf gates)) (λ y. z (d ∙ y))
 
 module _ (K : ℕ) (sized : Bool) (gates given records : List ℕ) (e : refusalOf K sized gates given records ≡ 0) where
   checked : (isHeight K ≡ true) × (sized ≡ true) × (graphRight gates ≡ true) × (loopsRight gates ≡ true) × (recordsRight (pinCount gates) records ≡ true) × (givenRight (pinCount gates) given ≡ true)
@@ -126,6 +104,7 @@ module _ (K : ℕ) (sized : Bool) (gates given records : List ℕ) (e : refusalO
       (λ t. absurd (omega (arith, refusal-2 K sized gates given records h t))))
       (λ t. absurd (omega (arith, refusal-1 K sized gates given records t)))
 
+  -- what a refusal of 0 tells about height, areas, graph, records and given pins
   pub passed : Passed K sized gates given records
   unfolding loopsRight recordsRight givenRight
   passed =
@@ -133,7 +112,7 @@ module _ (K : ℕ) (sized : Bool) (gates given records : List ℕ) (e : refusalO
       let g = graph-passed gates (c .2) in
       let r = and-true (leb (length records) 65536) (groupsRight (pinCount gates) (read records)) (c .4) in
       let a = all-read (pinCount gates) (read records) (r .1) in
-      let o : groupsOf records ≡ a .0 = groups-of records (a .0) (a .1) in
+      let o : groupsOf records ≡ a .0 = groups-of records (a .1) in
       let b : (p x y : ℕ) → getD (graphOf gates) p leaf ≡ gate x y → Below (pinCount gates) x y = gates-below (pinCount gates) 0 (graphOf gates) (g .3) in
       record {
         height = c .0;
@@ -169,16 +148,19 @@ module _ (xs : List ℕ) (at : ℕ) (gs : List Group) (e : read (drop at xs) ≡
       (λ t. let r = and-rest (groupAt (drop at xs)) (read (drop (at + (1 + sizeOf (getD xs at 0))) xs)) gs (sym (read-step xs at t) ∙ e) in record { whole = t; rest = r .0; these = r .1; others = r .2 })
       (λ t. absurd (let d : unreadable ≡ groups gs = sym (read-cut xs at h t) ∙ e in let z : _≡_ {A = ℕ} 0 1 = cc in omega arith))
 
+  -- past the end no group is left to read
   pub read-last : length xs ≤ at → gs ≡ []
   read-last h = let d : groups [] ≡ groups gs = sym (read-end xs at h) ∙ e in cc
 
 -- its pins, and those of the records behind it, are below what bounds them all
 module _ (xs : List ℕ) (at : ℕ) (gs : List Group) (n : Next xs at gs) (m : ℕ) (b : (q : ℕ) → Ends q gs → q < m) where
+  -- each pin of the next record is below the bound
   pub endpoint-below : (i : ℕ) → i < sizeAt xs at → endpointAt xs at i < m
   endpoint-below i h =
       let g = endpointsOf (groupAt (drop at xs)) in
       let d : In (getD g i 0) g = in-getD g i 0 (omega (arith, size-endpoints xs at (n .whole))) in
       rw (endpoint-is xs at (n .whole) i) (b (getD g i 0) (rw (n .these) (first d)))
 
+  -- each pin of the records behind it is below the bound too
   pub rest-below : (q : ℕ) → Ends q (n .rest) → q < m
   rest-below q e = b q (rw (n .these) (later e))

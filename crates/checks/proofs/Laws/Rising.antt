@@ -14,7 +14,7 @@ use Rattle.rules.proofs.Bools.{yes}
 use Rattle.rules.proofs.Walk.Reverse.{below-in}
 use Rattle.graph.proofs.Gates.{graph-at}
 use Rattle.graph_loops.specs.Marks.{Lower}
-use Rattle.graph_loops.proofs.Laws.{lower-loopless}
+use Rattle.graph_loops.proofs.Laws.Marking.{lower-loopless}
 use Rattle.checks.specs.Values.{graphSized, Rising}
 use Rattle.checks.proofs.Laws.Gates.{nodes-end}
 use Rattle.checks.proofs.Laws.Turns.{NodesLeft, nodes-begin, nodes-more, pins-are}
@@ -40,10 +40,12 @@ pub record RisingLeft (gates : List ℕ) (pins p : ℕ) : Type 0 where
   pub left : NodesLeft gates pins p
   pub lower : (q : ℕ) → q < p → Lower gates q
 
+-- before pin 0 there is no gate, so all rise
 pub rising-begin : (gates : List ℕ) (pins : ℕ) → pins ≡ pinCount gates → RisingLeft gates pins 0
 rising-begin gates pins e = record { left = nodes-begin gates pins e; lower = λ q h. absurd (omega arith) }
 
 module _ (gates : List ℕ) (pins p : ℕ) (l : RisingLeft gates pins p) where
+  -- a gate that is right among the pins below it rises too
   pub rising-more : {x : Node} {r : Bool} → x ≡ nodeOf (getD gates (2 * p) 0) (getD gates (2 * p + 1) 0) → r ≡ nodesRight p p (x ∷ []) → p < pins → not r ≡ false → RisingLeft gates pins (p + 1)
   rising-more {x} {r} ex er h t =
       let e : nodesRight p p (x ∷ []) ≡ true = yes er t in
@@ -52,6 +54,7 @@ module _ (gates : List ℕ) (pins p : ℕ) (l : RisingLeft gates pins p) where
         lower = below-more _ _ (l .lower) (lower gates p (omega (arith, pins-are gates pins p (l .left))) (rw ex at e));
       }
 
+  -- the gates below pin p rise, whatever follows them
   pub rising : Rising gates p
   rising = let d = pins-are gates pins p (l .left) in record {
     upto = omega (arith, l .left .upto);
@@ -59,6 +62,7 @@ module _ (gates : List ℕ) (pins p : ℕ) (l : RisingLeft gates pins p) where
     lower = l .lower;
   }
 
+  -- when all pins are gone through all gates rise
   pub rising-end : pins ≤ p → Rising gates pins
   rising-end h = let e : p ≡ pins = omega (arith, l .left .upto) in rw e at rising
 
@@ -68,9 +72,11 @@ rising-left gates pins p e R = let b = nodes-begin gates pins e in record { even
 
 -- where all gates rise the graph is right, and free of loops
 module _ (gates : List ℕ) (s : graphSized gates ≡ true) (p : ℕ) (R : Rising gates p) (e : p ≡ pinCount gates) where
+  -- such a graph passes check 3
   pub rising-right : graphRight gates ≡ true
   rising-right = size-right gates s ∙ R .same ∙ nodes-end (pinCount gates) gates p (omega arith)
 
+  -- such a graph has no loop
   pub rising-free : loopsRight gates ≡ true
   unfolding loopsRight
   rising-free = lower-loopless gates (inside gates rising-right) (λ q h. R .lower q (omega arith))

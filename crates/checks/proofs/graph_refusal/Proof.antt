@@ -1,9 +1,9 @@
 -- `checks::graph_refusal` meets its contract. Assumes nothing.
-use mathlib.Core.Path.{_∙_, sym}
+use mathlib.Core.Path.{_∙_}
 use native.Mathlib.Omega.{arith}
 use Rattle.rules.proofs.Bools.{no, yes}
-use Rattle.checks.proofs.Laws.Refusing.{size-wrong, size-right, graph-3, graph-23, graph-0, says, says-looped}
-use Rattle.checks.proofs.Laws.Passed.{inside, loops-none, loops-some}
+use Rattle.checks.proofs.Laws.Refusing.{size-wrong, size-right, graph-3, graph-23, graph-0, says, loops-none, loops-some, says-looped}
+use Rattle.checks.proofs.Laws.Passed.{inside}
 use Rattle.checks.proofs.Laws.Rising.{rising-right, rising-free}
 use borrow.Author.Needs.{needs}
 use Rattle.checks.proofs.graph_refusal.Statement.{statement}
@@ -42,17 +42,20 @@ returns-3 c = says _ _ _ _ (c .refused3 .ensures .0) (c .refused3 .ensures .1) (
 loop-pin-requires : tie.Need-loop-pin-requires
 loop-pin-requires c κs = inside _ (size-right _ (yes (c .before .before .before .before .before .before .graph-sized .ensures) (c .before .before .before .before .before .if1 .left)) ∙ yes (c .before .nodes-right .ensures) (c .if3 .left))
 
-wide-requires : tie.Need-wide-requires
-wide-requires c κs = search needs
+enum-told : tie.Need-enum-told
+enum-told c = search needs
 
 refused-requires-4 : tie.Need-refused-requires-4
 refused-requires-4 c κs = search needs
 
+enum-known-looped : tie.Need-enum-known-looped
+enum-known-looped c = search needs
+
 returns-4 : tie.Need-returns-4
-returns-4 c = let g = size-right _ (yes (c .before .before .before .before .before .before .before .before .before .before .graph-sized .ensures) (c .before .before .before .before .before .before .before .before .before .if1 .left)) ∙ yes (c .before .before .before .before .before .nodes-right .ensures) (c .before .before .before .before .if3 .left) in says _ _ _ _ (c .refused4 .ensures .0) (c .refused4 .ensures .1) (graph-0 _ g (loops-none _ g _ (c .before .before .before .loop-pin .ensures) (sym (c .before .before .wide .ensures) ∙ c .before .if4 .taken))) (λ z. omega arith)
+returns-4 c = let g = size-right _ (yes (c .before .before .before .before .before .before .before .before .before .before .graph-sized .ensures) (c .before .before .before .before .before .before .before .before .before .if1 .left)) ∙ yes (c .before .before .before .before .before .nodes-right .ensures) (c .before .before .before .before .if3 .left) in says _ _ _ _ (c .refused4 .ensures .0) (c .refused4 .ensures .1) (graph-0 _ g (loops-none _ _ (c .before .before .before .loop-pin .ensures) (c .before .enum-told .given .1))) (λ z. omega arith)
 
 returns-5 : tie.Need-returns-5
-returns-5 c = let g = size-right _ (yes (c .before .before .before .before .before .before .before .before .before .graph-sized .ensures) (c .before .before .before .before .before .before .before .before .if1 .left)) ∙ yes (c .before .before .before .before .nodes-right .ensures) (c .before .before .before .if3 .left) in says-looped _ _ _ (graph-23 _ g (loops-some _ g _ (c .before .before .loop-pin .ensures) (λ z. c .if4 .left (c .before .wide .ensures ∙ z)))) (c .before .wide .ensures ∙ c .before .before .loop-pin .ensures)
+returns-5 c = let g = size-right _ (yes (c .before .before .before .before .before .before .before .before .before .before .graph-sized .ensures) (c .before .before .before .before .before .before .before .before .before .if1 .left)) ∙ yes (c .before .before .before .before .before .nodes-right .ensures) (c .before .before .before .before .if3 .left) in let d = c .before .before .before .loop-pin .ensures in let e = c .before .looped .given .1 in says-looped _ _ d _ _ (graph-23 _ g (loops-some _ _ d _ e)) e
 
 pub graph-refusal-spec : {M : Type 1} → statement M
 graph-refusal-spec =
@@ -69,7 +72,8 @@ graph-refusal-spec =
     refused-requires-3
     returns-3
     loop-pin-requires
-    wide-requires
+    enum-told
     refused-requires-4
+    enum-known-looped
     returns-4
     returns-5)

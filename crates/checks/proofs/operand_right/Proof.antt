@@ -8,14 +8,14 @@ use Rattle.checks.proofs.operand_right.Tie as tie
 pin-of-requires : tie.Need-pin-of-requires
 pin-of-requires c κs = search needs
 
-wide-requires : tie.Need-wide-requires
-wide-requires c κs = search needs
+index-requires : tie.Need-index-requires
+index-requires c κs = search needs
 
 returns : tie.Need-returns
-returns c = operand-zero _ _ _ (c .before .wide .ensures ∙ c .before .before .pin-of .ensures) (c .if1 .taken)
+returns c = operand-zero _ _ _ (c .before .index .ensures ∙ c .before .before .pin-of .ensures) (c .if1 .taken)
 
 returns-2 : tie.Need-returns-2
-returns-2 c = operand-below _ _ _ (c .before .wide .ensures ∙ c .before .before .pin-of .ensures) (c .if1 .left)
+returns-2 c = operand-below _ _ _ (c .before .index .ensures ∙ c .before .before .pin-of .ensures) (c .if1 .left)
 
 pub operand-right-spec : {M : Type 1} → statement M
-operand-right-spec = tie.close (tie.spec pin-of-requires wide-requires returns returns-2)
+operand-right-spec = tie.close (tie.spec pin-of-requires index-requires returns returns-2)

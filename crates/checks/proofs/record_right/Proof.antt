@@ -21,11 +21,11 @@ loop-holds c = pins-begin _ _ _ _ (c .before .before .pre) (c .size-at .ensures)
 endpoint-requires : tie.Need-endpoint-requires Inv-loop μ-loop
 endpoint-requires c κs = search needs
 
-wide-requires : tie.Need-wide-requires Inv-loop μ-loop
-wide-requires c κs = search needs
+index-requires : tie.Need-index-requires Inv-loop μ-loop
+index-requires c κs = search needs
 
 returns : tie.Need-returns Inv-loop μ-loop
-returns c = pins-wrong _ _ _ _ _ (c .before .before .before .before .loop .inv) (c .before .before .endpoint .ensures) (c .before .wide .ensures) (c .before .before .before .loop-test .taken) (c .if1 .taken)
+returns c = pins-wrong _ _ _ _ _ (c .before .before .before .before .loop .inv) (c .before .before .endpoint .ensures) (c .before .index .ensures) (c .before .before .before .loop-test .taken) (c .if1 .taken)
 
 add-i : tie.Need-add-i Inv-loop μ-loop
 add-i c = search needs
@@ -34,7 +34,7 @@ loop-less : tie.Need-loop-less Inv-loop μ-loop
 loop-less c = omega arith
 
 loop-again : tie.Need-loop-again Inv-loop μ-loop
-loop-again c = pins-more _ _ _ _ _ (c .before .before .before .before .loop .inv) (c .before .before .endpoint .ensures) (c .before .wide .ensures) (c .before .before .before .loop-test .taken) (c .if1 .left)
+loop-again c = pins-more _ _ _ _ _ (c .before .before .before .before .loop .inv) (c .before .before .endpoint .ensures) (c .before .index .ensures) (c .before .before .before .loop-test .taken) (c .if1 .left)
 
 returns-2 : tie.Need-returns-2 Inv-loop μ-loop
 returns-2 c = pins-done _ _ _ _ _ (c .before .loop .inv) (c .loop-test .left)
@@ -48,7 +48,7 @@ record-right-spec =
     size-at-requires
     loop-holds
     endpoint-requires
-    wide-requires
+    index-requires
     returns
     add-i
     loop-less

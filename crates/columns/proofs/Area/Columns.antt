@@ -15,6 +15,7 @@ use Rattle.columns.specs.Area.{tab, at, col}
 pub apart : (f g m p q : ℕ) → p < m → q < m → f * m + p ≡ g * m + q → f ≡ g
 apart f g m p q hp hq e = sym (digits-div f hp) ∙ ap (λ (x : ℕ). x / m) e ∙ digits-div g hq
 
+-- a column ends at or before the end of all sixteen
 pub inside : (f m : ℕ) → f < 16 → f * m + m ≤ 16 * m
 inside f m h = rw (suc-mul f m) at (mul-le-mul-right m h)
 
@@ -27,10 +28,12 @@ getD-tab g zero i h = absurd (not-suc-le-zero h)
 getD-tab g (suc m) zero h = refl
 getD-tab g (suc m) (suc i) h = getD-tab (λ j. g (suc j)) m i (le-of-suc-le-suc h)
 
+-- a column has one number for each pin
 pub length-col : (f m : ℕ) (w : List ℕ) → length (col f m w) ≡ m
 unfolding col
 length-col f m w = length-tab (at f m w) m
 
+-- entry p of a column is the field of pin p
 pub getD-col : (f m : ℕ) (w : List ℕ) (p : ℕ) → p < m → getD (col f m w) p 0 ≡ getD w (f * m + p) 0
 unfolding col
 getD-col f m w p h = getD-tab (at f m w) m p h
@@ -42,6 +45,7 @@ col-is f m w c e h = ext-getD 0 _ _ (length-col f m w ∙ sym e) (λ i hi. cell 
     cell : (i : ℕ) → i < m → getD (col f m w) i 0 ≡ getD c i 0
     cell i k = getD-col f m w i k ∙ h i k
 
+-- areas that agree on a column's cells have the same column
 pub same-col : (f m : ℕ) (v w : List ℕ) → ((p : ℕ) → p < m → getD v (f * m + p) 0 ≡ getD w (f * m + p) 0) → col f m v ≡ col f m w
 same-col f m v w h = col-is f m v (col f m w) (length-col f m w) (λ p k. h p k ∙ sym (getD-col f m w p k))
 
@@ -61,8 +65,10 @@ col-set-other f g m w p v hp ne = same-col g m _ w (λ i h. getD-set-other w (f 
 pub at-set : (f m : ℕ) (w : List ℕ) (p v : ℕ) → p < m → f * m + m ≤ length w → getD (set w (f * m + p) v) (f * m + p) 0 ≡ v
 at-set f m w p v hp hw = getD-set-same w (f * m + p) v 0 (omega arith)
 
+-- a store at one pin leaves the column's other pins
 pub at-set-past : (f m : ℕ) (w : List ℕ) (p q v : ℕ) → (q ≡ p → ⊥) → getD (set w (f * m + p) v) (f * m + q) 0 ≡ getD w (f * m + q) 0
 at-set-past f m w p q v ne = getD-set-other w (f * m + p) (f * m + q) v 0 (λ e. ne (omega arith))
 
+-- a store to one column leaves the others
 pub at-set-other : (f g m : ℕ) (w : List ℕ) (p q v : ℕ) → p < m → q < m → (g ≡ f → ⊥) → getD (set w (f * m + p) v) (g * m + q) 0 ≡ getD w (g * m + q) 0
 at-set-other f g m w p q v hp hq ne = getD-set-other w (f * m + p) (g * m + q) v 0 (λ e. ne (apart g f m q p hq hp e))

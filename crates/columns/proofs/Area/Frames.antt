@@ -1,24 +1,26 @@
 -- Frames: what stores and puts keep, one after the other, and what a frame gives. Assumes nothing.
-use mathlib.Core.Path.{_≡_, refl, ap, _∙_}
+use mathlib.Core.Path.{_≡_, refl, _∙_}
 use mathlib.Core.Logic.{inl, inr}
 use mathlib.Core.Bool.{Bool, true, false, _||_, true≢false}
 use mathlib.Core.List.{List, [], _∷_}
-use Prim.Native.Nat.{ℕ, _+_, _-_, _*_, _<_, _≤_}
+use Prim.Native.Nat.{ℕ, _+_, _*_, _<_, _≤_}
 use native.Mathlib.Omega.{arith}
 use native.Mathlib.Decide.{ℕ-discrete}
 use borrow.Author.Tests.{ne-eqb}
 use lib.Dec.{eqb}
 use lib.ListN.{length, getD, set, length-set, replicate, length-replicate}
-use lib.Seq.{ext-getD, getD-set-other}
+use lib.Seq.{getD-set-other}
 use Rattle.rules.proofs.Lists.Members.{split, true-false, eqb-same, eqb-true, and-true, or-true}
 use Rattle.columns.specs.Area.{col, put, tail, putTail, Room, Frame, among, within}
 use Rattle.columns.proofs.Area.Columns.{apart, inside, same-col}
 use Rattle.columns.proofs.Area.Puts.{length-put, past-put, at-put-other}
-use Rattle.columns.proofs.Area.Tails.{length-tail, getD-tail, length-putTail, at-putTail}
+use Rattle.columns.proofs.Area.Tails.{length-putTail, at-putTail}
 
+-- nothing changed, whatever may change
 pub frame-none : {fs : List ℕ} {m : ℕ} {w : List ℕ} → Frame fs m w w
 frame-none = record { len = refl; past = λ t j h. refl; cell = λ g e h p k. refl }
 
+-- two changes of the same names are one
 pub frame-then : {fs : List ℕ} {m : ℕ} {u v w : List ℕ} → Frame fs m u v → Frame fs m v w → Frame fs m u w
 frame-then a b = record { len = b .len ∙ a .len; past = λ t j h. b .past t j h ∙ a .past t j h; cell = λ g e h p k. b .cell g e h p k ∙ a .cell g e h p k }
 
@@ -30,6 +32,7 @@ among-within (f ∷ fs) gs e g a = elim (or-true (eqb g f) (among fs g) a) [
   | inr b ↦ among-within fs gs (and-true (among gs f) (within fs gs) e .1) g b
 ]
 
+-- what may change some names may change more
 pub frame-more : {fs gs : List ℕ} {m : ℕ} {w w′ : List ℕ} → within fs gs ≡ true → Frame fs m w w′ → Frame gs m w w′
 frame-more {fs} {gs} e a = record { len = a .len; past = λ t j h. a .past (fewer 16 t) j h; cell = λ g t h p k. a .cell g (fewer g t) h p k }
   where
@@ -55,6 +58,7 @@ frame-less {fs} {m} {w} {w′} f h a same = record {
 pub among-first : (f g : ℕ) → among (f ∷ g ∷ []) f ≡ true
 among-first f g = rw (eqb-same f)
 
+-- the second of two names is among them
 pub among-second : (f g : ℕ) → among (f ∷ g ∷ []) g ≡ true
 among-second f g = rw (eqb-same g) (or-last (eqb g f))
   where
@@ -66,6 +70,7 @@ differ : (fs : List ℕ) (f g : ℕ) → among fs f ≡ true → among fs g ≡ 
 differ fs f g t e k = true≢false (cc)
 
 module _ {fs : List ℕ} {m : ℕ} {w : List ℕ} where
+  -- a store to a named column changes only what is named
   pub frame-set : (f p v : ℕ) → p < m → f < 16 → among fs f ≡ true → Frame fs m w (set w (f * m + p) v)
   frame-set f p v hp hf t = record {
     len = length-set w (f * m + p) v;
@@ -73,6 +78,7 @@ module _ {fs : List ℕ} {m : ℕ} {w : List ℕ} where
     cell = λ g e h q k. getD-set-other w (f * m + p) (g * m + q) v 0 (λ l. differ fs f g t e (apart g f m q p k hp l));
   }
 
+  -- a list put into a named column changes only what is named
   pub frame-put : (f : ℕ) (c : List ℕ) → length c ≤ m → f < 16 → among fs f ≡ true → Frame fs m w (put f m w c)
   frame-put f c hc hf t = record {
     len = length-put f m w c;
@@ -80,12 +86,11 @@ module _ {fs : List ℕ} {m : ℕ} {w : List ℕ} where
     cell = λ g e h q k. at-put-other f m w c g q hc k (differ fs f g t e);
   }
 
-  pub frame-fill : (f v : ℕ) → f < 16 → among fs f ≡ true → Frame fs m w (put f m w (replicate m v))
-  frame-fill f v = frame-put f (replicate m v) (omega (arith, length-replicate m v))
-
+  -- a fill of a named column's front changes only what is named
   pub frame-front : (f n v : ℕ) → n ≤ m → f < 16 → among fs f ≡ true → Frame fs m w (put f m w (replicate n v))
   frame-front f n v h = frame-put f (replicate n v) (omega (arith, length-replicate n v))
 
+  -- a store to the tail changes only what is named, where the tail is
   pub frame-set-tail : (j v : ℕ) → among fs 16 ≡ true → Frame fs m w (set w (16 * m + j) v)
   frame-set-tail j v t = record {
     len = length-set w (16 * m + j) v;
@@ -93,6 +98,7 @@ module _ {fs : List ℕ} {m : ℕ} {w : List ℕ} where
     cell = λ g e h q k. getD-set-other w (16 * m + j) (g * m + q) v 0 (λ l. omega (arith, inside g m h));
   }
 
+  -- another tail of the same length changes only what is named, where the tail is
   pub frame-putTail : (t : List ℕ) → 16 * m ≤ length w → length t ≡ length (tail m w) → among fs 16 ≡ true → Frame fs m w (putTail m w t)
   frame-putTail t hw ht b = record {
     len = length-putTail m w t hw ht;
@@ -102,11 +108,10 @@ module _ {fs : List ℕ} {m : ℕ} {w : List ℕ} where
 
 -- what stays
 module _ {fs : List ℕ} {m : ℕ} {w w′ : List ℕ} (fr : Frame fs m w w′) where
+  -- a column that is not named is as it was
   pub frame-col : (g : ℕ) → among fs g ≡ false → g < 16 → col g m w′ ≡ col g m w
   frame-col g e h = same-col g m w′ w (fr .cell g e h)
 
-  pub frame-tail : among fs 16 ≡ false → tail m w′ ≡ tail m w
-  frame-tail e = ext-getD 0 _ _ (simp length-tail (ap (λ (k : ℕ). k - 16 * m) (fr .len))) (λ i h. rw (getD-tail m w′ i, getD-tail m w i) (fr .past e (16 * m + i) (omega arith)))
-
+  -- a frame keeps the area's size, so there is room as before
   pub frame-room : Room m w → Room m w′
   frame-room r = record { small = r .small; room = rw (fr .len) (r .room) }

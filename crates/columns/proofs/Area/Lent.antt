@@ -42,14 +42,17 @@ lent-tail m n v w ys h e = ap (λ (l : List ℕ). take (16 * m) w ++ l) (lent-fi
 
 -- what a list laid over another leaves
 module _ (n v : ℕ) (l : List ℕ) where
+  -- a fill laid over a list that is long enough keeps its length
   pub length-laid : n ≤ length l → length (laidOver (replicate n v) l) ≡ length l
   unfolding laidOver
   length-laid h = rw (length-append, length-replicate, length-drop) (omega arith)
 
+  -- the first n numbers are the fill's
   pub at-laid : (j : ℕ) → j < n → getD (laidOver (replicate n v) l) j 0 ≡ v
   unfolding laidOver
   at-laid j h = rw (List·getD-append (replicate n v) (drop (length (replicate n v)) l) 0 j (omega (arith, length-replicate n v)), getD-replicate n j v 0 h)
 
+  -- the numbers behind them are the list's own
   pub past-laid : (j : ℕ) → n ≤ j → getD (laidOver (replicate n v) l) j 0 ≡ getD l j 0
   unfolding laidOver
   past-laid j h =

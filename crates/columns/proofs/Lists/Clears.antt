@@ -18,17 +18,21 @@ pub zero-stays : (w : List ℕ) (j i : ℕ) → getD w i 0 ≡ 0 → getD (set w
 zero-stays w j i e = elim (set-either w j 0 i 0) [ inl d ↦ d .1 | inr d ↦ d ∙ e ]
 
 module _ {g m : ℕ} {w : List ℕ} (Z : Clear g m w) where
+  -- a clear column is m zeros
   pub clear-col : col g m w ≡ replicate m 0
   clear-col = col-is g m w (replicate m 0) (length-replicate m 0) (λ p h. Z .zero p h ∙ sym (getD-replicate m p 0 0 h))
 
+  -- a clear column that may not change stays clear
   pub clear-frame : {fs : List ℕ} {w′ : List ℕ} → Frame fs m w w′ → among fs g ≡ false → g < 16 → Clear g m w′
   clear-frame fr e h = record { zero = λ p k. fr .cell g e h p k ∙ Z .zero p k }
 
 -- a front that became v, and what stands behind it
 module _ (g m n : ℕ) (w : List ℕ) where
+  -- within the front every number is v
   pub at-front : (v p : ℕ) → p < n → g * m + n ≤ length w → getD (put g m w (replicate n v)) (g * m + p) 0 ≡ v
   at-front v p h hw = at-put g m w (replicate n v) p (omega (arith, length-replicate n v)) (omega arith) ∙ getD-replicate n p v 0 h
 
+  -- behind the front the column is as it was
   pub past-front : (v p : ℕ) → n ≤ p → getD (put g m w (replicate n v)) (g * m + p) 0 ≡ getD w (g * m + p) 0
   past-front v p h = at-put-past g m w (replicate n v) p (omega (arith, length-replicate n v))
 

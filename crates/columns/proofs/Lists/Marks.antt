@@ -19,32 +19,14 @@ use Rattle.columns.proofs.Area.Frames.{among-first, among-second, frame
 use Rattle.columns.proofs.Lists.Swap.{insert-old, insert-new, mem-insert}
 use Rattle.columns.proofs.Lists.Entries.{holds-none, holds-room, holds-push, holds-other, holds-frame}
 
-bit-in : (b : Bool) → (bit b ≡ 0 → ⊥) → b ≡ true
-bit-in true ne = refl
-bit-in false ne = absurd (ne refl)
-
-bit-out : (b : Bool) → bit b ≡ 0 → b ≡ false
-bit-out true e = absurd (omega arith)
-bit-out false e = refl
-
 bit-test : (b : Bool) → not (eqb (bit b) 0) ≡ b
 bit-test true = refl
 bit-test false = refl
 
 module _ {g m : ℕ} {xs w : List ℕ} (M : Marks g m xs w) where
-  pub marks-in : (p : ℕ) → p < m → (getD w (g * m + p) 0 ≡ 0 → ⊥) → In p xs
-  marks-in p h ne = bit-in (mem p xs) (λ e. ne (M .mark p h ∙ e))
-
-  pub marks-out : (p : ℕ) → p < m → getD w (g * m + p) 0 ≡ 0 → Out p xs
-  marks-out p h e = bit-out (mem p xs) (sym (M .mark p h) ∙ e)
-
   -- what `is_in` returns
   pub marks-test : (p : ℕ) → p < m → not (eqb (getD w (g * m + p) 0) 0) ≡ mem p xs
   marks-test p h = rw (M .mark p h) (bit-test (mem p xs))
-
-  -- another list of the same pins
-  pub marks-same : {ys : List ℕ} → ((q : ℕ) → q < m → mem q ys ≡ mem q xs) → Marks g m ys w
-  marks-same e = record { mark = λ q h. M .mark q h ∙ ap bit (sym (e q h)) }
 
   -- one more pin, in whatever list
   pub marks-more : {ys : List ℕ} (p : ℕ) → p < m → g * m + m ≤ length w → In p ys → ((q : ℕ) → q ≢ p → mem q ys ≡ mem q xs) → Marks g m ys (set w (g * m + p) 1)
@@ -54,12 +36,15 @@ module _ {g m : ℕ} {xs w : List ℕ} (M : Marks g m xs w) where
       one q k (yes d) = rw (d, at-set g m w p 1 h hw, i)
       one q k (no ne) = at-set-past g m w p q 1 ne ∙ M .mark q k ∙ ap bit (sym (e q ne))
 
+  -- a mark stored at p adds p to the list
   pub marks-insert : (p : ℕ) → p < m → g * m + m ≤ length w → Marks g m (insert p xs) (set w (g * m + p) 1)
   marks-insert p h hw = marks-more p h hw (in-insert p xs) (λ q ne. mem-insert q p xs ne)
 
+  -- a store to another column leaves the marks
   pub marks-other : (f p v : ℕ) → p < m → (g ≡ f → ⊥) → Marks g m xs (set w (f * m + p) v)
   marks-other f p v h ne = record { mark = λ q k. at-set-other f g m w p q v h k ne ∙ M .mark q k }
 
+  -- a frame that does not name the column keeps the marks
   pub marks-frame : {fs : List ℕ} {w′ : List ℕ} → Frame fs m w w′ → among fs g ≡ false → g < 16 → Marks g m xs w′
   marks-frame fr e h = record { mark = λ q k. fr .cell g e h q k ∙ M .mark q k }
 
@@ -67,28 +52,31 @@ module _ {g m : ℕ} {xs w : List ℕ} (M : Marks g m xs w) where
 pub zeros : (g m : ℕ) (w : List ℕ) → g * m + m ≤ length w → (p : ℕ) → p < m → getD (put g m w (replicate m 0)) (g * m + p) 0 ≡ 0
 zeros g m w hw p h = at-put g m w (replicate m 0) p (omega (arith, length-replicate {A = ℕ} m 0)) (omega arith) ∙ getD-replicate m p 0 0 h
 
+-- a column of zeros marks nothing
 pub marks-none : {g m : ℕ} {w : List ℕ} → ((p : ℕ) → p < m → getD w (g * m + p) 0 ≡ 0) → Marks g m [] w
 unfolding mem
 marks-none e = record { mark = e }
 
+-- an empty list is marked by a column of zeros
 pub marked-none : {f g m : ℕ} {w : List ℕ} → ((p : ℕ) → p < m → getD w (g * m + p) 0 ≡ 0) → Marked f g m 0 [] w
 marked-none e = record { held = holds-none; once = nobody; marks = marks-none e }
 
 module _ {f g m n : ℕ} {xs w : List ℕ} (M : Marked f g m n xs w) where
+  -- the marked list is the one in the column
   pub marked-self : Marked f g m n (list f m n w) w
   marked-self = rw (M .held .is) (record { held = M .held; once = M .once; marks = M .marks })
 
+  -- a frame that names neither column keeps the marked list
   pub marked-frame : {fs : List ℕ} {w′ : List ℕ} → Frame fs m w w′ → among fs f ≡ false → among fs g ≡ false → f < 16 → g < 16 → Marked f g m n xs w′
   marked-frame fr e d h k = record { held = holds-frame (M .held) fr e h; once = M .once; marks = marks-frame (M .marks) fr d k }
 
-  -- a pin whose mark is 0 finds room, and goes behind the list
+  -- a pin that is there already, or goes behind the list
   module _ (p : ℕ) (pin : p < m) where
-    pub marked-room : getD w (g * m + p) 0 ≡ 0 → n < m
-    marked-room e = holds-room (M .held) (M .once) p pin (marks-out (M .marks) p pin e)
-
+    -- a pin that is there already changes nothing
     pub marked-old : In p xs → Marked f g m n (insert p xs) w
     marked-old e = rw (insert-old p xs e) (record { held = M .held; once = M .once; marks = M .marks })
 
+    -- a new pin stored behind the list, and its mark
     pub marked-push : Out p xs → (f ≡ g → ⊥) → f * m + m ≤ length w → g * m + m ≤ length w → Marked f g m (n + 1) (insert p xs) (set (set w (f * m + n) p) (g * m + p) 1)
     marked-push o ne hf hg =
         let l : n < m = holds-room (M .held) (M .once) p pin o in
@@ -101,9 +89,11 @@ module _ {f g m n : ℕ} {xs w : List ℕ} (M : Marked f g m n xs w) where
 -- ---- the contract of `enlist`, for a caller that knows the list
 
 module _ {f g m n p : ℕ} {xs w : List ℕ} (M : Marked f g m n xs w) where
+  -- a marked list may be asked to take a pin in
   pub enlist-at : Room m w → p < m → f < 16 → g < 16 → (f ≡ g → ⊥) → EnlistAt f g m n p w
   enlist-at r h hf hg ne = record { area = r; pin = h; first = hf; second = hg; apart = ne; now = marked-self M }
 
+  -- what the caller's list is afterwards: the pin behind it, unless it was there
   pub enlisted : {w′ : List ℕ} {r : ℕ} → Enlisted f g m n p w w′ r → Marked f g m r (insert p xs) w′
   enlisted E = rw (M .held .is) at (E .now)
 
@@ -113,22 +103,28 @@ module _ {f g m n p : ℕ} {w : List ℕ} (E : EnlistAt f g m n p w) where
   abbrev xs : List ℕ
   xs = list f m n w
 
+  -- the list's column lies in the area
   pub enlist-first : f * m + m ≤ length w
   enlist-first = omega (arith, inside f m (E .first), E .area .room)
 
+  -- the column of the marks lies in the area
   pub enlist-second : g * m + m ≤ length w
   enlist-second = omega (arith, inside g m (E .second), E .area .room)
 
+  -- the test of the mark says whether the pin is there
   pub enlist-test : not (eqb (getD w (g * m + p) 0) 0) ≡ mem p xs
   enlist-test = marks-test (E .now .marks) p (E .pin)
 
+  -- a pin that is there already changes nothing
   pub enlist-old : In p xs → Enlisted f g m n p w w n
   enlist-old e = record { frame = frame-none; now = marked-old (E .now) p (E .pin) e }
 
   module _ (o : Out p xs) where
+    -- a pin that is not there finds room
     pub enlist-room : n < m
     enlist-room = holds-room (E .now .held) (E .now .once) p (E .pin) o
 
+    -- the two stores take a new pin in
     pub enlist-new : (w₁ w₂ : List ℕ) → w₁ ≡ set w (f * m + n) p → w₂ ≡ set w₁ (g * m + p) 1 → Enlisted f g m n p w w₂ (n + 1)
     enlist-new w₁ w₂ e₁ e₂ = rw (e₂, e₁) (record {
       frame = frame-then (frame-set f n p enlist-room (E .first) (among-first f g)) (frame-set g p 1 (E .pin) (E .second) (among-second f g));

@@ -30,14 +30,13 @@ pub record Stands (g m : ℕ) (xs w : List ℕ) (p : ℕ) : Type 0 where
   pub place : getD w (g * m + p) 0 ≡ i + 1
 
 module _ {f g m n : ℕ} {xs w : List ℕ} (P : Placed f g m n xs w) where
+  -- a pin of the list has a place, and stands there
   pub placed-stands : (p : ℕ) → In p xs → Stands g m xs w p
   placed-stands p e =
       let k = getD-in xs 0 p e in
       record { i = k .0; before = k .1; entry = k .2; place = rw (k .2) at (P .place (k .0) (omega (arith, k .1, P .held .count))) }
 
-  pub placed-in : (p : ℕ) → p < m → (getD w (g * m + p) 0 ≡ 0 → ⊥) → In p xs
-  placed-in p h ne = split (mem p xs) (λ e. e) (λ e. absurd (ne (P .none p h e)))
-
+  -- a pin without a place is not in the list
   pub placed-out : (p : ℕ) → getD w (g * m + p) 0 ≡ 0 → Out p xs
   placed-out p e = split (mem p xs) (λ d. absurd (let s = placed-stands p d in omega (arith, s .place))) (λ d. d)
 
@@ -47,9 +46,11 @@ module _ {f g m n : ℕ} {xs w : List ℕ} (P : Placed f g m n xs w) where
       (λ e. rw (ne-eqb (getD w (g * m + p) 0) 0 (λ d. let s = placed-stands p e in omega (arith, s .place))) (sym e))
       (λ e. rw (eq-eqb (getD w (g * m + p) 0) 0 (P .none p h e)) (sym e))
 
+  -- the list with places is the one in the column
   pub placed-self : Placed f g m n (list f m n w) w
   placed-self = rw (P .held .is) (record { held = P .held; once = P .once; place = P .place; none = P .none })
 
+  -- a frame that names neither column keeps the list and its places
   pub placed-frame : {fs : List ℕ} {w′ : List ℕ} → Frame fs m w w′ → among fs f ≡ false → among fs g ≡ false → f < 16 → g < 16 → Placed f g m n xs w′
   placed-frame fr e d h k = record {
     held = holds-frame (P .held) fr e h;
@@ -60,12 +61,15 @@ module _ {f g m n : ℕ} {xs w : List ℕ} (P : Placed f g m n xs w) where
 
   -- a pin without a place goes behind the list
   module _ (p : ℕ) (pin : p < m) where
+    -- a pin without a place finds room behind the list
     pub placed-room : getD w (g * m + p) 0 ≡ 0 → n < m
     placed-room e = holds-room (P .held) (P .once) p pin (placed-out p e)
 
+    -- a pin that is there already changes nothing
     pub placed-old : In p xs → Placed f g m n (insert p xs) w
     placed-old e = rw (insert-old p xs e) (record { held = P .held; once = P .once; place = P .place; none = P .none })
 
+    -- a new pin stored behind the list, and its place
     pub placed-push : Out p xs → (f ≡ g → ⊥) → f * m + m ≤ length w → g * m + m ≤ length w → Placed f g m (n + 1) (insert p xs) (set (set w (f * m + n) p) (g * m + p) (n + 1))
     placed-push o ne hf hg = record {
       held = rw (insert-new p xs o) (holds-other (holds-push (P .held) p pin room hf) g p (n + 1) pin ne);
@@ -97,6 +101,7 @@ module _ {f g m n : ℕ} {xs w : List ℕ} (P : Placed f g m n xs w) where
         free q h d (yes e) = true-false (rw e (in-insert p xs)) d
         free q h d (no c) = other q h c ∙ P .none q h (split (mem q xs) (λ e. true-false (in-insert-old q p xs e) d) (λ e. e))
 
+-- an empty list has its places in a column of zeros
 pub placed-none : {f g m : ℕ} {w : List ℕ} → ((p : ℕ) → p < m → getD w (g * m + p) 0 ≡ 0) → Placed f g m 0 [] w
 placed-none e = record { held = holds-none; once = nobody; place = λ i h. absurd (omega arith); none = λ p h o. e p h }
 
@@ -105,18 +110,23 @@ module _ {f g m n : ℕ} {xs w : List ℕ} (P : Placed f g m n xs w) (p : ℕ) (
   S : Stands g m xs w p
   S = placed-stands P p e
 
+  -- a list that a pin leaves is not empty
   pub swap-some : 0 < n
   swap-some = omega (arith, S .before, P .held .count)
 
+  -- the pin that leaves is a pin of the area
   pub swap-pin : p < m
   swap-pin = holds-below (P .held) p e
 
+  -- the pin that leaves has a place
   pub swap-low : 0 < getD w (g * m + p) 0
   swap-low = omega (arith, S .place)
 
+  -- its place is within the list
   pub swap-high : getD w (g * m + p) 0 ≤ n
   swap-high = omega (arith, S .place, S .before, P .held .count)
 
+  -- the list's last entry is a pin
   pub swap-last : getD w (f * m + (n - 1)) 0 < m
   swap-last = holds-pin (P .held) (n - 1) (omega (arith, swap-some))
 
@@ -200,31 +210,39 @@ module _ {f g m n : ℕ} {xs w : List ℕ} (P : Placed f g m n xs w) (p : ℕ) (
 -- ---- the contracts of `wait` and `swap_out`, for a caller that knows the list
 
 module _ {m n p : ℕ} {xs w : List ℕ} (P : Placed WAITING PLACE m n xs w) where
+  -- a pin may be asked to wait
   pub wait-at : Room m w → p < m → WaitAt m n p w
   wait-at r h = record { area = r; pin = h; now = placed-self P }
 
+  -- what the caller's waiting list is afterwards: the pin behind it, unless it was there
   pub waits : {w′ : List ℕ} {r : ℕ} → Waits m n p w w′ r → Placed WAITING PLACE m r (insert p xs) w′
   waits E = rw (P .held .is) at (E .now)
 
+  -- a pin that waits may be asked to leave
   pub swap-out-at : Room m w → In p xs → SwapAt m n p w
   swap-out-at r e = record { area = r; now = placed-self P; waits = rw (P .held .is) e }
 
+  -- what the caller's waiting list is afterwards: the last pin in the place of the one that left
   pub swapped : {w′ : List ℕ} {r : ℕ} → Swapped m n p w w′ r → Placed WAITING PLACE m r (swapOut p xs) w′
   swapped E = rw (P .held .is) at (E .now)
 
 -- and for their proofs
 
 module _ {m n p : ℕ} {w : List ℕ} (A : WaitAt m n p w) where
+  -- the test of the place says whether the pin waits
   pub wait-test : not (eqb (getD w (PLACE * m + p) 0) 0) ≡ mem p (list WAITING m n w)
   wait-test = placed-test (A .now) p (A .pin)
 
+  -- a pin that waits already changes nothing
   pub wait-old : In p (list WAITING m n w) → Waits m n p w w n
   wait-old e = record { frame = frame-none; now = placed-old (A .now) p (A .pin) e }
 
   module _ (o : Out p (list WAITING m n w)) where
+    -- a pin that does not wait yet finds room
     pub wait-room : n < m
     wait-room = holds-room (A .now .held) (A .now .once) p (A .pin) o
 
+    -- the two stores make a new pin wait
     pub wait-new : (w₁ w₂ : List ℕ) → w₁ ≡ set w (WAITING * m + n) p → w₂ ≡ set w₁ (PLACE * m + p) (n + 1) → Waits m n p w w₂ (n + 1)
     wait-new w₁ w₂ e₁ e₂ = rw (e₂, e₁) (record {
       frame = frame-then (frame-set WAITING n p wait-room (omega arith) refl) (frame-set PLACE p (n + 1) (A .pin) (omega arith) refl);
@@ -232,10 +250,12 @@ module _ {m n p : ℕ} {w : List ℕ} (A : WaitAt m n p w) where
     })
 
 module _ {m n p : ℕ} {w : List ℕ} (A : SwapAt m n p w) where
+  -- the place of the pin that leaves lies in the column
   pub out-place : getD w (PLACE * m + p) 0 - 1 < m
   out-place = omega (arith, swap-low (A .now) p (A .waits), swap-high (A .now) p (A .waits), A .now .held .few)
 
   module _ (last place : ℕ) (a : last ≡ getD w (WAITING * m + (n - 1)) 0) (b : place ≡ getD w (PLACE * m + p) 0 - 1) where
+    -- the three stores take the pin out
     pub out-done : (w₁ w₂ w₃ : List ℕ) → w₁ ≡ set w (WAITING * m + place) last → w₂ ≡ set w₁ (PLACE * m + last) (place + 1) → w₃ ≡ set w₂ (PLACE * m + p) 0 → Swapped m n p w w₃ (n - 1)
     out-done w₁ w₂ w₃ e₁ e₂ e₃ = rw (e₃, e₂, e₁) (record {
       frame = frame-then (frame-set WAITING place last (omega (arith, out-place)) (omega arith) refl)

@@ -17,11 +17,11 @@ returns c = let a = c .before .before .before .before .pre in wait-old a (sym (w
 push-requires : tie.Need-push-requires
 push-requires c κs = search needs
 
-add-push : tie.Need-add-push
-add-push c = search needs
+add-set-field : tie.Need-add-set-field
+add-set-field c = search needs
 
-push-requires-2 : tie.Need-push-requires-2
-push-requires-2 c κs = search needs
+set-field-requires : tie.Need-set-field-requires
+set-field-requires c κs = search needs
 
 add-result : tie.Need-add-result
 add-result c = search needs
@@ -33,7 +33,7 @@ returns-2 : tie.Need-returns-2
 returns-2 c =
     let d = c .before .before .before .before .before .before .before .before in
     let a = d .before .before .before .before .pre in
-    wait-new a (sym (wait-test a) ∙ sym (d .before .is-in .ensures) ∙ d .if1 .left) _ _ (c .before .before .before .before .before .before .push .ensures) (c .before .before .push2 .ensures)
+    wait-new a (sym (wait-test a) ∙ sym (d .before .is-in .ensures) ∙ d .if1 .left) _ _ (c .before .before .before .before .before .before .push .ensures) (c .before .before .set-field .ensures)
 
 pub wait-spec : {M : Type 1} → statement M
 wait-spec =
@@ -43,8 +43,8 @@ wait-spec =
     same-length
     returns
     push-requires
-    add-push
-    push-requires-2
+    add-set-field
+    set-field-requires
     add-result
     same-length-2
     returns-2)

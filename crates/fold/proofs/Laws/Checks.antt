@@ -30,11 +30,13 @@ use Rattle.fold.specs.Stages.{PlanAt, InputAt}
 -- ---- sizes, by what the code tests
 
 module _ (K : ℕ) (plan gates : List ℕ) (bits result : ℕ) where
+  -- a bad height or a plan of a wrong size is refused, whatever the other areas are
   pub plan-wrong : isHeight K && planSized K (length plan) ≡ false → false ≡ isHeight K && foldSized K plan gates bits result
   unfolding foldSized
   plan-wrong e = split (isHeight K) (λ t. let d : planSized K (length plan) ≡ false = rw t at e in rw (t, d)) (λ t. rw t)
 
   module _ (e : isHeight K && planSized K (length plan) ≡ true) (m : ℕ) (em : m ≡ pinCount gates) where
+    -- fewer bits than pins are too few
     pub bits-few : bits < m → false ≡ isHeight K && foldSized K plan gates bits result
     unfolding foldSized
     bits-few h =
@@ -42,12 +44,14 @@ module _ (K : ℕ) (plan gates : List ℕ) (bits result : ℕ) where
         rw (r .0, r .1, lt-leb (pinCount gates) bits (omega arith))
 
     module _ (h : m ≤ bits) where
+      -- a result area shorter than the plan is too short
       pub result-few : result < length plan → false ≡ isHeight K && foldSized K plan gates bits result
       unfolding foldSized resultSize
       result-few k =
           let r = and-true (isHeight K) (planSized K (length plan)) e in
           rw (r .0, r .1, le-leb (pinCount gates) bits (omega arith), lt-leb (length plan + pinCount gates) result (omega arith))
 
+      -- with plan and bits right, the result area must hold a number a pin behind the plan's
       pub result-tested : length plan ≤ result → leb m (result - length plan) ≡ isHeight K && foldSized K plan gates bits result
       unfolding foldSized resultSize
       result-tested k =
@@ -58,6 +62,7 @@ module _ (K : ℕ) (plan gates : List ℕ) (bits result : ℕ) where
 
 -- ---- refusals
 
+-- no records are right records
 pub no-records : (n : ℕ) → recordsRight n [] ≡ true
 unfolding recordsRight groupsRight read readFrom allNamed
 no-records n = refl
@@ -87,15 +92,18 @@ module _ (K : ℕ) (plan gates given bits result : List ℕ) where
     number-is : v .number ≡ foldRefusal K plan gates given bits result
     number-is = S .number ∙ refusal-is
 
+    -- an answer of any number but 23 tells the refusal, with no pin
     pub told-plain : (k : ℕ) (a : Answer) → v .number ≡ k → (k ≡ 23 → ⊥) → numberFor a ≡ k → pinFor a ≡ 0 → Told (foldRefusal K plan gates given bits result) gates a
     told-plain k a e h n p =
         let d : k ≡ foldRefusal K plan gates given bits result = sym e ∙ number-is in
         record { number = n ∙ d; pin = p ∙ pin-none _ gates (λ z. h (d ∙ z)) }
 
+    -- a loop tells 23 with the smallest pin on one
     pub told-looped : v .number ≡ 23 → Told (foldRefusal K plan gates given bits result) gates (Looped (v .pin))
     unfolding numberFor pinFor
     told-looped e = record { number = sym e ∙ number-is; pin = S .pin ∙ ap (λ (n : ℕ). pinShown n gates) refusal-is }
 
+    -- where no other number is left the given pins are wrong
     pub told-five : (v .number ≡ 0 → ⊥) → (v .number ≡ 1 → ⊥) → (v .number ≡ 2 → ⊥) → (v .number ≡ 3 → ⊥) → (v .number ≡ 23 → ⊥) → Told (foldRefusal K plan gates given bits result) gates WrongGiven
     unfolding numberFor pinFor
     told-five a b c d l = told-plain 5 WrongGiven (refused-five (v .number) number-is a b c d l) (λ z. omega arith) refl refl
@@ -106,6 +114,7 @@ module _ (K : ℕ) (plan gates given bits result : List ℕ) where
   result-kept zero e z = absurd (z refl)
   result-kept (suc n) e z = rw (← e, foldResult)
 
+  -- a fold that nothing refuses leaves the bits, and 0 behind them
   pub result-folded : 0 ≡ foldRefusal K plan gates given bits result → (w : List ℕ) → w ≡ laidOver (foldBits K plan gates given bits ++ replicate (pinCount gates) 0) result → w ≡ foldResult K plan gates given bits result
   unfolding foldResult
   result-folded e w d = d ∙ rw (← e, foldResult)
@@ -119,6 +128,7 @@ module _ (K : ℕ) (plan gates given bits result : List ℕ) where
     unfolding foldSized
     sized = and-true (planSized K (length plan) && leb (pinCount gates) (length bits)) (leb (resultSize plan gates) (length result)) (all-passed .areas)
 
+    -- what passing the checks says of the plan and the result area
     pub plan-at : PlanAt K plan gates result
     unfolding planSized resultSize
     plan-at =
@@ -135,6 +145,7 @@ module _ (K : ℕ) (plan gates given bits result : List ℕ) where
           room = leb-true (resultSize plan gates) (length result) (sized .1);
         }
 
+    -- what passing the checks says of the bits and the given pins
     pub input-at : InputAt gates given bits
     input-at =
         let a = and-true (planSized K (length plan)) (leb (pinCount gates) (length bits)) (sized .0) in
@@ -147,7 +158,7 @@ answerOf zero p = Folded
 answerOf (suc zero) p = NoHeight
 answerOf (suc (suc zero)) p = WrongSize
 answerOf (suc (suc (suc zero))) p = WrongGraph
-answerOf (suc (suc (suc (suc n)))) p = elim (eqb n 1) [ true ↦ WrongGiven | false ↦ Looped p ]
+answerOf (suc (suc (suc (suc n)))) p = elim (eqb n 1) [ true ↦ WrongGiven | false ↦ Looped (record { 0 = p }) ]
 
 answer-back : (a : Answer) → answerOf (numberFor a) (pinFor a) ≡ a
 unfolding answerOf numberFor pinFor

@@ -10,6 +10,7 @@ use lib.Dec.{ltb}
 use lib.ListN.{length, getD, take, drop, replicate, length-append, length-take, length-drop, length-replicate, getD-replicate, take-append-drop}
 use lib.Seq.{getD-take, getD-drop, take-add, drop-drop, drop-length, length-take-le, ext-getD}
 use borrow.Author.Tests.{ltb-true, ltb-false}
+use Rattle.rules.proofs.Lists.Parts.{take-same, drop-same, part-same}
 use Rattle.rules.specs.Lists.{nothing, found, laidOver}
 use Rattle.rules.specs.Cells.{isHeight}
 use Rattle.rules.specs.Graph.{Node, graphOf, pinCount}
@@ -24,7 +25,6 @@ use Rattle.fold_stage.specs.Loads.{held, seen, AreaAt, Spread, FirstHeld, Zeroe
 use Rattle.fold.specs.Stages.{Only, Folds, OneAt, NextAt, PlanAt, InputAt, stageFrom, StepAt, AllFold}
 use Rattle.fold_stage.proofs.Laws.Cells.{bit-number}
 use Rattle.fold_stage.proofs.Laws.Loads.{held-past}
-use Rattle.fold_stage.proofs.Laws.Parts.{take-same, drop-same, part-same}
 
 -- an area of the same length serves as well
 pub area-kept : (K : ℕ) (cells : List ℕ) (at L m : ℕ) (w u : List ℕ) → length u ≡ length w → AreaAt K cells at L m w → AreaAt K cells at L m u
@@ -73,6 +73,7 @@ module _ (K : ℕ) (g : List Node) (cells : List ℕ) (at L m : ℕ) (w u : List
     below : (i : ℕ) → i < L → getD x i 0 ≡ getD u i 0
     below i h = F .same i (inl h) ∙ Z .same i (inl h)
 
+    -- a stage folded, the loads cleared and the next ones stored: all that a stage leaves
     pub folds : Folds K g (held L m w) cells at L m w x
     folds = record {
       len = F .len ∙ Z .len ∙ S .len;
@@ -99,6 +100,7 @@ first-folds K cells gates given bits L m w u x e H F =
 
 -- ---- a plan as far as it is folded
 
+-- the plan is folded up to a stage's start, and the loads of the next stage are there
 pub record Standing (K : ℕ) (g : List Node) (load : ℕ → Bool) (plan : List ℕ) (m : ℕ) (w : List ℕ) (at : ℕ) (now : List ℕ) : Type 0 where
   pub len : length now ≡ length w
   pub before : 2 ^ (K + 1) ≤ at
@@ -111,6 +113,7 @@ pub record Standing (K : ℕ) (g : List Node) (load : ℕ → Bool) (plan : List
 one-stage : (x d : ℕ) → x % d ≡ 0 → 0 < x → d ≤ x
 one-stage x d e h = split (ltb x d) (λ t. let b = ltb-true x d t in absurd (omega (arith, mod-eq-of-lt b))) (λ t. ltb-false x d t)
 
+-- the size of a stage, as the code gets it for a right height
 pub size-there : (K s : ℕ) → isHeight K ≡ true → s ≡ orZero (isHeight K) (2 ^ (K + 1)) → s ≡ 2 ^ (K + 1)
 size-there K s h e = rw (h, orZero-true (2 ^ (K + 1))) at e
 
@@ -124,10 +127,12 @@ plan-stage K plan gates w P a e ee h = record {
   size = length-take-le (e - a) (drop a plan) (rw length-drop (omega arith)) ∙ omega arith;
 }
 
+-- an area of the same length passes the checks as well
 pub plan-kept : (K : ℕ) (plan gates w u : List ℕ) → length u ≡ length w → PlanAt K plan gates w → PlanAt K plan gates u
 plan-kept K plan gates w u e P = record { height = P .height; low = P .low; high = P .high; double = P .double; whole = P .whole; few = P .few; room = omega (arith, P .room) }
 
 module _ (K : ℕ) (plan gates w : List ℕ) (P : PlanAt K plan gates w) where
+  -- a plan that is not empty has a stage
   pub plan-one : (length plan ≡ 0 → ⊥) → 2 ^ (K + 1) ≤ length plan
   plan-one n = one-stage (length plan) (2 ^ (K + 1)) (P .whole) (omega arith)
 
@@ -164,6 +169,7 @@ module _ (K : ℕ) (plan gates w : List ℕ) (P : PlanAt K plan gates w) where
           past = λ i b. refl;
         }
 
+    -- after stage 1 the plan is folded as far as stage 2
     pub standing-first : (length plan ≡ 0 → ⊥) → (s : ℕ) → s ≡ 2 ^ (K + 1) → Folds K g load (take (s - 0) plan) 0 (length plan) m w now → Standing K g load plan m now s now
     standing-first n s es F = let z : s - 0 ≡ 2 ^ (K + 1) = omega arith in rw es (begun (plan-one n) (rw z at F))
 
@@ -188,9 +194,11 @@ module _ (K : ℕ) (plan gates w : List ℕ) (P : PlanAt K plan gates w) where
             past = λ i b. F .past i b ∙ T .past i b;
           }
 
+      -- with one more stage folded the plan is folded that much further
       pub standing-more : (s : ℕ) → s ≡ 2 ^ (K + 1) → (x : List ℕ) → Folds K g (held (length plan) m now) (stageFrom K at plan) at (length plan) m now x → Standing K g load plan m w (at + s) x
       standing-more s es x F = rw es (more x F)
 
+      -- while stages are left the next one may be folded
       pub standing-step : m ≡ pinCount gates → StepAt K plan gates at now
       standing-step e = record {
         passed = plan-kept K plan gates w now (T .len) P;
@@ -209,6 +217,7 @@ module _ (K : ℕ) (plan gates given bits w : List ℕ) where
   nothing-folds [] e = folded-none K (graphOf gates) load
   nothing-folds (x ∷ p) e = absurd (omega arith)
 
+  -- of an empty plan nothing is to be folded
   pub standing-none : length plan ≡ 0 → AllFold K plan gates given bits w w
   unfolding foldBits folded
   standing-none e = record { len = refl; folds = ap (λ (n : ℕ). take n w) e ∙ sym (nothing-folds plan e); past = λ i h. refl }

@@ -30,10 +30,12 @@ getD-inside [] i d e h = absurd (omega arith)
 getD-inside (x ∷ xs) zero d e h = refl
 getD-inside (x ∷ xs) (suc i) d e h = getD-inside xs i d e (omega arith)
 
+-- the empty mark fills no cell
 pub not-filled : (c : ℕ) → c ≡ 4294967295 → filled c ≡ false
 unfolding filled empty
 not-filled c e = rw (eq-eqb c 4294967295 e)
 
+-- any number but the empty mark fills a cell
 pub is-filled : (c : ℕ) → (c ≡ 4294967295 → ⊥) → filled c ≡ true
 unfolding filled empty
 is-filled c e = rw (ne-eqb c 4294967295 e)
@@ -42,6 +44,7 @@ module _ (g : List Node) (cells bits : List ℕ) (p : ℕ) (C : CellAt p cells b
   here : getD cells q 0 ≡ getD cells p empty
   here = rw eq (getD-inside cells p 0 empty (C .here))
 
+  -- an empty cell folds to 0
   pub folds-empty : getD cells q 0 ≡ 4294967295 → CellFolds g cells bits p false
   folds-empty e = record { all = λ K load low high R. sym (bit-empty K g cells load p (not-filled (getD cells p empty) (sym here ∙ e))) }
 
@@ -57,6 +60,7 @@ module _ (g : List Node) (cells bits : List ℕ) (p : ℕ) (C : CellAt p cells b
         let l = lower-cells K p low high in
         rw (ea, R .bit (firstLower p) (omega (arith, l .above)) (omega (arith, l .next, l .inside))) (bit-number (bitAt K g cells load (firstLower p)))
 
+    -- a cell whose first lower cell holds the same pin copies its bit
     pub folds-copies : getD cells a 0 ≡ getD cells q 0 → CellFolds g cells bits p (not (eqb (getD bits a 0) 0))
     folds-copies e = record {
       all = λ K load low high R.
@@ -67,6 +71,7 @@ module _ (g : List Node) (cells bits : List ℕ) (p : ℕ) (C : CellAt p cells b
       apart : eqb (getD cells (firstLower p) empty) (getD cells p empty) ≡ false
       apart = ne-eqb (getD cells (firstLower p) empty) (getD cells p empty) (λ e. other (first ∙ e ∙ sym here))
 
+      -- without the first lower cell a gate's cell folds to 0
       pub folds-first-lacks : getD cells a 0 ≡ 4294967295 → CellFolds g cells bits p false
       folds-first-lacks e = record { all = λ K load low high R. sym (bit-lacks K g cells load p low high held apart (rw (not-filled (getD cells (firstLower p) empty) (sym first ∙ e)))) }
 
@@ -77,6 +82,7 @@ module _ (g : List Node) (cells bits : List ℕ) (p : ℕ) (C : CellAt p cells b
         second : getD cells b 0 ≡ getD cells (secondLower p) empty
         second = rw eb (getD-inside cells (secondLower p) 0 empty (C .second))
 
+        -- without the second lower cell a gate's cell folds to 0 too
         pub folds-second-lacks : getD cells b 0 ≡ 4294967295 → CellFolds g cells bits p false
         folds-second-lacks e = record { all = λ K load low high R. sym (bit-lacks K g cells load p low high held apart (rw (first-there, not-filled (getD cells (secondLower p) empty) (sym second ∙ e)))) }
 
@@ -85,6 +91,7 @@ module _ (g : List Node) (cells bits : List ℕ) (p : ℕ) (C : CellAt p cells b
             let l = lower-cells K p low high in
             rw (eb, R .bit (secondLower p) (omega (arith, l .above, l .next)) (l .inside)) (bit-number (bitAt K g cells load (secondLower p)))
 
+        -- with both lower cells filled the cell's bit is its gate's
         pub folds-gate : (getD cells b 0 ≡ 4294967295 → ⊥) → (x : Node) → x ≡ getD g (getD cells q 0) leaf → (r : Bool) → r ≡ gateBit (not (eqb (getD bits a 0) 0)) (not (eqb (getD bits b 0) 0)) x → CellFolds g cells bits p r
         folds-gate e x ex r er = record {
           all = λ K load low high R.
@@ -102,9 +109,11 @@ pub record Rising (K : ℕ) (g : List Node) (cells bits : List ℕ) (p : ℕ) (n
   pub all : (load : ℕ → Bool) → RightFrom K g cells load (2 ^ K) bits → RightFrom K g cells load p now
 
 module _ (K : ℕ) (g : List Node) (cells bits : List ℕ) (U : UpAt K cells bits) where
+  -- at the start level 0 alone has its bits
   pub rising-none : (p : ℕ) → p ≡ 2 ^ K → Rising K g cells bits p bits
   rising-none p e = record { len = refl; low = omega (arith, U .stage .low); high = omega arith; all = λ load R. rw e R }
 
+  -- the next cell down and its lower cells are in the stage
   pub rising-cell : (p : ℕ) (now : List ℕ) → Rising K g cells bits p now → 1 < p → CellAt (p - 1) cells now
   rising-cell p now r h =
       let l = lower-cells K (p - 1) (omega arith) (omega (arith, r .high)) in
@@ -117,6 +126,7 @@ module _ (K : ℕ) (g : List Node) (cells bits : List ℕ) (U : UpAt K cells bit
         (λ t. let d : q ≡ p = omega (arith, ltb-false p q t) in rw (d, getD-set-same now p v 0 h) e);
   }
 
+  -- its bit stored, the bits from that position on are there
   pub rising-more : (p : ℕ) (now : List ℕ) → Rising K g cells bits p now → 1 < p → (x : Bool) → CellFolds g cells now (p - 1) x → (v : ℕ) → v ≡ asNumber x → Rising K g cells bits (p - 1) (set now (p - 1) v)
   rising-more p now r h x F v e =
       let s : suc (p - 1) ≡ p = omega arith in
@@ -129,6 +139,7 @@ module _ (K : ℕ) (g : List Node) (cells bits : List ℕ) (U : UpAt K cells bit
             right-more load (p - 1) v now (omega (arith, r .len, r .high, U .same, U .stage .size, U .stage .double)) (e ∙ ap asNumber (F .all K load (omega arith) (omega (arith, r .high)) N)) N;
       }
 
+  -- at position 1 all bits are there; position 0 gets 0
   pub rising-done : (p : ℕ) (now : List ℕ) → Rising K g cells bits p now → p ≤ 1 → FoldsUp K g cells bits (set now 0 0)
   unfolding bitAt asNumber
   rising-done p now r h = record {
@@ -144,10 +155,12 @@ module _ (K : ℕ) (g : List Node) (cells bits : List ℕ) (U : UpAt K cells bit
 
 -- the lower cells, as the code computes them
 module _ (p q w s : ℕ) (eq : q ≡ p) (ew : w ≡ s) (es : s ≡ rowStart p) where
+  -- the first lower cell, as the code adds it up
   pub lower-first : q + w ≡ firstLower p
   unfolding firstLower
   lower-first = omega arith
 
+  -- the second lower cell, as the code adds it up
   pub lower-second : q + 2 * w ≡ secondLower p
   unfolding secondLower
   lower-second = omega arith

@@ -1,4 +1,4 @@
--- A part of the area that was lent comes back; lists that agree from place to place. Assumes nothing.
+-- A part of the area that was lent comes back. Assumes nothing.
 use Prim.Native.Nat.{ℕ, zero, suc, _+_, _-_, _^_, _≤_, _<_}
 use mathlib.Core.Path.{_≡_, refl, sym, _∙_, ap}
 use mathlib.Core.Logic.{_⊎_, inl, inr}
@@ -7,7 +7,7 @@ use mathlib.Core.List.{List, _++_}
 use native.Mathlib.Omega.{arith}
 use lib.Dec.{ltb, eqb}
 use lib.ListN.{length, getD, take, drop, replicate, length-append, length-take, length-drop, getD-replicate, List·getD-append, List·getD-eq-default}
-use lib.Seq.{getD-take, getD-drop, getD-append-add, length-take-le, ext-getD, take-at, drop-at}
+use lib.Seq.{getD-take, getD-drop, getD-append-add, length-take-le, take-at, drop-at}
 use borrow.Author.Tests.{not-false, ltb-true, ltb-false}
 use Rattle.rules.specs.Cells.{empty, filled}
 use Rattle.rules.specs.Lists.{mem}
@@ -21,22 +21,9 @@ use Rattle.fold_stage.specs.Loads.{held, AreaAt, Loads, FirstAt, FirstLo
 use Rattle.fold_stage.proofs.Laws.Cells.{bit-number}
 use Rattle.fold_stage.proofs.Laws.Loads.{held-past}
 
--- ---- lists that agree
-
-pub take-same : (n : ℕ) (u v : List ℕ) → length u ≡ length v → ((i : ℕ) → i < n → getD u i 0 ≡ getD v i 0) → take n u ≡ take n v
-take-same n u v e s = ext-getD 0 (take n u) (take n v) (length-take n u ∙ rw e (sym (length-take n v)))
-    (λ i h. let b : i < n = omega (arith, length-take n u) in getD-take n u i 0 b ∙ s i b ∙ sym (getD-take n v i 0 b))
-
-pub drop-same : (a : ℕ) (u v : List ℕ) → length u ≡ length v → ((i : ℕ) → a ≤ i → getD u i 0 ≡ getD v i 0) → drop a u ≡ drop a v
-drop-same a u v e s = ext-getD 0 (drop a u) (drop a v) (length-drop a u ∙ rw e (sym (length-drop a v)))
-    (λ i h. getD-drop a u i 0 ∙ s (a + i) (omega arith) ∙ sym (getD-drop a v i 0))
-
-pub part-same : (n a : ℕ) (u v : List ℕ) → length u ≡ length v → ((i : ℕ) → a ≤ i → i < a + n → getD u i 0 ≡ getD v i 0) → take n (drop a u) ≡ take n (drop a v)
-part-same n a u v e s = take-same n (drop a u) (drop a v) (length-drop a u ∙ rw e (sym (length-drop a v)))
-    (λ i h. getD-drop a u i 0 ∙ s (a + i) (omega arith) (omega arith) ∙ sym (getD-drop a v i 0))
-
 -- ---- a part, lent as area[a..e], comes back as l
 
+-- the part holds what came back, and the area is as it was elsewhere
 pub record Lent (a e : ℕ) (w l w′ : List ℕ) : Type 0 where
   pub len : length w′ ≡ length w
   pub there : (i : ℕ) → i < e - a → getD w′ (a + i) 0 ≡ getD l i 0
@@ -44,9 +31,11 @@ pub record Lent (a e : ℕ) (w l w′ : List ℕ) : Type 0 where
   pub same : (i : ℕ) → (i < a) ⊎ (e ≤ i) → getD w′ i 0 ≡ getD w i 0
 
 module _ (a e : ℕ) (w : List ℕ) (up : a ≤ e) (room : e ≤ length w) where
+  -- a part within the area has its length
   pub length-part : length (take (e - a) (drop a w)) ≡ e - a
   length-part = length-take-le (e - a) (drop a w) (rw length-drop (omega arith))
 
+  -- place i of the part is i behind its start
   pub getD-part : (i : ℕ) → i < e - a → getD (take (e - a) (drop a w)) i 0 ≡ getD w (a + i) 0
   getD-part i h = getD-take (e - a) (drop a w) i 0 h ∙ getD-drop a w i 0
 
@@ -63,6 +52,7 @@ module _ (a e : ℕ) (w : List ℕ) (up : a ≤ e) (room : e ≤ length w) where
     at-part : (i : ℕ) (v : List ℕ) → i < e - a → getD (l ++ v) i 0 ≡ getD l i 0
     at-part i v h = List·getD-append l v 0 i (omega (arith, size, length-part))
 
+    -- a part that comes back with its length lies in its old place
     pub lent : Lent a e w l (take a w ++ (l ++ drop (e - a) (drop a w)))
     lent = record {
       len = length-append (take a w) (l ++ drop (e - a) (drop a w)) ∙ omega (arith, front, length-append l (drop (e - a) (drop a w)), size, length-part, length-drop (e - a) (drop a w), length-drop a w);
@@ -94,6 +84,7 @@ first-past : (g : List Node) (given bits : List ℕ) (m n : ℕ) → m ≤ n →
 unfolding firstLoad
 first-past g given bits m n h = rw (own-past bits m n h) (and-none (mem n given || isLeaf (getD g n leaf)))
 
+-- a part that comes back as zeros is cleared in the area
 pub zeroed : (L m e : ℕ) (w l : List ℕ) → e ≡ L + m → L + m ≤ length w → l ≡ replicate (length (take (e - L) (drop L w))) 0 → length l ≡ length (take (e - L) (drop L w)) → Zeroed L m w (take L w ++ (l ++ drop (e - L) (drop L w)))
 zeroed L m e w l ee room el size =
     let T = lent L e w (omega arith) (omega arith) l size in
@@ -104,6 +95,7 @@ zeroed L m e w l ee room el size =
     }
 
 module _ (gates given bits : List ℕ) (L : ℕ) (w : List ℕ) (F : FirstIn gates given bits L w) (m e : ℕ) (em : m ≡ pinCount gates) (ee : e ≡ L + m) where
+  -- the numbers behind the bits are a part to load for stage 1
   pub first-at : FirstAt gates given bits (take (e - L) (drop L w))
   first-at =
       let z = length-part L e w (omega arith) (omega (arith, F .room)) in
@@ -120,6 +112,7 @@ module _ (gates given bits : List ℕ) (L : ℕ) (w : List ℕ) (F : FirstIn gat
       rw (t, T .there n (omega arith), f .each n (omega arith)) (bit-number (firstLoad (graphOf gates) given (take (pinCount gates) bits) n)))
       (λ t. rw t (sym (first-past (graphOf gates) given bits (pinCount gates) n (ltb-false n (pinCount gates) t))))
 
+  -- with that part loaded the area holds what stage 1 loads
   pub first-held : (l : List ℕ) → length l ≡ length (take (e - L) (drop L w)) → FirstLoads gates given bits (take (e - L) (drop L w)) l → FirstHeld gates given bits L w (take L w ++ (l ++ drop (e - L) (drop L w)))
   first-held l size f =
       let T = lent L e w (omega arith) (omega (arith, F .room)) l size in
@@ -134,6 +127,7 @@ module _ (K : ℕ) (g : List Node) (cells : List ℕ) (at L m : ℕ) (w u : List
   room : e ≤ length u
   room = omega (arith, R .len, A .inside, A .room, A .stage .size)
 
+  -- with level 0 loaded the stage may be folded up
   pub stage-up : UpAt K cells (take (e - at) (drop at u))
   stage-up = record { stage = A .stage; same = length-part at e u up room ∙ omega arith }
 
@@ -143,6 +137,7 @@ module _ (K : ℕ) (g : List Node) (cells : List ℕ) (at L m : ℕ) (w u : List
       (λ t. sym (bit-load K g cells (held L m w) q a b t))
       (λ t. sym (held-past L m w (getD cells q empty) (getD cells q empty) refl (omega (arith, A .few, eqb-true (getD cells q empty) empty (not-false (eqb (getD cells q empty) empty) t)))) ∙ sym (bit-empty K g cells (held L m w) q t))
 
+  -- the part folded is the stage's bits in the area
   pub stage-folds : (l : List ℕ) → length l ≡ length (take (e - at) (drop at u)) → FoldsUp K g cells (take (e - at) (drop at u)) l → StageFolds K g cells at L m w (take at u ++ (l ++ drop (e - at) (drop at u)))
   stage-folds l size F =
       let T = lent at e u up room l size in

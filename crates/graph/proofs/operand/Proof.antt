@@ -15,19 +15,14 @@ returns c = sym (ap pinOf (List·getD-eq-default (now (c .before .before .args .
 mul-t3 : tie.Need-mul-t3
 mul-t3 c = search needs
 
-shared-slice-read-t7 : tie.Need-shared-slice-read-t7
-shared-slice-read-t7 c = search needs
+shared-slice-read-t6 : tie.Need-shared-slice-read-t6
+shared-slice-read-t6 c = search needs
 
 pin-of-requires : tie.Need-pin-of-requires
 pin-of-requires c κs = search needs
-
-wide-requires : tie.Need-wide-requires
-wide-requires c κs = search needs
 
 returns-2 : tie.Need-returns-2
 returns-2 c = search needs
 
 pub operand-spec : {M : Type 1} → statement M
-operand-spec =
-    tie.close
-    (tie.spec returns mul-t3 shared-slice-read-t7 pin-of-requires wide-requires returns-2)
+operand-spec = tie.close (tie.spec returns mul-t3 shared-slice-read-t6 pin-of-requires returns-2)

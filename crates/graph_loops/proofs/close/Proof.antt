@@ -4,13 +4,13 @@ use Rattle.graph_loops.proofs.close.Statement.{statement}
 use Rattle.graph_loops.proofs.close.Tie as tie
 
 abbrev Inv-loop : tie.InvT-loop
-Inv-loop low₀ way v first part top next n₀ number₀ low n number = Unit {0}
+Inv-loop low₀ way p first part top next n₀ number₀ low n number = Unit {0}
 
 abbrev μ-loop : tie.MeasureT-loop
-μ-loop low₀ way v first part top next n₀ number₀ low n number = n
+μ-loop low₀ way p first part top next n₀ number₀ low n number = n
 
-at-requires : tie.Need-at-requires Inv-loop μ-loop
-at-requires c κs = search needs
+low-of-requires : tie.Need-low-of-requires Inv-loop μ-loop
+low-of-requires c κs = search needs
 
 less-requires : tie.Need-less-requires Inv-loop μ-loop
 less-requires c κs = search needs
@@ -27,14 +27,14 @@ sub-back c = search needs
 back-requires : tie.Need-back-requires Inv-loop μ-loop
 back-requires c κs = search needs
 
-at-requires-2 : tie.Need-at-requires-2 Inv-loop μ-loop
-at-requires-2 c κs = search needs
+at-requires : tie.Need-at-requires Inv-loop μ-loop
+at-requires c κs = search needs
 
-at-requires-3 : tie.Need-at-requires-3 Inv-loop μ-loop
-at-requires-3 c κs = search needs
+low-of-requires-2 : tie.Need-low-of-requires-2 Inv-loop μ-loop
+low-of-requires-2 c κs = search needs
 
-put-requires : tie.Need-put-requires Inv-loop μ-loop
-put-requires c κs = search needs
+set-low-requires : tie.Need-set-low-requires Inv-loop μ-loop
+set-low-requires c κs = search needs
 
 less-requires-3 : tie.Need-less-requires-3 Inv-loop μ-loop
 less-requires-3 c κs = search needs
@@ -42,8 +42,8 @@ less-requires-3 c κs = search needs
 returns : tie.Need-returns Inv-loop μ-loop
 returns c = search needs
 
-put-requires-2 : tie.Need-put-requires-2 Inv-loop μ-loop
-put-requires-2 c κs = search needs
+set-low-requires-2 : tie.Need-set-low-requires-2 Inv-loop μ-loop
+set-low-requires-2 c κs = search needs
 
 less-requires-4 : tie.Need-less-requires-4 Inv-loop μ-loop
 less-requires-4 c κs = search needs
@@ -57,8 +57,8 @@ loop-less c = search needs
 loop-again : tie.Need-loop-again Inv-loop μ-loop
 loop-again c = search needs
 
-put-requires-3 : tie.Need-put-requires-3 Inv-loop μ-loop
-put-requires-3 c κs = search needs
+set-low-requires-3 : tie.Need-set-low-requires-3 Inv-loop μ-loop
+set-low-requires-3 c κs = search needs
 
 less-requires-5 : tie.Need-less-requires-5 Inv-loop μ-loop
 less-requires-5 c κs = search needs
@@ -72,22 +72,22 @@ close-spec =
     (tie.spec
     Inv-loop
     μ-loop
-    at-requires
+    low-of-requires
     less-requires
     less-requires-2
     loop-holds
     sub-back
     back-requires
-    at-requires-2
-    at-requires-3
-    put-requires
+    at-requires
+    low-of-requires-2
+    set-low-requires
     less-requires-3
     returns
-    put-requires-2
+    set-low-requires-2
     less-requires-4
     sub-n
     loop-less
     loop-again
-    put-requires-3
+    set-low-requires-3
     less-requires-5
     returns-2)

@@ -1,5 +1,5 @@
 -- `graph_loops::reach` meets its contract. Assumes nothing.
-use Rattle.graph_loops.proofs.Laws.{reach-leaf, reach-true, reach-rest}
+use Rattle.graph_loops.proofs.Laws.Reaching.{reach-leaf, reach-true, reach-rest}
 use borrow.Author.Needs.{needs}
 use Rattle.graph_loops.proofs.reach.Statement.{statement}
 use Rattle.graph_loops.proofs.reach.Tie as tie

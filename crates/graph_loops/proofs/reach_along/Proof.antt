@@ -4,7 +4,7 @@ use Prim.Native.Nat.{_≤_, _-_}
 use native.Mathlib.Omega.{arith}
 use Rattle.rules.specs.Graph.{pinCount}
 use Rattle.graph_loops.specs.Marks.{Spread}
-use Rattle.graph_loops.proofs.Laws.{spread-none, spread-loose}
+use Rattle.graph_loops.proofs.Laws.Reaching.{spread-none, spread-loose}
 use borrow.Author.Needs.{needs}
 use Rattle.graph_loops.proofs.reach_along.Statement.{statement}
 use Rattle.graph_loops.proofs.reach_along.Tie as tie
@@ -36,11 +36,8 @@ add-i c = search needs
 queue-requires : tie.Need-queue-requires Inv-loop μ-loop
 queue-requires c κs = search needs
 
-wide-requires : tie.Need-wide-requires Inv-loop μ-loop
-wide-requires c κs = search needs
-
-wide-requires-2 : tie.Need-wide-requires-2 Inv-loop μ-loop
-wide-requires-2 c κs = search needs
+index-requires : tie.Need-index-requires Inv-loop μ-loop
+index-requires c κs = search needs
 
 reach-from-requires : tie.Need-reach-from-requires Inv-loop μ-loop
 reach-from-requires c κs = search needs
@@ -52,7 +49,7 @@ loop-less : tie.Need-loop-less Inv-loop μ-loop
 loop-less c = search needs
 
 loop-again : tie.Need-loop-again Inv-loop μ-loop
-loop-again c = (spread-loose _ _ (c .before .before .before .before .before .before .before .before .before .before .before .before .before .before .before .loop .inv .0) (c .before .before .before .reach-from .ensures) _ (c .either .ensures), search needs, omega (arith, c .before .before .before .before .before .before .before .before .before .before .before .before .before .before .before .loop .inv .2, c .before .before .before .before .before .before .before .before .before .before .before .before .before .before .loop-test .taken))
+loop-again c = (spread-loose _ _ (c .before .before .before .before .before .before .before .before .before .before .before .before .before .before .loop .inv .0) (c .before .before .before .reach-from .ensures) _ (c .either .ensures), search needs, omega (arith, c .before .before .before .before .before .before .before .before .before .before .before .before .before .before .loop .inv .2, c .before .before .before .before .before .before .before .before .before .before .before .before .before .loop-test .taken))
 
 loop-less-2 : tie.Need-loop-less-2 Inv-loop μ-loop
 loop-less-2 c = search needs
@@ -79,8 +76,7 @@ reach-along-spec =
     at-requires
     add-i
     queue-requires
-    wide-requires
-    wide-requires-2
+    index-requires
     reach-from-requires
     either-requires
     loop-less

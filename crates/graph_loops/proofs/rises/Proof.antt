@@ -4,13 +4,13 @@ use mathlib.Core.Path.{refl, ap}
 use denote.Ref.{now}
 use lib.ListN.{getD}
 use Rattle.rules.proofs.Lists.Members.{true-false}
-use Rattle.graph_loops.proofs.Laws.{rises-leaf, rises-gate}
+use Rattle.graph_loops.proofs.Laws.Marking.{rises-leaf, rises-gate}
 use borrow.Author.Needs.{needs}
 use Rattle.graph_loops.proofs.rises.Statement.{statement}
 use Rattle.graph_loops.proofs.rises.Tie as tie
 
-wide-requires : tie.Need-wide-requires
-wide-requires c κs = search needs
+index-requires : tie.Need-index-requires
+index-requires c κs = search needs
 
 mul-own : tie.Need-mul-own
 mul-own c = search needs
@@ -37,7 +37,7 @@ returns : tie.Need-returns
 returns c = λ e. rises-leaf _ _ _ _ _ (c .before .before .node-at .ensures) (c .enum-told .given .1)
 
 returns-2 : tie.Need-returns-2
-returns-2 c = λ e. let d = c .before .before .before .before in rises-gate _ _ _ _ _ (d .before .before .node-at .ensures) _ _ (d .a .given .1) _ (ap (λ (i : ℕ). getD (now (c .before .before .before .before .before .before .before .before .before .before .args .low)) i 0) (d .before .before .before .before .wide .ensures)) (c .before .before .rises-to .ensures (c .before .if1 .taken)) (c .rises-to2 .ensures e)
+returns-2 c = λ e. rises-gate _ _ _ _ _ (c .before .before .before .before .before .before .node-at .ensures) _ _ (c .before .before .before .before .a .given .1) _ (ap (λ (i : ℕ). getD (now (c .before .before .before .before .before .before .before .before .before .before .args .low)) i 0) (c .before .before .before .before .before .before .before .before .index .ensures)) (c .before .before .rises-to .ensures (c .before .if1 .taken)) (c .rises-to2 .ensures e)
 
 returns-3 : tie.Need-returns-3
 returns-3 c = λ e. true-false e refl
@@ -46,7 +46,7 @@ pub rises-spec : {M : Type 1} → statement M
 rises-spec =
     tie.close
     (tie.spec
-    wide-requires
+    index-requires
     mul-own
     element-copy-out-own
     node-at-requires

@@ -1,7 +1,7 @@
 -- `graph_loops::spread` meets its contract. Assumes nothing.
 use native.Mathlib.Omega.{arith}
 use Rattle.graph_loops.specs.Marks.{zeros, Under}
-use Rattle.graph_loops.proofs.Laws.{under-start, under-more, loop-told, still-long}
+use Rattle.graph_loops.proofs.Laws.Searching.{under-start, under-more, loop-told, still-long}
 use borrow.Author.Needs.{needs}
 use Rattle.graph_loops.proofs.spread.Statement.{statement}
 use Rattle.graph_loops.proofs.spread.Tie as tie
@@ -33,8 +33,8 @@ loop-less c = c .before .before .before .reach-more .ensures .less (c .if1 .take
 loop-again : tie.Need-loop-again Inv-loop μ-loop
 loop-again c = under-more _ _ _ _ _ _ (c .before .before .before .before .before .loop .inv) (c .before .before .before .reach-more .ensures)
 
-wide-requires : tie.Need-wide-requires Inv-loop μ-loop
-wide-requires c κs = search needs
+index-requires : tie.Need-index-requires Inv-loop μ-loop
+index-requires c κs = search needs
 
 slice-read-result : tie.Need-slice-read-result Inv-loop μ-loop
 slice-read-result c = search needs
@@ -43,7 +43,7 @@ same-length : tie.Need-same-length Inv-loop μ-loop
 same-length c = still-long _ _ _ _ _ _ _ (c .before .before .before .before .before .before .before .before .before .before .before .before .before .before .before .before .before .before .before .before .before .before .pre .1 .1) (c .before .before .before .before .before .before .before .loop .inv) (c .before .before .before .before .before .reach-more .ensures)
 
 returns : tie.Need-returns Inv-loop μ-loop
-returns c = loop-told _ _ _ _ _ _ (c .before .before .before .before .before .before .before .before .before .before .before .before .before .before .before .before .before .before .before .before .before .before .pre .0) (c .before .before .before .before .before .before .before .loop .inv) (c .before .before .before .before .before .reach-more .ensures) (c .before .before .if1 .left) (c .before .wide .ensures)
+returns c = loop-told _ _ _ _ _ _ (c .before .before .before .before .before .before .before .before .before .before .before .before .before .before .before .before .before .before .before .before .before .before .pre .0) (c .before .before .before .before .before .before .before .loop .inv) (c .before .before .before .before .before .reach-more .ensures) (c .before .before .if1 .left) (c .before .index .ensures)
 
 pub spread-spec : {M : Type 1} → statement M
 spread-spec =
@@ -58,7 +58,7 @@ spread-spec =
     reach-more-requires
     loop-less
     loop-again
-    wide-requires
+    index-requires
     slice-read-result
     same-length
     returns)

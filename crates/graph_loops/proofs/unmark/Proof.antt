@@ -4,16 +4,16 @@ use mathlib.Core.Path.{_≡_}
 use lib.ListN.{length}
 use Rattle.rules.specs.Graph.{pinCount}
 use Rattle.graph_loops.specs.Marks.{Kept}
-use Rattle.graph_loops.proofs.Laws.{unmarked}
+use Rattle.graph_loops.proofs.Laws.Marking.{unmarked}
 use borrow.Author.Needs.{needs}
 use Rattle.graph_loops.proofs.unmark.Statement.{statement}
 use Rattle.graph_loops.proofs.unmark.Tie as tie
 
 abbrev Inv-loop : tie.InvT-loop
-Inv-loop gates low marks₀ pins p₀ marks p = Kept gates marks × (pins ≡ pinCount gates) × (p ≤ pins) × (length marks ≡ length marks₀)
+Inv-loop gates low marks₀ pins p₀ marks p = Kept gates marks × (pins ≡ pinCount gates) × (p .0 ≤ pins) × (length marks ≡ length marks₀)
 
 abbrev μ-loop : tie.MeasureT-loop
-μ-loop gates low marks₀ pins p₀ marks p = pins - p
+μ-loop gates low marks₀ pins p₀ marks p = pins - p .0
 
 pin-count-requires : tie.Need-pin-count-requires Inv-loop μ-loop
 pin-count-requires c κs = search needs
@@ -21,17 +21,17 @@ pin-count-requires c κs = search needs
 loop-holds : tie.Need-loop-holds Inv-loop μ-loop
 loop-holds c = search needs
 
-wide-requires : tie.Need-wide-requires Inv-loop μ-loop
-wide-requires c κs = search needs
+index-requires : tie.Need-index-requires Inv-loop μ-loop
+index-requires c κs = search needs
 
-add-p : tie.Need-add-p Inv-loop μ-loop
-add-p c = search needs
+add-t9 : tie.Need-add-t9 Inv-loop μ-loop
+add-t9 c = search needs
 
 rises-requires : tie.Need-rises-requires Inv-loop μ-loop
 rises-requires c κs = search needs
 
-wide-requires-2 : tie.Need-wide-requires-2 Inv-loop μ-loop
-wide-requires-2 c κs = search needs
+index-requires-2 : tie.Need-index-requires-2 Inv-loop μ-loop
+index-requires-2 c κs = search needs
 
 slice-write-marks : tie.Need-slice-write-marks Inv-loop μ-loop
 slice-write-marks c = search needs
@@ -40,7 +40,7 @@ loop-less : tie.Need-loop-less Inv-loop μ-loop
 loop-less c = search needs
 
 loop-again : tie.Need-loop-again Inv-loop μ-loop
-loop-again c = (rw (c .wide2 .ensures) (unmarked _ _ (c .before .before .before .before .before .before .before .before .before .pre .1 .0) _ _ (c .before .before .before .before .before .loop .inv .0) (c .before .before .rises .ensures (c .before .if2 .taken))), search needs, search needs, search needs)
+loop-again c = (rw (c .index2 .ensures) (unmarked _ _ (c .before .before .before .before .before .before .before .before .before .before .pre .1 .0) _ _ (c .before .before .before .before .before .before .loop .inv .0) (c .before .before .rises .ensures (c .before .if2 .taken))), search needs, search needs, search needs)
 
 loop-less-2 : tie.Need-loop-less-2 Inv-loop μ-loop
 loop-less-2 c = search needs
@@ -62,10 +62,10 @@ unmark-spec =
     μ-loop
     pin-count-requires
     loop-holds
-    wide-requires
-    add-p
+    index-requires
+    add-t9
     rises-requires
-    wide-requires-2
+    index-requires-2
     slice-write-marks
     loop-less
     loop-again

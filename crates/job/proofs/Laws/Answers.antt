@@ -20,17 +20,21 @@ use Rattle.job.specs.Answers.{Outcome, refused, roomFor, laid, readInto}
 
 -- ---- has it room
 
+-- an area too short for the gates: no room
 pub room-gates : (a b c d e f : ℕ) → d < a → false ≡ (leb a d && leb b e && leb c f)
 room-gates a b c d e f h = sym (rw (lt-leb a d h))
 
+-- an area too short for the given pins: no room
 pub room-given : (a b c d e f : ℕ) → e < b → false ≡ (leb a d && leb b e && leb c f)
 room-given a b c d e f h = sym (rw (lt-leb b e h, and-none (leb a d)))
 
+-- with room for gates and given pins, the records' area decides
 pub room-records : (a b c d e f : ℕ) → a ≤ d → b ≤ e → leb c f ≡ (leb a d && leb b e && leb c f)
 room-records a b c d e f h k = sym (rw (le-leb a d h, le-leb b e k))
 
 -- ---- is it a job
 
+-- more than 8,192 bytes are no job
 pub too-long : (xs : List ℕ) → 8192 < length xs → readJob xs ≡ noJob
 unfolding readJob
 too-long xs h = rw (lt-leb (length xs) 8192 h, readJob)
@@ -48,16 +52,19 @@ module _ {xs : List ℕ} {at K ng nv nc : ℕ} (small : length xs ≤ 8192) (M :
   unfolding accept
   met h e = rw (M .read h .is, accept, fits-sized (M .read h), e)
 
+  -- what the measure does not accept is no job
   pub no-job : accepts xs at K ng nc ≡ false → readJob xs ≡ noJob
   unfolding accepts accept
   no-job e = opened ∙ split (leb at (8 * length xs))
       (λ t. met (leb-true at (8 * length xs) t) (rw t at e))
       (λ t. rw (M .lost (leb-false at (8 * length xs) t)))
 
+  -- the bytes are the job that was measured
   pub record Is : Type 0 where
     pub inside : at ≤ 8 * length xs
     pub is : readJob xs ≡ job (M .read inside .J)
 
+  -- what the measure accepts is the job that it met
   pub a-job : accepts xs at K ng nc ≡ true → Is
   unfolding accepts
   a-job e =
@@ -73,6 +80,7 @@ module _ {xs : List ℕ} {at K ng nv nc : ℕ} (small : length xs ≤ 8192) (M :
 pub as-before : {xs g v c g₁ v₁ c₁ : List ℕ} {at K ng nv nc : ℕ} → MeasuredIn xs g v c g₁ v₁ c₁ at K ng nv nc → (o : Outcome) (j : Job?) → o ≡ readInto j g₁ v₁ c₁ → o ≡ readInto j g v c
 as-before M o j e = rw (← M .gates, ← M .given, ← M .records) e
 
+-- bytes that are no job are refused with 11, the areas unchanged
 pub refuses-bytes : (xs g v c : List ℕ) → readJob xs ≡ noJob → refused 11 g v c ≡ readInto (readJob xs) g v c
 unfolding readInto
 refuses-bytes xs g v c e = rw e
@@ -82,6 +90,7 @@ module _ {xs : List ℕ} {at K ng nv nc : ℕ} (small : length xs ≤ 8192) (M :
   unfolding roomFor
   room-is d = let m = M .read (a-job small M e .inside) in rw (← m .gates, ← m .given, ← m .records) d
 
+  -- areas too short for the job are refused with 2, unchanged
   pub refuses-room : leb ng (length g) && leb nv (length v) && leb nc (length c) ≡ false → refused 2 g v c ≡ readInto (readJob xs) g v c
   unfolding readInto
   refuses-room d = rw (a-job small M e .is, readInto, room-is d)
@@ -119,6 +128,7 @@ module _ {xs g v c g₁ v₁ c₁ : List ℕ} {at K ng nv nc : ℕ} (W : Walked 
       let f = fits (m .J) g v c r in
       rw (← laid-over (m .J .gates) g (f .gates), ← laid-over (m .J .given) v (f .given), ← laid-over (m .J .records) c (f .records), ← s .gates, ← s .given, ← s .records, ← m .height, ← m .gates, ← m .given, ← m .records)
 
+  -- the second walk leaves the job's lists over the front of the areas
   pub reads : {at₀ K₀ ng₀ nv₀ nc₀ : ℕ} (small : length xs ≤ 8192) (M : Measured xs at₀ K₀ ng₀ nv₀ nc₀) → accepts xs at₀ K₀ ng₀ nc₀ ≡ true →
       leb ng₀ (length g) && leb nv₀ (length v) && leb nc₀ (length c) ≡ true → now ≡ readInto (readJob xs) g v c
   unfolding readInto

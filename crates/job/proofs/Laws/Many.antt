@@ -10,15 +10,18 @@ use Rattle.bits.specs.Fields.{bitsIn}
 use Rattle.bits.proofs.Laws.Putting.{sets-append}
 use Rattle.job.specs.Steps.{oneField, counted, At, FieldsAt, Took, Counted}
 
+-- what reads some numbers from bits, or finds them cut
 abbrev pub Reader : Type 0
 Reader = List ℕ → Read (List ℕ)
 
 -- ---- n readings
 
+-- n readings one behind the other
 pub many : Reader → ℕ → List ℕ → Read (List ℕ)
 many one zero bs = got [] bs
 many one (suc n) bs = next (one bs) (λ x cs. next (many one n cs) (λ xs ds. got (x ++ xs) ds))
 
+-- some numbers in front of what is read
 pub before : List ℕ → Read (List ℕ) → Read (List ℕ)
 before xs r = next r (λ ys ds. got (xs ++ ys) ds)
 
@@ -55,6 +58,7 @@ unfolding next
 field-first n w cut e = refl
 field-first n w (got x cs) e = rw (e cs)
 
+-- so many fields are so many readings of one
 pub fields-many : (n w : ℕ) (bs : List ℕ) → fields n w bs ≡ many (oneField w) n bs
 unfolding fields many oneField
 fields-many zero w bs = refl
@@ -66,11 +70,13 @@ unfolding next
 same-first f g n cut e = refl
 same-first f g n (got x cs) e = rw (e cs)
 
+-- so many pins are so many readings of one
 pub pins-many : (n : ℕ) (bs : List ℕ) → readPins n bs ≡ many readPin n bs
 unfolding readPins many
 pins-many zero bs = refl
 pins-many (suc n) bs = same-first readPins (many readPin) n (readPin bs) (pins-many n)
 
+-- so many records are so many readings of one
 pub records-many : (n : ℕ) (bs : List ℕ) → readRecords n bs ≡ many readRecord n bs
 unfolding readRecords many
 records-many zero bs = refl
@@ -78,6 +84,7 @@ records-many (suc n) bs = same-first readRecords (many readRecord) n (readRecord
 
 -- ---- after i of them
 
+-- i of n readings are done, and what they read stands in the area
 pub record Going (one : Reader) (xs : List ℕ) (n i from s : ℕ) (a a′ : List ℕ) (at count : ℕ) : Type 0 where
   pub upto : i ≤ n
   pub len : length a′ ≡ length a
@@ -89,6 +96,7 @@ pub record Going (one : Reader) (xs : List ℕ) (n i from s : ℕ) (a a′ : Lis
   pub area : a′ ≡ sets a s these
   pub counts : count ≡ s + length these
 
+-- at the start no reading is done
 pub going-none : {one : Reader} {xs : List ℕ} {n from s : ℕ} {a : List ℕ} → from ≤ 8 * length xs → Going one xs n 0 from s a a from s
 going-none {one} {xs} {n} {from} {s} {a} h =
     let e : n - 0 ≡ n = omega arith in
@@ -96,6 +104,7 @@ going-none {one} {xs} {n} {from} {s} {a} h =
 
 module _ {one : Reader} {xs : List ℕ} {n i from s : ℕ} {a a₁ : List ℕ} {at count : ℕ} (G : Going one xs n i from s a a₁ at count) where
   module _ (h : i < n) {a₂ : List ℕ} {at₂ count₂ : ℕ} (T : Took one xs at count a₁ a₂ at₂ count₂) where
+    -- one reading more is done
     pub going-more : at₂ ≤ 8 * length xs → Going one xs n (i + 1) from s a a₂ at₂ count₂
     going-more k =
         let A = T .read k in
@@ -114,6 +123,7 @@ module _ {one : Reader} {xs : List ℕ} {n i from s : ℕ} {a a₁ : List ℕ} {
           counts = omega (arith, A .count, G .counts, length-append (G .these) ys);
         }
 
+    -- one that is cut cuts them all
     pub going-lost : 8 * length xs < at₂ → (R : Reader) → ((bs : List ℕ) → R bs ≡ many one n bs) → Took R xs from s a a₂ at₂ count₂
     going-lost k R same =
         let e : n - i ≡ suc (n - (i + 1)) = omega arith in
@@ -124,6 +134,7 @@ module _ {one : Reader} {xs : List ℕ} {n i from s : ℕ} {a a₁ : List ℕ} {
           read = λ l. absurd (omega arith);
         }
 
+  -- all n readings are done
   pub going-done : n ≤ i → (R : Reader) → ((bs : List ℕ) → R bs ≡ many one n bs) → Took R xs from s a a₁ at count
   unfolding many
   going-done h R same =
@@ -146,27 +157,33 @@ module _ {one : Reader} {xs : List ℕ} {n i from s : ℕ} {a a₁ : List ℕ} {
 pub going-at : {one : Reader} {xs : List ℕ} {n i from s : ℕ} {a a₁ : List ℕ} {at count : ℕ} → Going one xs n i from s a a₁ at count → length xs ≤ 8192 → s ≤ 2 * from + 2 → At at count xs
 going-at G k r = record { small = k; inside = G .inside; room = omega (arith, G .few) }
 
+-- the next field may be read
 pub going-fields : {one : Reader} {xs : List ℕ} {n i w from s : ℕ} {a a₁ : List ℕ} {at count : ℕ} → Going one xs n i from s a a₁ at count → FieldsAt from w s xs → FieldsAt at w count xs
 going-fields G F = record { small = F .small; inside = G .inside; room = omega (arith, G .few, F .room); some = F .some; short = F .short }
 
 -- ---- a step that met a cut
 
+-- a cut is told by a place past the end
 pub took-lost : {one : Reader} {xs : List ℕ} {at s : ℕ} {a a′ : List ℕ} {s′ : ℕ} → length a′ ≡ length a → one (drop at (bitsIn xs)) ≡ cut → Took one xs at s a a′ (8 * length xs + 1) s′
 took-lost {one} {xs} l e = record { len = l; lost = λ _ _. e; read = λ h. absurd (omega arith) }
 
 -- ---- a count and so many
 
+-- behind a count that is there the walk goes on
 pub counted-at : {xs : List ℕ} {at at₁ n s : ℕ} → Counted xs at at₁ n → at₁ ≤ 8 * length xs → length xs ≤ 8192 → s ≤ 2 * at + 2 → At at₁ s xs
 counted-at C h k r = record { small = k; inside = h; room = omega (arith, C .read h .behind) }
 
+-- behind a count that is there fields of 16 bits may be read
 pub counted-fields : {xs : List ℕ} {at at₁ n s : ℕ} → Counted xs at at₁ n → at₁ ≤ 8 * length xs → length xs ≤ 8192 → s ≤ 2 * at + 2 → FieldsAt at₁ 16 s xs
 counted-fields C h k r = record { small = k; inside = h; room = omega (arith, C .read h .behind); some = omega arith; short = omega arith }
 
 module _ (f : ℕ → Reader) {xs : List ℕ} {at at₁ n s : ℕ} (C : Counted xs at at₁ n) where
+  -- a count that is cut cuts what it counts
   pub counted-lost : 8 * length xs < at₁ → {a : List ℕ} → Took (counted f) xs at s a a at₁ s
   unfolding counted next
   counted-lost h = record { len = refl; lost = λ k l. rw (C .lost k l); read = λ k. absurd (omega arith) }
 
+  -- a count and so many readings are one step
   pub counted-took : at₁ ≤ 8 * length xs → {a a′ : List ℕ} {at₂ s₂ : ℕ} → Took (f n) xs at₁ s a a′ at₂ s₂ → Took (counted f) xs at s a a′ at₂ s₂
   unfolding counted next
   counted-took h T =

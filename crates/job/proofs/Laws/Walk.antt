@@ -33,6 +33,7 @@ next-got a b f = refl
 abbrev made : ℕ → List ℕ → List ℕ → List ℕ → Job
 made K gates given records = record { height = K; gates = empty ∷ empty ∷ gates; given = given; records = records }
 
+-- the fields of a job file: height, pins, given pins, groups
 pub sections : (bs : List ℕ) {K : ℕ} {b1 : List ℕ} → field 4 bs ≡ got K b1 →
     readFields bs ≡ next (counted readPins b1) (λ g b3. next (counted (λ n. fields n 16) b3) (λ v b5. next (counted readRecords b5) (λ c b7. got (made K g v c) b7)))
 unfolding readFields counted
@@ -80,6 +81,7 @@ module _ {xs : List ℕ} {K : ℕ} (F : FieldIs 0 4 xs K) (h : 4 ≤ 8 * length 
         let p = P .read (v .from) in
         record { J = made K (p .these) (v .these) (c .these); is = none-lost (p .is) (v .is) (c .is); height = refl; gates = omega (arith, p .count); given = omega (arith, v .count); records = omega (arith, c .count) }
 
+    -- the sections one after the other are the walk through the whole file
     pub walked : Walked xs g v c g₃ v₁ c₁ at₃ K n₁ n₂ n₃
     unfolding walk-met
     walked = record {
@@ -94,6 +96,7 @@ module _ {xs : List ℕ} {K : ℕ} (F : FieldIs 0 4 xs K) (h : 4 ≤ 8 * length 
           record { gates = p .area ∙ ap (λ (l : List ℕ). sets l 2 (p .these)) (e₂ ∙ ap (λ (l : List ℕ). set l 1 empty) e₁); given = v .area; records = c .area };
     }
 
+-- too few bits for a height: cut at once
 pub walked-none : {xs g v c : List ℕ} → 8 * length xs < 4 → Walked xs g v c g v c (8 * length xs + 1) 0 0 0 0
 unfolding readFields next
 walked-none {xs} h =
@@ -111,10 +114,12 @@ zero-number (b ∷ bs) m = zero-number bs (2 * m + b) ∙ split (eqb m 0)
     (λ u. rw (t, u, every, ne-eqb (2 * m + b) 0 (λ z. eqb-false b 0 u (omega arith)))))
     (λ t. rw (t, ne-eqb (2 * m + b) 0 (λ z. eqb-false m 0 t (omega arith))))
 
+-- eight bits or more are no padding
 pub padding-long : (at : ℕ) (xs : List ℕ) → 8 ≤ 8 * length xs - at → false ≡ isPadding (drop at (bitsIn xs))
 unfolding isPadding
 padding-long at xs h = sym (rw (le-ltb (length (drop at (bitsIn xs))) 8 (omega (arith, length-drop at (bitsIn xs), bits-length xs))))
 
+-- fewer are padding where their number is 0
 pub padding-is : {at : ℕ} {xs : List ℕ} {n : ℕ} → 8 * length xs - at < 8 → FieldIs at (8 * length xs - at) xs n → eqb n 0 ≡ isPadding (drop at (bitsIn xs))
 unfolding isPadding
 padding-is {at} {xs} {n} h F =
@@ -123,31 +128,38 @@ padding-is {at} {xs} {n} h F =
     let t : take (8 * length xs - at) bs ≡ bs = take-all (8 * length xs - at) bs (omega (arith, bits-length xs)) in
     rw (F .is, t, zero-number bs 0, lt-ltb (length bs) 8 (omega (arith, bits-length xs)))
 
+-- a height above 10 is over the program's sizes
 pub size-height : (K ng nc : ℕ) → 10 < K → false ≡ sized K ng nc
 unfolding sized
 size-height K ng nc h = sym (rw (lt-leb K 10 h))
 
+-- more than 500 pins are over the program's sizes
 pub size-pins : (K ng nc : ℕ) → 501 < ng / 2 → false ≡ sized K ng nc
 unfolding sized
 size-pins K ng nc h = sym (rw (lt-leb (ng / 2) 501 h, and-none (leb K 10)))
 
+-- with height and pins right, the count of record numbers decides
 pub size-numbers : (K ng nc : ℕ) → K ≤ 10 → ng / 2 ≤ 501 → leb nc 512 ≡ sized K ng nc
 unfolding sized
 size-numbers K ng nc h k = sym (rw (le-leb K 10 h, le-leb (ng / 2) 501 k))
 
+-- a cut file is not accepted
 pub accepts-lost : (xs : List ℕ) (at K ng nc : ℕ) → 8 * length xs < at → false ≡ accepts xs at K ng nc
 unfolding accepts
 accepts-lost xs at K ng nc h = sym (rw (lt-leb at (8 * length xs) h))
 
+-- a file with more than padding behind its fields is not accepted
 pub accepts-more : (xs : List ℕ) (at K ng nc : ℕ) → at ≤ 8 * length xs → isPadding (drop at (bitsIn xs)) ≡ false → false ≡ accepts xs at K ng nc
 unfolding accepts
 accepts-more xs at K ng nc h e = sym (rw (le-leb at (8 * length xs) h, e))
 
+-- with neither cut nor more than padding, the sizes decide
 pub accepts-is : (xs : List ℕ) (at K ng nc : ℕ) {b : Bool} → at ≤ 8 * length xs → isPadding (drop at (bitsIn xs)) ≡ true → b ≡ sized K ng nc → b ≡ accepts xs at K ng nc
 unfolding accepts
 accepts-is xs at K ng nc h e d = d ∙ sym (rw (le-leb at (8 * length xs) h, e))
 
 -- ---- an empty part comes back as it was
 
+-- a walk over empty parts changes no area, and measures the file
 pub measured-in : {xs : List ℕ} (g v c : List ℕ) {g′ v′ c′ : List ℕ} {at K ng nv nc : ℕ} → Walked xs [] [] [] g′ v′ c′ at K ng nv nc → MeasuredIn xs g v c (g′ ++ g) (v′ ++ v) (c′ ++ c) at K ng nv nc
 measured-in g v c {g′} {v′} {c′} W = record { measured = W .measured; gates = none-back g′ g (W .gates); given = none-back v′ v (W .given); records = none-back c′ c (W .records) }

@@ -26,6 +26,7 @@ without : (f : File?) → ((bs : List ℕ) → f ≡ file bs → ⊥) → f ≡ 
 without noFile h = refl
 without (file bs) h = absurd (h bs refl)
 
+-- a job that fits no file is refused with 11
 pub refuses-job : {J : Job} {r : ℕ} → Judged J r → r ≡ 0 → (xs : List ℕ) → refused 11 xs ≡ writeInto (writeJob J) xs
 unfolding writeInto
 refuses-job {J} R e xs =
@@ -46,6 +47,7 @@ module _ {J : Job} {n : ℕ} (F : Fitting J n) where
   unfolding fileBits
   whole-bytes = byte-length (jobBits J (groupsOf (J .records)))
 
+  -- a job whose file would have more than 8,192 bytes is refused with 11
   pub refuses-long : {xs xs₁ : List ℕ} {m : ℕ} → Measured J xs xs₁ m → 65536 < m → refused 11 xs₁ ≡ writeInto (writeJob J) xs
   unfolding writeInto
   refuses-long {xs} M h =
@@ -59,6 +61,7 @@ module _ {J : Job} {n : ℕ} (F : Fitting J n) where
     unfolding fileBits
     is-file = is-written J bytes (record { gs = groupsOf (J .records); held = F .held; fits = F .fits; short = le-leb (length bytes) 8192 (omega (arith, bytes-length (fileBits J))); is = refl })
 
+  -- a file longer than the lent bytes is refused with 2
   pub refuses-room : {xs xs₁ : List ℕ} {m : ℕ} → Measured J xs xs₁ m → m ≤ 65536 → length xs₁ < m / 8 → refused 2 xs₁ ≡ writeInto (writeJob J) xs
   unfolding writeInto
   refuses-room {xs} M h k =
@@ -95,6 +98,7 @@ module _ {J : Job} {n : ℕ} (F : Fitting J n) where
         let l : length bytes ≡ k = bytes-length bs in
         sym (back xs₁ B₁) ∙ ap bytesOf s ∙ bytes-append bs (bitsIn (drop k xs)) w ∙ rw l (ap (λ (r : List ℕ). bytes ++ r) (back (drop k xs) (bytes-drop k B)))
 
+  -- a file that fits stands over the front of the lent bytes
   pub writes : {xs xs₁ xs₂ : List ℕ} {m r : ℕ} → Measured J xs xs₁ m → m ≤ 65536 → m / 8 ≤ length xs₁ → Put (fileBits J) xs₁ xs₂ 0 r → Bytes xs₁ → Bytes xs₂ →
       record { number = 0; length = m / 8; bytes = xs₂ } ≡ writeInto (writeJob J) xs
   unfolding writeInto

@@ -27,31 +27,38 @@ use Rattle.job_write.specs.Fits.{counted, behind, RecordIs, Fitting, Jud
 -- ---- numbers below a limit
 
 module _ (limit : ℕ) (xs : List ℕ) (i : ℕ) (inv : every (λ x. ltb x limit) xs ≡ every (λ x. ltb x limit) (drop i xs)) where
+  -- a number at the limit or above decides: not all fit
   pub number-above : i < length xs → limit ≤ getD xs i 0 → false ≡ every (λ x. ltb x limit) xs
   number-above h k = sym (inv ∙ every-step (λ x. ltb x limit) xs i h ∙ rw (le-ltb (getD xs i 0) limit k))
 
+  -- a number below it: those behind it decide
   pub number-below : i < length xs → getD xs i 0 < limit → every (λ x. ltb x limit) xs ≡ every (λ x. ltb x limit) (drop (i + 1) xs)
   number-below h k = inv ∙ every-step (λ x. ltb x limit) xs i h ∙ rw (lt-ltb (getD xs i 0) limit k)
 
+  -- no number left: all fit
   pub numbers-below : length xs ≤ i → true ≡ every (λ x. ltb x limit) xs
   numbers-below h = sym (inv ∙ every-end (λ x. ltb x limit) xs i h)
 
 -- ---- pins
 
+-- a first number that is the empty mark fits where the second is too
 pub node-mark : (a b : ℕ) → a ≡ 4294967295 → eqb b 4294967295 ≡ nodeFits (nodeOf a b)
 unfolding nodeFits nodeOf empty literalFits
 node-mark a b e = split (eqb b 4294967295)
     (λ t. rw (eq-eqb a 4294967295 e, t, nodeOf))
     (λ t. rw (eq-eqb a 4294967295 e, t, nodeOf, le-ltb a 131072 (omega arith)))
 
+-- a first literal of more than 17 bits does not fit
 pub node-high : (a b : ℕ) → (a ≡ 4294967295 → ⊥) → 131072 ≤ a → false ≡ nodeFits (nodeOf a b)
 unfolding nodeFits nodeOf empty literalFits
 node-high a b e h = rw (ne-eqb a 4294967295 e, nodeOf, le-ltb a 131072 h)
 
+-- with the first literal fitting, the second decides
 pub node-low : (a b : ℕ) → (a ≡ 4294967295 → ⊥) → a < 131072 → ltb b 131072 ≡ nodeFits (nodeOf a b)
 unfolding nodeFits nodeOf empty literalFits
 node-low a b e h = rw (ne-eqb a 4294967295 e, nodeOf, lt-ltb a 131072 h)
 
+-- the node at index i, and those behind it
 pub graph-step : (xs : List ℕ) (i : ℕ) → 2 * i + 1 < length xs → graphOf (drop (2 * i) xs) ≡ nodeOf (getD xs (2 * i) 0) (getD xs (2 * i + 1) 0) ∷ graphOf (drop (2 * (i + 1)) xs)
 unfolding graphOf
 graph-step xs i h =
@@ -65,6 +72,7 @@ short-graph [] h = refl
 short-graph (a ∷ []) h = refl
 short-graph (a ∷ b ∷ ys) h = absurd (omega arith)
 
+-- past the last pin no node is left
 pub graph-end : (xs : List ℕ) (i : ℕ) → length xs / 2 ≤ i → graphOf (drop (2 * i) xs) ≡ []
 graph-end xs i h = short-graph (drop (2 * i) xs) (omega (arith, length-drop (2 * i) xs))
 
@@ -73,20 +81,25 @@ module _ (xs : List ℕ) (i : ℕ) (inv : nodesFit (graphOf xs) ≡ nodesFit (gr
   unfolding nodesFit
   nodes-next h e = inv ∙ rw (graph-step xs i (omega arith), nodesFit, e)
 
+  -- a node that does not fit decides
   pub nodes-none : i < length xs / 2 → nodeFits (nodeOf (getD xs (2 * i) 0) (getD xs (2 * i + 1) 0)) ≡ false → false ≡ nodesFit (graphOf xs)
   nodes-none h e = sym (nodes-next h e)
 
+  -- a node that fits: those behind it decide
   pub nodes-more : i < length xs / 2 → nodeFits (nodeOf (getD xs (2 * i) 0) (getD xs (2 * i + 1) 0)) ≡ true → nodesFit (graphOf xs) ≡ nodesFit (graphOf (drop (2 * (i + 1)) xs))
   nodes-more h e = nodes-next h e
 
+  -- no node left: all fit
   pub nodes-end : length xs / 2 ≤ i → true ≡ nodesFit (graphOf xs)
   unfolding nodesFit
   nodes-end h = sym (inv ∙ rw (graph-end xs i h))
 
+-- an odd count of numbers does not fit
 pub gates-odd : (xs : List ℕ) → length xs % 2 ≡ 1 → false ≡ gatesFit xs
 unfolding gatesFit
 gates-odd xs h = sym (rw (ne-eqb (length xs % 2) 0 (λ z. omega arith)))
 
+-- without pin 0 there is no graph
 pub gates-few : (xs : List ℕ) → length xs < 2 → false ≡ gatesFit xs
 unfolding gatesFit pinCount
 gates-few xs h = sym (rw (lt-leb 1 (length xs / 2) (omega arith), and-none (eqb (length xs % 2) 0)))
@@ -116,14 +129,17 @@ both-marks [] h e d = absurd (omega arith)
 both-marks (x ∷ []) h e d = absurd (omega arith)
 both-marks (x ∷ y ∷ xs) h e d = rw (eq-eqb x 4294967295 e, every, eq-eqb y 4294967295 d)
 
+-- pin 0 must be a leaf: its first number the empty mark
 pub gates-first : (xs : List ℕ) → 2 ≤ length xs → (getD xs 0 0 ≡ 4294967295 → ⊥) → false ≡ gatesFit xs
 unfolding gatesFit marked
 gates-first xs h e = not-marked (eqb (length xs % 2) 0) (leb 1 (pinCount xs)) xs (first-mark xs h e)
 
+-- pin 0 must be a leaf: its second number the empty mark
 pub gates-second : (xs : List ℕ) → 2 ≤ length xs → (getD xs 1 0 ≡ 4294967295 → ⊥) → false ≡ gatesFit xs
 unfolding gatesFit marked
 gates-second xs h e = not-marked (eqb (length xs % 2) 0) (leb 1 (pinCount xs)) xs (second-mark xs h e)
 
+-- with the length and pin 0 right, the nodes decide
 pub gates-rest : (xs : List ℕ) → (length xs % 2 ≡ 1 → ⊥) → 2 ≤ length xs → getD xs 0 0 ≡ 4294967295 → getD xs 1 0 ≡ 4294967295 → nodesFit (graphOf xs) ≡ gatesFit xs
 unfolding gatesFit pinCount
 gates-rest xs o h e d = sym (rw (eq-eqb (length xs % 2) 0 (split (eqb (length xs % 2) 1) (λ t. absurd (o (eqb-true (length xs % 2) 1 t))) (λ t. let n = eqb-false (length xs % 2) 1 t in omega arith)), le-leb 1 (length xs / 2) (omega arith), both-marks xs h e d))
@@ -146,6 +162,7 @@ module _ (xs : List ℕ) (at : ℕ) where
       let s : suc at ≡ at + 1 = omega arith in
       rw (d, s) (plain-at (getD xs at 0) (drop (at + 1) xs) (rw (d, s) at t) .fits)
 
+  -- where no whole record stands, none fits
   pub record-none : at < length xs → sizeAt xs at ≡ 0 → RecordIs xs at 0
   unfolding counted
   record-none h e = record { none = λ _. rw (read-cut xs at h (size-none xs at e)); some = λ k. absurd (omega arith); inside = omega arith }
@@ -154,6 +171,7 @@ module _ (xs : List ℕ) (at : ℕ) where
     there : Stands xs at
     there = stands xs at (split (eqb n 0) (λ t. absurd (some (eqb-true n 0 t))) (λ t. let k = eqb-false n 0 t in omega arith))
 
+    -- a record ends within the list
     pub record-there : at + 1 + n ≤ length xs
     record-there = omega (arith, there .inside)
 
@@ -163,6 +181,7 @@ module _ (xs : List ℕ) (at : ℕ) where
         let m : at + 1 + n - (at + 1) ≡ sizeOf (getD xs at 0) = omega (arith, T .size) in
         group-fits h (T .is) ∙ sym (rw (m, l) at e)
 
+    -- a number too great for its field: the record does not fit
     pub record-unfit : (limit : ℕ) → limit ≡ 2 ^ numberWidth (getD xs at 0) → every (λ x. ltb x limit) (take (at + 1 + n - (at + 1)) (drop (at + 1) xs)) ≡ false → RecordIs xs at 0
     record-unfit limit l e = record {
       none = λ _. ap counted (read-step xs at (there .is)) ∙ counted-then (groupAt (drop at xs)) (read (drop (at + (1 + sizeOf (getD xs at 0))) xs)) false (numbers-fit limit l (sym e));
@@ -170,6 +189,7 @@ module _ (xs : List ℕ) (at : ℕ) where
       inside = omega arith;
     }
 
+    -- all numbers below the limit: the record fits, and takes so many numbers
     pub record-fit : (limit : ℕ) → limit ≡ 2 ^ numberWidth (getD xs at 0) → every (λ x. ltb x limit) (take (at + 1 + n - (at + 1)) (drop (at + 1) xs)) ≡ true → RecordIs xs at (1 + n)
     record-fit limit l e =
         let T = there in
@@ -180,10 +200,12 @@ module _ (xs : List ℕ) (at : ℕ) where
           inside = omega (arith, T .inside);
         }
 
+-- a staged pin has 16 bits
 pub limit-is : (k : ℕ) → k ≡ 4 → 65536 ≡ 2 ^ numberWidth k
 unfolding numberWidth
 limit-is k e = rw (eq-eqb k 4 e, numberWidth)
 
+-- any other number of a record is a literal, of 17 bits
 pub limit-other : (k : ℕ) → (k ≡ 4 → ⊥) → 131072 ≡ 2 ^ numberWidth k
 unfolding numberWidth
 limit-other k e = rw (ne-eqb k 4 e, numberWidth)
@@ -211,45 +233,56 @@ behind-lost : (n : ℕ) → behind n 0 ≡ 0
 unfolding behind
 behind-lost n = refl
 
+-- at the front no group is counted yet
 pub counting-none : (xs : List ℕ) → Counting xs 0 0
 counting-none xs = record { is = behind-none (counted (read xs)); few = omega arith; upto = omega arith }
 
 module _ {xs : List ℕ} {i count : ℕ} (C : Counting xs i count) where
+  -- a record that does not fit: no count
   pub counting-lost : {r : ℕ} → RecordIs xs i r → r ≡ 0 → 0 ≡ counted (read xs)
   counting-lost R e = sym (C .is ∙ rw (R .none e) (behind-lost count))
 
+  -- a record that fits counts one more
   pub counting-more : {r : ℕ} → RecordIs xs i r → r ≢ 0 → Counting xs (i + r) (count + 1)
   counting-more {r} R e =
       let k : 0 < r = split (eqb r 0) (λ t. absurd (e (eqb-true r 0 t))) (λ t. let k = eqb-false r 0 t in omega arith) in
       record { is = C .is ∙ rw (R .some k) (behind-more count (counted (read (drop (i + r) xs)))); few = omega (arith, C .few); upto = R .inside }
 
+  -- at the end all groups are counted, and one more says that they fit
   pub counting-done : length xs ≤ i → count + 1 ≡ counted (read xs)
   unfolding counted groupsFit behind
   counting-done h = sym (C .is ∙ rw (read-end xs i h))
 
 -- ---- the job
 
+-- a job that no file can hold is judged 0
 pub unfit : {J : Job} → ((gs : List Group) → Held J gs → fitsProgram J ≡ true → ⊥) → Judged J 0
 unfit f = record { none = λ _. f; some = λ n e. absurd (omega arith) }
 
+-- a height above 10 is over the program's sizes
 pub high : (J : Job) → 10 < J .height → Judged J 0
 unfolding fitsProgram
 high J h = unfit (λ gs H e. true-false e (rw (lt-leb (J .height) 10 h)))
 
+-- more than 500 pins are over the program's sizes
 pub many-pins : (J : Job) → 501 < length (J .gates) / 2 → Judged J 0
 unfolding fitsProgram pinCount
 many-pins J h = unfit (λ gs H e. true-false e (rw (lt-leb (length (J .gates) / 2) 501 h, and-none (leb (J .height) 10))))
 
+-- more than 512 record numbers are over the program's sizes
 pub many-numbers : (J : Job) → 512 < length (J .records) → Judged J 0
 unfolding fitsProgram
 many-numbers J h = unfit (λ gs H e. true-false e (rw (lt-leb (length (J .records)) 512 h, and-none (leb (J .height) 10 && leb (pinCount (J .gates)) 501))))
 
+-- a count of given pins must fit 16 bits
 pub many-given : (J : Job) → 65536 ≤ length (J .given) → Judged J 0
 many-given J h = unfit (λ gs H e. true-false (H .few) (le-ltb (length (J .given)) 65536 h))
 
+-- gates that do not fit are judged 0
 pub bad-gates : (J : Job) → gatesFit (J .gates) ≡ false → Judged J 0
 bad-gates J d = unfit (λ gs H e. true-false (H .gates) d)
 
+-- given pins that do not fit are judged 0
 pub bad-given : (J : Job) → every (λ x. ltb x 65536) (J .given) ≡ false → Judged J 0
 unfolding pinFits
 bad-given J d = unfit (λ gs H e. true-false (H .given) d)
@@ -272,8 +305,10 @@ module _ (J : Job) (height : J .height ≤ 10) (pins : length (J .gates) / 2 ≤
       }))
       (λ t. rw (t, counted) (unfit (λ gs H _. let o : gs ≡ xs = let q = sym (H .read) ∙ e in cc in true-false (H .groups) (rw o t))))
 
+  -- with all but the records right, the count of groups is the judgement
   pub judged : {r : ℕ} → r ≡ counted (read (J .records)) → Judged J r
   judged e = rw e (by-read (read (J .records)) refl)
 
+-- a judgement above 0 is that of a job that fits, and one more than its groups
 pub fitting : {J : Job} {r : ℕ} → Judged J r → r ≢ 0 → Fitting J (r - 1)
 fitting {J} {r} R e = R .some (r - 1) (split (eqb r 0) (λ t. absurd (e (eqb-true r 0 t))) (λ t. let k = eqb-false r 0 t in omega arith))

@@ -15,13 +15,14 @@ use Rattle.rules.specs.Graph.{Node}
 use Rattle.rules.specs.Records.{Group}
 use Rattle.rules.specs.Traversal.{WordRule}
 use Rattle.rules.specs.Ending.{stage}
-use Rattle.rules.specs.Build.{Stage, Answer, refusal, whole, stages, build, cellsOf, wordsOf, countsOf, reply, refuse, stagesOf, Areas, areasAfter}
+use Rattle.rules.specs.Build.{Stage, Answer, stages, build, cellsOf, wordsOf, countsOf, reply, refuse, stagesOf, Areas, areasAfter}
 use Rattle.rules.specs.Listing.{answerText}
 use Rattle.rules.specs.Loops.{Valid}
 use Rattle.rules.specs.Records as spec-records
 use Rattle.rules.proofs.Demand as demand
 use Rattle.rules.proofs.Stage.Refusals.{refused-some}
 use Rattle.rules.proofs.Build.Lengths.{Sized, length-padded}
+use Rattle.rules.proofs.Build.Words.{answer-cases}
 use Rattle.listing_lines.specs.Stages.{stagesIn}
 use Rattle.listing.specs.Listing.{written, hold, answered}
 use Rattle.listing.proofs.Laws.Answered.{listed-all, answered-no, answered-yes}
@@ -42,10 +43,6 @@ counts-sum (s ∷ ss) c = ap (λ (n : ℕ). length (s .words) + n) (counts-sum s
 long-front : (n : ℕ) (xs ys : List ℕ) → n ≤ length xs → leb n (length (xs ++ ys)) ≡ true
 long-front n xs ys h = le-leb n (length (xs ++ ys)) (omega (arith, length-append xs ys))
 
-answer-cases : {P : Type 0} (b : Answer) → ((n k : ℕ) → b ≡ refusal n k → P) → ((ss : List Stage) → b ≡ whole ss → P) → P
-answer-cases (refusal n k) f h = f n k refl
-answer-cases (whole ss) f h = h ss refl
-
 -- whole stages in areas of the right sizes
 module _ (K : ℕ) (ss : List Stage) (a : Areas) (need : ℕ) (each-sized : Sized (stageSize K) ss)
     (cells : length (cellsOf ss) ≡ length ss * stageSize K) (few : length ss ≤ rooms K (length (a .plan))) (counted : length (countsOf ss) ≡ length ss) where
@@ -64,10 +61,12 @@ module _ (K : ℕ) (ss : List Stage) (a : Areas) (need : ℕ) (each-sized : Size
   unfolding areasAfter laidOver padded
   counts-front = append-assoc (countsOf ss) (replicate (rooms K (length (a .plan)) - length (countsOf ss)) 0) _
 
+  -- the stages read back from a build's areas are the ones built
   pub after-stages : stagesIn (stageSize K) (length ss) (after .plan) (after .words) (after .counts) ≡ ss
   unfolding areasAfter padded
   after-stages = rw (words-front, counts-front) (stages-back (stageSize K) ss each-sized _ _ _)
 
+  -- a build's areas hold the stages that it answers
   pub after-hold : hold K (length ss) (after .plan) (after .words) (after .counts) ≡ true
   unfolding hold
   after-hold =
@@ -82,6 +81,7 @@ module _ (rule : WordRule) (K : ℕ) (g : List Node) (ok : Valid g) (height : is
   abbrev b : Answer
   b = build rule K g given groups (rooms K (length (a .plan)))
 
+  -- what is printed of a build's answer and areas is the text of the answer
   pub answer-printed : answered K (reply b .number) (reply b .stages) (reply b .stage) (reply b .pin) (areasAfter K need (stagesOf b) a .plan) (areasAfter K need (stagesOf b) a .words) (areasAfter K need (stagesOf b) a .counts) out ≡ written (answerText K b) out
   unfolding reply refuse stagesOf answerText
   answer-printed = answer-cases b

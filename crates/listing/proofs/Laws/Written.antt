@@ -39,6 +39,7 @@ along-short limit at (x ∷ xs) h k = split (ltb at limit)
 
 -- a text measured in another area, and then laid or not
 module _ (text o : List ℕ) {o1 o2 : List ℕ} {limit r : ℕ} (l : limit ≡ length o + 1) (m : Laid limit 0 text o1 r o2) where
+  -- a text longer than the area answers 2 and leaves the area
   pub written-not : length o < r → written text o ≡ outcome 2 0 o
   unfolding written
   written-not h = split (leb (length text) (length o))
@@ -51,6 +52,7 @@ module _ (text o : List ℕ) {o1 o2 : List ℕ} {limit r : ℕ} (l : limit ≡ l
       (λ t. absurd (omega (arith, l, m .cursor, along-short limit 0 text (omega arith) (omega (arith, ltb-true limit (length text) t)))))
       (λ t. absurd (omega (arith, leb-false (length text) (length o) f, m .cursor, along-in limit 0 text (omega (arith, ltb-false limit (length text) t))))))
 
+  -- a text that fits stands over the area's front, and its length is answered
   pub written-all : {r2 : ℕ} {o3 : List ℕ} → r ≤ length o → Laid limit 0 text o r2 o3 → outcome 0 r o3 ≡ written text o
   unfolding written laidOver
   written-all {r2} {o3} h b =

@@ -12,7 +12,7 @@ same-length : tie.Need-same-length
 same-length c = search needs
 
 returns : tie.Need-returns
-returns c = let a = c .before .before .before .before .before .before .before .before .before .args in c .before .before .refused .ensures ∙ answered-no (a .height) (a .stages) (a .plan .now) (a .words .now) (a .counts .now) (a .out .now) (a .number) (a .stage) (a .pin) (c .before .before .before .before .if1 .taken)
+returns c = let a = c .before .before .before .before .before .before .before .before .before .args in c .before .before .refused .ensures ∙ answered-no (a .height) (a .stages) (a .plan .now) (a .words .now) (a .counts .now) (a .out .now) (a .number) (a .stage) (a .pin .0) (c .before .before .before .before .if1 .taken)
 
 listing-requires : tie.Need-listing-requires
 listing-requires c κs = search needs
@@ -21,7 +21,7 @@ same-length-2 : tie.Need-same-length-2
 same-length-2 c = search needs
 
 returns-2 : tie.Need-returns-2
-returns-2 c = let a = c .before .before .before .before .before .before .before .before .before .args in c .before .before .listing .ensures ∙ answered-yes (a .height) (a .stages) (a .plan .now) (a .words .now) (a .counts .now) (a .out .now) (a .number) (a .stage) (a .pin) (c .before .before .before .before .if1 .left)
+returns-2 c = let a = c .before .before .before .before .before .before .before .before .before .args in c .before .before .listing .ensures ∙ answered-yes (a .height) (a .stages) (a .plan .now) (a .words .now) (a .counts .now) (a .out .now) (a .number) (a .stage) (a .pin .0) (c .before .before .before .before .if1 .left)
 
 pub answer-text-spec : {M : Type 1} → statement M
 answer-text-spec =

@@ -17,7 +17,7 @@ refused-line-requires : tie.Need-refused-line-requires
 refused-line-requires c κs = search needs
 
 returns : tie.Need-returns
-returns c = let a = c .before .before .before .before .before .args in sym (written-not (refusedLine (a .number) (a .stage) (a .pin)) (a .out .now) refl (c .before .before .refused-line .ensures) (omega (arith, c .if1 .taken)))
+returns c = let a = c .before .before .before .before .before .args in sym (written-not (refusedLine (a .number) (a .stage) (a .pin .0)) (a .out .now) refl (c .before .before .refused-line .ensures) (omega (arith, c .if1 .taken)))
 
 refused-line-requires-2 : tie.Need-refused-line-requires-2
 refused-line-requires-2 c κs = search needs
@@ -26,7 +26,7 @@ same-length : tie.Need-same-length
 same-length c = search needs
 
 returns-2 : tie.Need-returns-2
-returns-2 c = let a = c .before .before .before .before .before .before .before .before .before .args in written-all (refusedLine (a .number) (a .stage) (a .pin)) (a .out .now) refl (c .before .before .before .before .before .before .refused-line .ensures) (omega (arith, c .before .before .before .before .if1 .left)) (c .before .before .refused-line2 .ensures)
+returns-2 c = let a = c .before .before .before .before .before .before .before .before .before .args in written-all (refusedLine (a .number) (a .stage) (a .pin .0)) (a .out .now) refl (c .before .before .before .before .before .before .refused-line .ensures) (omega (arith, c .before .before .before .before .if1 .left)) (c .before .before .refused-line2 .ensures)
 
 pub refused-spec : {M : Type 1} → statement M
 refused-spec =

@@ -1,21 +1,18 @@
 -- The partitions built, merged and laid out: from what the calls leave to the definition's answer. Assumes nothing.
 use Prim.Native.Nat.{ℕ, _+_, _*_, _/_, _<_, _≤_, max}
-use mathlib.Core.Bool.{Bool, true}
-use mathlib.Core.List.{List, [], _∷_}
-use mathlib.Core.Logic.{inl, inr}
+use mathlib.Core.List.{List}
 use mathlib.Core.Path.{_≡_, refl, sym, ap, _∙_}
 use native.Mathlib.Omega.{arith}
 use lib.Dec.{ltb}
 use lib.ListN.{length, getD, drop}
 use lib.Seq.{getD-take, getD-drop}
 use borrow.Author.Tests.{ltb-true}
-use Rattle.rules.specs.Lists.{every, In}
 use Rattle.rules.specs.Cells.{rooms}
 use Rattle.rules.specs.Graph.{graphOf}
 use Rattle.rules.specs.Records.{groupsOf}
 use Rattle.rules.specs.Traversal.{WordRule}
 use Rattle.rules.specs.Merge.{Common, Part, Result, MergeAnswer, turned, merged, merge, merging, original, mostStages, occupied, begun, splitBy, addPart, mergeAnswerOf, mergeReply, refuseMerge, groupListAfter}
-use Rattle.rules.proofs.Lists.Members.{split, in-cons, in-nil, true-false}
+use Rattle.rules.proofs.Lists.Members.{every-in}
 use Rattle.merge_unions.specs.Unions.{Places}
 use Rattle.merge_slots.specs.Slots.{gathered, listed, own, full}
 use Rattle.merge_slots.specs.Moves.{Begins}
@@ -32,14 +29,8 @@ use Rattle.merge.specs.declared.Answer.{Answer}
 use Rattle.merge_rounds.specs.Rounds.{partsIn, Tries, SlotsAt, Slotted}
 use Rattle.merge.specs.Merge.{told, refusedFor, JoinAt, Joined}
 
-every-in : (f : ℕ → Bool) (q : ℕ) (xs : List ℕ) → every f xs ≡ true → In q xs → f q ≡ true
-unfolding every
-every-in f q [] e i = in-nil q i
-every-in f q (x ∷ xs) e i = split (f x)
-    (λ t. elim (in-cons q x xs i) [ inl d ↦ rw d t | inr d ↦ every-in f q xs (rw (t, every) at e) d ])
-    (λ t. true-false e (rw (t, every)))
-
 module _ {K m table base extra : ℕ} {gates given records xs ls st pl ws cs w : List ℕ} (A : JoinAt K m table base extra gates given records xs ls st pl ws cs w) where
+  -- the partitions may be built as they are given
   pub originals-at : OriginalsAt K m table base gates given records xs ls pl ws cs w
   originals-at =
       let S : Stands K m table base gates given records xs ls w = A .at in
@@ -89,6 +80,7 @@ module _ {K m table base extra : ℕ} {gates given records xs ls st pl ws cs w :
     unfolding mergeAnswerOf merge groupList partsFor
     answer-refused i n k e = rw (originals-are ∙ ap (λ (x : Originals). partsFor x parts) e, merge) refl
 
+    -- where a partition is refused the merge is, and the group list stays
     pub join-refused : {i n k : ℕ} → r ≡ Refused i n k → {a : Answer} → a ≡ refusedFor n k i → Joined rule K extra gates given records xs ls st pl a xs ls st
     unfolding told refusedFor mergeReply refuseMerge groupListAfter
     join-refused {i} {n} {k} e {a} d = record { reply = rw (d, answer-refused i n k e) refl; groups = rw (answer-refused i n k e) refl }
@@ -106,10 +98,12 @@ module _ {K m table base extra : ℕ} {gates given records xs ls st pl ws cs w :
           let n : length parts ≡ length ls = all-count (length ls) ls xs (owned base (length ls) w₁) (A .at .all) in
           answer-built ∙ rw (G .most most e, all-occupied (length ls) ls xs (owned base (length ls) w₁) (A .at .all), n, ← b) refl
 
+      -- the cap is a small number
       pub cap-small : most + extra ≤ 65791
       cap-small = omega (arith, G .few most e, A .at .pins, A .at .passed .few, A .few)
 
       module _ {ranks : ℕ} (B : Begins (length ls) ranks) where
+        -- where all partitions are built the slots may be merged
         pub slots-at : SlotsAt K m table base (most + extra) ranks gates given records xs ls pl₁ ws₁ cs₁ w₁
         slots-at = record { at = stands; blank = rw (G .plan, G .words, G .counts) (A .blank); cap-fits = omega (arith, cap-small); few = B .few }
 
@@ -129,6 +123,7 @@ module _ {K m table base extra : ℕ} {gates given records xs ls st pl ws cs w :
             unfolding own owned
             own-small s h = rw (getD-take (8 * length ls₂) (drop base w₂) (1 * length ls₂ + s) 0 (omega arith), getD-drop base w₂ (1 * length ls₂ + s) 0) (fit (base + (1 * length ls₂ + s)))
 
+            -- merged slots may be laid out
             pub lay-at : LayAt (16 * m + 512) base xs₂ ls₂ st w₂
             lay-at =
                 let S : Stands K m table base gates given records xs₂ ls₂ w₂ = T .keeps .stands in
@@ -142,7 +137,8 @@ module _ {K m table base extra : ℕ} {gates given records xs ls st pl ws cs w :
                   small = own-small;
                 }
 
+          -- the merged slots laid out are the definition's answer
           pub join-merged : {xs₃ ls₃ st₃ : List ℕ} {t : Totals} → Laid base xs₂ ls₂ w₂ xs₃ ls₃ st₃ t
-              → Joined rule K extra gates given records xs ls st pl (record { number = 0; stages = t .stages; words = t .words; stage = 0; partitions = t .partitions; trials = trials; refused = 0; pin = 0 }) xs₃ ls₃ st₃
+              → Joined rule K extra gates given records xs ls st pl (record { number = 0; stages = t .stages; words = t .words; stage = 0; partitions = t .partitions; trials = trials; refused = 0; pin = record { 0 = 0 } }) xs₃ ls₃ st₃
           unfolding told mergeReply groupList groupListAfter
           join-merged L = record { reply = rw (merges, L .partitions, L .all-stages, L .all-words) refl; groups = rw (merges, L .indices, L .lengths, L .stages, T .keeps .count) refl }

@@ -1,15 +1,16 @@
 -- The whole call: what the checks say, and the parts of the areas that count. Assumes nothing.
-use Prim.Native.Nat.{ℕ, zero, suc, _+_, _-_, _*_, _/_, _%_, _≤_}
+use Prim.Native.Nat.{ℕ, zero, suc, _+_, _-_, _*_, _≤_}
 use mathlib.Core.Bool.{true, _&&_}
 use mathlib.Core.List.{List, [], _++_}
 use mathlib.Core.Logic.{_≢_}
 use mathlib.Core.Path.{_≡_, refl, sym, ap, _∙_}
-use native.Mathlib.Nat.{div-add-mod'}
 use native.Mathlib.Omega.{arith}
 use lib.Dec.{leb, eqb}
 use lib.ListN.{length, take, drop, replicate, length-replicate}
 use lib.Seq.{length-take-le}
 use borrow.Author.Tests.{leb-true, eqb-true}
+use Rattle.graph.specs.declared.Pin.{Pin}
+use Rattle.rules.proofs.Lists.Parts.{part-laid, divides}
 use Rattle.rules.specs.Lists.{sum, padded, laidOver}
 use Rattle.rules.specs.Cells.{empty, wordLimit, stageSize, rooms, isHeight}
 use Rattle.rules.specs.Graph.{pinCount}
@@ -30,17 +31,10 @@ use Rattle.merge.specs.declared.Answer.{Answer}
 use Rattle.merge.specs.Merge.{told, outcome, PlaceAt, Placed}
 use Rattle.merge.proofs.Laws.Placing.{Able, able}
 
+-- the size at which the work area counts, as the code adds it up
 pub need-is : (gates records xs ls st : List ℕ) (m : ℕ) → m ≡ pinCount gates → 16 * m + 8 * length records + 512 + (8 * length ls + 8 * length xs) ≡ mergeWorkSize gates records (groupList xs ls st)
 unfolding mergeWorkSize workSize groupList
 need-is gates records xs ls st m e = omega arith
-
--- what was lent of an area's front stands over the rest
-part-laid : (n : ℕ) (xs ys : List ℕ) → n ≤ length xs → length ys ≡ length (take n xs) → ys ++ drop n xs ≡ laidOver ys xs
-unfolding laidOver
-part-laid n xs ys h e = let d : length ys ≡ n = e ∙ length-take-le n xs h in rw d refl
-
-divides : (n s : ℕ) → n % s ≡ 0 → n ≡ n / s * s
-divides n s e = omega (arith, div-add-mod' n s)
 
 module _ (K : ℕ) (gates given records xs ls st : List ℕ) (extra : ℕ) (pl ws cs w : List ℕ) where
   abbrev l : GroupList
@@ -49,12 +43,13 @@ module _ (K : ℕ) (gates given records xs ls st : List ℕ) (extra : ℕ) (pl w
   abbrev lent : Areas
   lent = areas pl ws cs w
 
-  refused-at : (rule : WordRule) (n : ℕ) → n ≡ mergeRefusal K gates given records l extra lent → n ≢ 0 → (p : ℕ) → p ≡ pinShown n gates
+  refused-at : (rule : WordRule) (n : ℕ) → n ≡ mergeRefusal K gates given records l extra lent → n ≢ 0 → (p : Pin) → p .0 ≡ pinShown n gates
       → outcome (record { number = n; stages = 0; words = 0; stage = 0; partitions = 0; trials = 0; refused = 0; pin = p }) xs ls st pl ws cs w ≡ merger rule K gates given records l extra lent
   unfolding outcome told refuseMergeChecked merger
   refused-at rule zero e h p d = absurd (h refl)
   refused-at rule (suc n) e h p d = rw (← e, merger, d) refl
 
+  -- what the checks refuse changes nothing
   pub outcome-refused : (rule : WordRule) (v : Verdict) → Says (mergeRefusal K gates given records l extra lent) gates v → v .number ≢ 0
       → outcome (record { number = v .number; stages = 0; words = 0; stage = 0; partitions = 0; trials = 0; refused = 0; pin = v .pin }) xs ls st pl ws cs w ≡ merger rule K gates given records l extra lent
   outcome-refused rule v S h = refused-at rule (v .number) (S .number) h (v .pin) (S .pin ∙ ap (λ (n : ℕ). pinShown n gates) (sym (S .number)))
@@ -70,6 +65,7 @@ module _ (K : ℕ) (gates given records xs ls st : List ℕ) (extra : ℕ) (pl w
 pub record Checked (K : ℕ) (gates given records xs ls st : List ℕ) (extra : ℕ) (pl ws cs w : List ℕ) : Type 0 where
   pub none : mergeRefusal K gates given records (groupList xs ls st) extra (areas pl ws cs w) ≡ 0
 
+-- a verdict of 0 means that no check refuses
 pub checked : {K : ℕ} {gates given records xs ls st : List ℕ} {extra : ℕ} {pl ws cs w : List ℕ} {v : Verdict} → Says (mergeRefusal K gates given records (groupList xs ls st) extra (areas pl ws cs w)) gates v → v .number ≡ 0
     → Checked K gates given records xs ls st extra pl ws cs w
 checked S z = record { none = sym (S .number) ∙ z }
@@ -84,15 +80,19 @@ module _ {K : ℕ} {gates given records xs ls st : List ℕ} {extra : ℕ} {pl w
   can : Able records xs ls extra
   can = able records xs ls st extra (clear .1)
 
+  -- where no check refuses there are at most 65,536 pins
   pub pins-few : pinCount gates ≤ 65536
   pins-few = passes .few
 
+  -- and at most 65,536 record numbers
   pub records-few : length records ≤ 65536
   records-few = passes .short
 
+  -- the indices can be counted
   pub indices-few : length xs ≤ 4294967295
   indices-few = can .short
 
+  -- there are at most 1,024 partitions
   pub lengths-few : length ls ≤ 1024
   lengths-few = can .few
 
@@ -116,12 +116,15 @@ module _ {K : ℕ} {gates given records xs ls st : List ℕ} {extra : ℕ} {pl w
     rooms-is : rms ≡ rooms K (length pl)
     rooms-is = er ∙ rw (passes .height, orZero-true (rooms K (length pl))) refl
 
+    -- the words that count lie in their area
     pub words-inside : limit ≤ length ws
     words-inside = omega (arith, limit-is, parts .1)
 
+    -- the counts that count lie in their area
     pub counts-inside : rms ≤ length cs
     counts-inside = omega (arith, rooms-is, parts .2)
 
+    -- the work numbers that count lie in their area
     pub work-inside : size ≤ length w
     work-inside = omega (arith, parts .3)
 
@@ -129,6 +132,7 @@ module _ {K : ℕ} {gates given records xs ls st : List ℕ} {extra : ℕ} {pl w
     unfolding planSized rooms
     whole-stages = divides (length pl) (stageSize K) (eqb-true _ _ (parts .0))
 
+    -- in the parts that count the merge may run
     pub place-at : PlaceAt K extra gates given records xs ls st pl (take (limit - 0) ws) (take (rms - 0) cs) (take (size - 0) w)
     place-at = record {
       sized = _;
@@ -161,6 +165,7 @@ module _ {K : ℕ} {gates given records xs ls st : List ℕ} {extra : ℕ} {pl w
       plan-empty : pl′ ≡ padded (length pl) empty []
       plan-empty = D .plan ∙ sym (padded-none (length pl) empty)
 
+      -- what the merge leaves there, with the rest as it was, is the rules' outcome
       pub outcome-merged : outcome a xs′ ls′ st′ pl′ (ys ++ drop (limit - 0) ws) (zs ++ drop (rms - 0) cs) (vs ++ drop (size - 0) w) ≡ merger rule K gates given records (groupList xs ls st) extra (areas pl ws cs w)
       unfolding outcome areas merger areasAfter cellsOf wordsOf countsOf
       outcome-merged = rw (H .none, merger, D .joined .reply, D .joined .groups, plan-empty, words-laid, counts-laid, work-laid) refl

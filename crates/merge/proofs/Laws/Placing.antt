@@ -30,6 +30,7 @@ pub record Able (records xs ls : List ℕ) (extra : ℕ) : Type 0 where
   pub extra-few : extra ≤ 255
   pub short : length xs ≤ 4294967295
 
+-- what check 10 establishes
 pub able : (records xs ls st : List ℕ) (extra : ℕ) → mergeable records (groupList xs ls st) extra ≡ true → Able records xs ls extra
 unfolding mergeable groupList
 able records xs ls st extra e =
@@ -43,6 +44,7 @@ module _ {K extra : ℕ} {gates given records xs ls st pl ws cs w : List ℕ} (P
   can : Able records xs ls extra
   can = able records xs ls st extra (P .may)
 
+  -- the indices can be counted
   pub indices-few : length xs ≤ 4294967295
   indices-few = can .short
 
@@ -51,6 +53,7 @@ module _ {K extra : ℕ} {gates given records xs ls st pl ws cs w : List ℕ} (P
   size = P .work-size
 
   module _ {m : ℕ} (pins : m ≡ pinCount gates) where
+    -- there are at most 65,536 pins
     pub pins-few : m ≤ 65536
     pins-few = omega (arith, P .passed .few)
 
@@ -73,6 +76,7 @@ module _ {K extra : ℕ} {gates given records xs ls st pl ws cs w : List ℕ} (P
       work-same : length w₁ ≡ length w
       work-same = ap length (E .work) ∙ length-replicate (length w) 0
 
+      -- in emptied areas the table of record starts may be made
       pub locate-at : LocateAt table records w₁
       locate-at = record { room = omega (arith, work-same, size); short = P .passed .short; readable = P .passed .readable }
 
@@ -83,6 +87,7 @@ module _ {K extra : ℕ} {gates given records xs ls st pl ws cs w : List ℕ} (P
         idle : Idle m w₂
         idle = zeros-idle (record { small = pins-few; room = omega (arith, L .len, work-same, size) }) zeros
 
+        -- with the table made the partitions may be merged
         pub join-at : JoinAt K m table base extra gates given records xs ls st pl₁ ws₁ cs₁ w₂
         join-at = record {
           at = record {
@@ -111,6 +116,7 @@ module _ {K extra : ℕ} {gates given records xs ls st pl ws cs w : List ℕ} (P
           few = can .extra-few;
         }
 
+        -- merged and emptied again, the areas are as the rules leave them
         pub placed : {rule : WordRule} {a : Answer} {xs₃ ls₃ st₃ pl₃ ws₃ cs₃ w₃ pl₄ ws₄ cs₄ w₄ : List ℕ} → Joined rule K extra gates given records xs ls st pl₁ a xs₃ ls₃ st₃
             → length pl₃ ≡ length pl₁ → length ws₃ ≡ length ws₁ → length cs₃ ≡ length cs₁ → length w₃ ≡ length w₂
             → Emptied pl₃ ws₃ cs₃ w₃ pl₄ ws₄ cs₄ w₄ → Placed rule K extra gates given records xs ls st pl ws cs w a xs₃ ls₃ st₃ pl₄ ws₄ cs₄ w₄

@@ -7,6 +7,7 @@ use Rattle.merge_checks.specs.Values.{groupList, areas}
 use Rattle.merge.specs.declared.Answer.{Answer}
 use Rattle.merge.specs.Merge.{told, outcome}
 
+-- two answers, their group lists and areas agree in everything
 pub record Same (a b : Answer) (xs ls st pl ws cs w xs′ ls′ st′ pl′ ws′ cs′ w′ : List ℕ) : Type 0 where
   pub number : a .number ≡ b .number
   pub all-stages : a .stages ≡ b .stages
@@ -15,7 +16,7 @@ pub record Same (a b : Answer) (xs ls st pl ws cs w xs′ ls′ st′ pl′ ws�
   pub partitions : a .partitions ≡ b .partitions
   pub trials : a .trials ≡ b .trials
   pub refused : a .refused ≡ b .refused
-  pub pin : a .pin ≡ b .pin
+  pub pin : a .pin .0 ≡ b .pin .0
   pub indices : xs ≡ xs′
   pub lengths : ls ≡ ls′
   pub stages : st ≡ st′
@@ -24,6 +25,7 @@ pub record Same (a b : Answer) (xs ls st pl ws cs w xs′ ls′ st′ pl′ ws�
   pub counts : cs ≡ cs′
   pub work : w ≡ w′
 
+-- two that tell the same outcome of the rules do
 pub one-outcome : (o : MergeOutcome) (a b : Answer) (xs ls st pl ws cs w xs′ ls′ st′ pl′ ws′ cs′ w′ : List ℕ) → outcome a xs ls st pl ws cs w ≡ o → outcome b xs′ ls′ st′ pl′ ws′ cs′ w′ ≡ o → Same a b xs ls st pl ws cs w xs′ ls′ st′ pl′ ws′ cs′ w′
 unfolding outcome told groupList areas
 one-outcome o a b xs ls st pl ws cs w xs′ ls′ st′ pl′ ws′ cs′ w′ d e =

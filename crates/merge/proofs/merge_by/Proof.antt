@@ -30,7 +30,7 @@ same-length-7 : tie.Need-same-length-7
 same-length-7 c = search needs
 
 returns : tie.Need-returns
-returns c = outcome-refused _ _ _ _ _ _ _ _ _ _ _ _ _ _ (c .before .before .merge-refusal .ensures) (c .if1 .taken)
+returns c = outcome-refused _ _ _ _ _ _ _ _ _ _ _ _ _ _ (c .before .before .before .merge-refusal .ensures) (c .before .if1 .taken)
 
 word-limit-requires : tie.Need-word-limit-requires
 word-limit-requires c κs = search needs

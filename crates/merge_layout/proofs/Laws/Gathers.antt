@@ -1,35 +1,28 @@
 -- The groups along the order, copied one slot after the other; a column summed along it. Assumes nothing.
 use Prim.Native.Nat.{ℕ, zero, suc, _+_, _-_, _*_, _<_, _≤_}
-use mathlib.Core.List.{List, [], _∷_, _++_, map, append-nil, append-assoc}
+use mathlib.Core.List.{List, [], _∷_, _++_, map, append-nil, append-assoc, map-append}
 use mathlib.Core.Path.{_≡_, refl, sym, ap, _∙_}
 use native.Mathlib.Numerals.{add-one}
 use native.Mathlib.Nat.{mul-le-mul-right}
 use native.Mathlib.Omega.{arith}
 use lib.ListN.{length, getD, take, drop, length-append, length-drop, length-map}
 use lib.Seq.{take-suc, take-take, take-at, take-all, drop-drop, length-take-le, getD-drop}
+use Rattle.rules.proofs.Lists.Parts.{map-take, getD-map}
 use Rattle.rules.specs.Lists.{sum}
 use Rattle.rules.specs.Merge.{splitBy, joined}
 use Rattle.merge_slots.specs.Slots.{own}
 use Rattle.merge_slots.specs.Sorts.{order}
 use Rattle.merge_slots.specs.Moves.{StartAt}
 use Rattle.merge_slots.proofs.Laws.Sums.{sum-append, sum-next, sum-part}
-use Rattle.merge_slots.proofs.Laws.Splits.{joined-append, map-take}
+use Rattle.merge_slots.proofs.Laws.Splits.{joined-append}
 use Rattle.merge_layout.specs.Layout.{GatherAt, Gathered, TotalAt, sums}
 
+-- a slot's groups are the part of the indices behind those before it
 pub slot-part : (ls xs : List ℕ) (s : ℕ) → getD (splitBy ls xs) s [] ≡ take (getD ls s 0) (drop (sum (take s ls)) xs)
 unfolding splitBy sum
 slot-part [] xs s = refl
 slot-part (l ∷ ls) xs zero = refl
 slot-part (l ∷ ls) xs (suc s) = slot-part ls (drop l xs) s ∙ ap (take (getD ls s 0)) (drop-drop (sum (take s ls)) l xs)
-
-map-append : {A B : Type 0} (f : A → B) (xs ys : List A) → map f (xs ++ ys) ≡ map f xs ++ map f ys
-map-append f [] ys = refl
-map-append {B = B} f (x ∷ xs) ys = ap (λ (l : List B). f x ∷ l) (map-append f xs ys)
-
-pub getD-map : (f : ℕ → ℕ) (xs : List ℕ) (i : ℕ) → i < length xs → getD (map f xs) i 0 ≡ f (getD xs i 0)
-getD-map f [] i h = absurd (omega arith)
-getD-map f (x ∷ xs) zero h = refl
-getD-map f (x ∷ xs) (suc i) h = getD-map f xs i (omega arith)
 
 -- the first i slots are copied, to the first `at` numbers
 pub record Gathering (xs ls ord : List ℕ) (k : ℕ) (to now : List ℕ) (at i : ℕ) : Type 0 where
@@ -38,6 +31,7 @@ pub record Gathering (xs ls ord : List ℕ) (k : ℕ) (to now : List ℕ) (at i 
   pub size : length now ≡ length to
   pub front : take at now ≡ joined (map (λ s. getD (splitBy ls xs) s []) (take i ord))
 
+-- before the first slot nothing is copied
 pub gathering-none : {xs ls ord : List ℕ} {k : ℕ} {to : List ℕ} → Gathering xs ls ord k to to 0 0
 unfolding sum joined
 gathering-none = record { upto = omega arith; is = refl; size = refl; front = refl }
@@ -47,9 +41,11 @@ module _ {xs ls ord : List ℕ} {k : ℕ} {to now : List ℕ} {at i : ℕ} (A : 
   len s = getD ls s 0
 
   module _ (h : i < k) {s : ℕ} (es : s ≡ getD ord i 0) where
+    -- the next slot of the order is one
     pub gathering-inside : s < length ls
     gathering-inside = rw es (A .slots i h)
 
+    -- the next slot's start may be added up
     pub gathering-start : StartAt ls s
     gathering-start = record { inside = omega (arith, gathering-inside); few = omega (arith, A .all, A .few) }
 
@@ -60,6 +56,7 @@ module _ {xs ls ord : List ℕ} {k : ℕ} {to now : List ℕ} {at i : ℕ} (A : 
         let d : getD (map len ord) i 0 ≡ len s = getD-map len ord i (omega (arith, A .inside)) ∙ ap len (sym es) in
         rw a (sum-next (map len ord) i (rw length-map (omega (arith, A .inside))) ∙ rw (d, ← b, ← N .is) refl)
 
+    -- the next slot's groups fit behind those copied
     pub gathering-fits : at + len s ≤ length now
     gathering-fits =
         let a : map len (take (i + 1) ord) ≡ take (i + 1) (map len (take k ord)) = ap (map len) (sym (take-take (i + 1) k ord (omega arith))) ∙ map-take len (i + 1) (take k ord) in
@@ -67,14 +64,17 @@ module _ {xs ls ord : List ℕ} {k : ℕ} {to now : List ℕ} {at i : ℕ} (A : 
         omega (arith, next-sum, sum-part (map len (take k ord)) (i + 1), A .fits, N .size)
 
     module _ {start size : ℕ} (et : start ≡ sum (take s ls)) (ez : size ≡ len s) where
+      -- the next slot's groups end within the indices
       pub gathering-end : start + size ≤ length xs
       gathering-end = omega (arith, sum-next ls s gathering-inside, sum-part ls (s + 1), A .all)
 
+      -- the part copied from and the part copied to have the same length
       pub gathering-same : length (take (at + size - at) (drop at now)) ≡ length (take (start + size - start) (drop start xs))
       gathering-same =
           length-take-le (at + size - at) (drop at now) (rw length-drop (omega (arith, gathering-fits)))
           ∙ sym (length-take-le (start + size - start) (drop start xs) (rw length-drop (omega (arith, gathering-end))) ∙ omega arith)
 
+      -- one more slot's groups are copied
       pub gathering-more : {ys : List ℕ} → ys ≡ take (start + size - start) (drop start xs) → Gathering xs ls ord k to (take at now ++ (ys ++ drop (at + size - at) (drop at now))) (at + size) (i + 1)
       unfolding joined
       gathering-more {ys} ey =
@@ -93,6 +93,7 @@ module _ {xs ls ord : List ℕ} {k : ℕ} {to now : List ℕ} {at i : ℕ} (A : 
             front = f ∙ rw (N .front, g, t, map-append (λ s. getD (splitBy ls xs) s []) (take i ord) (s ∷ []), joined-append (map (λ s. getD (splitBy ls xs) s []) (take i ord)) (getD (splitBy ls xs) s [] ∷ [])) (ap (λ (l : List ℕ). joined (map (λ s. getD (splitBy ls xs) s []) (take i ord)) ++ l) (sym (append-nil (getD (splitBy ls xs) s []))));
           }
 
+  -- past the last slot the groups stand in the final order
   pub gathering-done : k ≤ i → Gathered xs ls ord k now
   gathering-done h =
       let e : i ≡ k = omega (arith, N .upto) in
@@ -101,26 +102,28 @@ module _ {xs ls ord : List ℕ} {k : ℕ} {to now : List ℕ} {at i : ℕ} (A : 
 
 -- ---- a column summed
 
+-- the first i numbers of a column along the order are summed
 pub record Totalling (n f k : ℕ) (o : List ℕ) (sum i : ℕ) : Type 0 where
   pub upto : i ≤ k
   pub few : sum ≤ 4294967295 * i
   pub is : sum ≡ sums n f o i
 
+-- before the first slot the sum is 0
 pub totalling-none : {n f k : ℕ} {o : List ℕ} → Totalling n f k o 0 0
 unfolding sums order sum
 totalling-none = record { upto = omega arith; few = omega arith; is = refl }
 
+-- a column starts at or before the last
 pub mul-under : (f n : ℕ) → f < 8 → f * n ≤ 7 * n
 mul-under f n h = mul-le-mul-right n (omega arith)
 
 module _ {n f k : ℕ} {o : List ℕ} {a i : ℕ} (A : TotalAt n f k o) (N : Totalling n f k o a i) (h : i < k) {s : ℕ} (es : s ≡ getD o (6 * n + i) 0) where
+  -- the slot's number stands in the columns
   pub totalling-slot : f * n + s < 8 * n
   unfolding own
   totalling-slot = let d : s < n = rw es (A .slots i h) in omega (arith, mul-under f n (A .column))
 
-  pub totalling-small : f * n ≤ 7168
-  totalling-small = omega (arith, mul-under f n (A .column), A .few)
-
+  -- one more number is added
   pub totalling-more : {v : ℕ} → v ≡ getD o (f * n + s) 0 → v ≤ 4294967295 → Totalling n f k o (a + v) (i + 1)
   unfolding sums order sum own
   totalling-more {v} ev b =
@@ -131,5 +134,6 @@ module _ {n f k : ℕ} {o : List ℕ} {a i : ℕ} (A : TotalAt n f k o) (N : Tot
         is = rw (t, map-append (λ s. getD o (f * n + s) 0) (take i (drop (6 * n) o)) (s ∷ []), sum-append (map (λ s. getD o (f * n + s) 0) (take i (drop (6 * n) o))) (getD o (f * n + s) 0 ∷ [])) (omega (arith, N .is));
       }
 
+-- past the last slot the column is summed
 pub totalling-done : {n f k : ℕ} {o : List ℕ} {a i : ℕ} → Totalling n f k o a i → k ≤ i → a ≡ sums n f o k
 totalling-done {n} {f} {k} {o} {i = i} N h = let e : i ≡ k = omega (arith, N .upto) in N .is ∙ rw e refl

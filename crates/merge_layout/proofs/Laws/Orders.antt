@@ -15,10 +15,12 @@ module _ {ls o : List ℕ} (A : OrderAt ls o) where
   abbrev n : ℕ
   n = length ls
 
+  -- the full slots may be opened
   pub open-at : OpenAt ls o
   open-at = record { few = A .few; room = A .room }
 
   module _ {o₁ : List ℕ} (B : Opened ls o o₁) where
+    -- with the full slots open all slots may get keys
     pub keys-at : KeysAt n o₁
     keys-at = record { area = record { few = A .few; room = B .only .size ∙ A .room } }
 
@@ -34,6 +36,7 @@ module _ {ls o : List ℕ} (A : OrderAt ls o) where
       unfolding own
       keyed s h = K .grows s h ∙ ap (λ (x : ℕ). 4294967295 - x) (sym (K .kept (1 * n + s) (omega arith)))
 
+      -- with keys the slots may be sorted
       pub sort-at : SortAt n o₂
       sort-at = record { area = record { few = A .few; room = K .size ∙ B .only .size ∙ A .room }; grows = keyed; union = K .union; small = λ s h. rw (stages s h) (A .small s h) }
 
@@ -41,6 +44,7 @@ module _ {ls o : List ℕ} (A : OrderAt ls o) where
       unfolding free own
       bars s h = rw (K .kept (3 * n + s) (omega arith)) refl
 
+      -- the three leave the full slots in their final order
       pub ordered : {o₃ : List ℕ} {r : ℕ} → Sorted n o₂ o₃ r → Ordered ls o o₃ r
       ordered S = record {
         size = S .size ∙ K .size ∙ B .only .size;

@@ -18,6 +18,7 @@ module _ (a e : ℕ) (w : List ℕ) (order : a ≤ e) (inside : e ≤ length w) 
   long : length ys ≡ e - a
   long = l ∙ length-take-le (e - a) (drop a w) (rw length-drop (omega arith))
 
+  -- a part that comes back with its length keeps the area's
   pub part-length : length now ≡ length w
   part-length =
       let p = length-append (take a w) (ys ++ drop (e - a) (drop a w)) in
@@ -25,9 +26,11 @@ module _ (a e : ℕ) (w : List ℕ) (order : a ≤ e) (inside : e ≤ length w) 
       let r : length (drop (e - a) (drop a w)) ≡ length w - a - (e - a) = length-drop (e - a) (drop a w) ∙ ap (λ (x : ℕ). x - (e - a)) (length-drop a w) in
       omega (arith, front, long)
 
+  -- before it nothing changed
   pub part-below : (j : ℕ) → j < a → getD now j 0 ≡ getD w j 0
   part-below j h = List·getD-append (take a w) (ys ++ drop (e - a) (drop a w)) 0 j (omega (arith, front)) ∙ getD-take a w j 0 h
 
+  -- behind it nothing changed either
   pub part-above : (j : ℕ) → e ≤ j → getD now j 0 ≡ getD w j 0
   part-above j h =
       let p : length (take a w) + (length ys + (j - e)) ≡ j = omega (arith, front, long) in
@@ -38,22 +41,27 @@ module _ (base n : ℕ) (w : List ℕ) (room : base + 8 * n ≤ length w) where
   abbrev size : ℕ
   size = base + 8 * n - base
 
+  -- the part that is lent is the own numbers
   pub lent : take size (drop base w) ≡ owned base n w
   unfolding owned
   lent = let z : size ≡ 8 * n = omega arith in rw z refl
 
+  -- there are eight own numbers for each slot
   pub own-length : length (owned base n w) ≡ 8 * n
   unfolding owned
   own-length = length-take-le (8 * n) (drop base w) (rw length-drop (omega arith))
 
+  -- own number x stands x behind the base
   pub own-at : (x : ℕ) → x < 8 * n → getD (owned base n w) x 0 ≡ getD w (base + x) 0
   unfolding owned
   own-at x h = getD-take (8 * n) (drop base w) x 0 h ∙ getD-drop base w x 0
 
+  -- what comes back are the own numbers now
   pub back-owned : (ys : List ℕ) → length ys ≡ length (take size (drop base w)) → owned base n (take base w ++ (ys ++ drop size (drop base w))) ≡ ys
   unfolding owned
   back-owned ys l = rw (drop-at (take base w) (ys ++ drop size (drop base w)) base (length-take-le base w (omega arith))) (take-at ys (drop size (drop base w)) (8 * n) (l ∙ ap length lent ∙ own-length))
 
+  -- a store behind the base is a store to them
   pub set-owned : (x v : ℕ) → x < 8 * n → owned base n (set w (base + x) v) ≡ set (owned base n w) x v
   unfolding owned
   set-owned x v h = rw (drop-set-add base w x v) (take-set-lt (8 * n) (drop base w) x v h)

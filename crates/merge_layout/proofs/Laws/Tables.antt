@@ -33,9 +33,11 @@ module _ (n i v u : ℕ) (o : List ℕ) (inside : i < n) (room : length o ≡ 8 
 
 -- ---- both columns 0
 
+-- at the first place nothing is cleared
 pub cleared-none : {n : ℕ} {o : List ℕ} → Cleared n 0 o o
 cleared-none = record { size = refl; below = λ x h. refl; above = λ x h. refl; fourth = λ i h. absurd (omega arith); fifth = λ i h. absurd (omega arith) }
 
+-- one more place of both columns is 0
 pub cleared-more : {n k : ℕ} {o o′ : List ℕ} → OwnAt n o → Cleared n k o o′ → k < n → Cleared n (k + 1) o (set (set o′ (4 * n + k) 0) (5 * n + k) 0)
 unfolding own
 cleared-more {n} {k} {o} {o′} A N h =
@@ -48,11 +50,13 @@ cleared-more {n} {k} {o} {o′} A N h =
       fifth = λ i b. elim (same-or i k b) [ inl e ↦ rw e (two-fifth n k 0 0 o′ h l) | inr e ↦ two-other n k 0 0 o′ h l (5 * n + i) (λ z. omega arith) (λ z. omega arith) ∙ N .fifth i e ];
     }
 
+-- past the last place both columns are 0
 pub cleared-done : {n k : ℕ} {o o′ : List ℕ} → Cleared n k o o′ → k ≤ n → n ≤ k → Cleared n n o o′
 cleared-done {n} {k} N a b = let e : k ≡ n = omega arith in rw e at N
 
 -- ---- the first i numbers of both columns are written
 
+-- the first i lengths and stages stand in the final order, 0 behind them
 pub record Tabling (ls : List ℕ) (k : ℕ) (o o′ : List ℕ) (i : ℕ) : Type 0 where
   pub upto : i ≤ k
   pub size : length o′ ≡ length o
@@ -63,6 +67,7 @@ pub record Tabling (ls : List ℕ) (k : ℕ) (o o′ : List ℕ) (i : ℕ) : Typ
   pub no-lengths : (j : ℕ) → i ≤ j → j < length ls → own 4 (length ls) o′ j ≡ 0
   pub no-stages : (j : ℕ) → i ≤ j → j < length ls → own 5 (length ls) o′ j ≡ 0
 
+-- before the first slot both columns are 0
 pub tabling-none : {ls : List ℕ} {k : ℕ} {o : List ℕ} → FillAt ls k o → Tabling ls k o o 0
 tabling-none A = record {
   upto = omega arith;
@@ -89,6 +94,7 @@ module _ {ls : List ℕ} {k : ℕ} {o o′ : List ℕ} {i : ℕ} (A : FillAt ls 
   unfolding own
   named = e ∙ N .above (6 * n + i) (omega arith)
 
+  -- the next slot of the order is one
   pub tabling-slot : s < n
   tabling-slot = rw named (A .table .slots i h)
 
@@ -102,6 +108,7 @@ module _ {ls : List ℕ} {k : ℕ} {o o′ : List ℕ} {i : ℕ} (A : FillAt ls 
   unfolding own
   unit = getD-set-other o′ (4 * n + i) (1 * n + s) v 0 (λ z. omega (arith, tabling-slot)) ∙ N .below (1 * n + s) (omega (arith, tabling-slot)) ∙ ap (λ (x : ℕ). getD o (1 * n + x) 0) named
 
+  -- one more slot's length and stages are written
   pub tabling-more : Tabling ls k o (set (set o′ (4 * n + i) v) (5 * n + i) u) (i + 1)
   unfolding own
   tabling-more = record {
@@ -115,6 +122,7 @@ module _ {ls : List ℕ} {k : ℕ} {o o′ : List ℕ} {i : ℕ} (A : FillAt ls 
     no-stages = λ j a b. two-other n i v u o′ inside long (5 * n + j) (λ z. omega (arith, inside)) (λ z. omega arith) ∙ N .no-stages j (omega arith) b;
   }
 
+-- past the last slot both columns are whole
 pub tabling-done : {ls : List ℕ} {k : ℕ} {o o′ : List ℕ} {i : ℕ} → Tabling ls k o o′ i → k ≤ i → Tabled ls k o o′
 tabling-done N h = record {
   size = N .size;
@@ -133,6 +141,7 @@ module _ {ls : List ℕ} {k : ℕ} {o o₁ : List ℕ} (A : TableAt ls k o) (C :
   unfolding own
   ordered i = C .above (6 * length ls + i) (omega arith)
 
+  -- cleared columns may be filled
   pub fill-at : FillAt ls k o₁
   fill-at = record { table = record { few = A .few; room = C .size ∙ A .room; inside = A .inside; slots = λ i h. rw (ordered i) (A .slots i h) }; fourth = C .fourth; fifth = C .fifth }
 
@@ -140,6 +149,7 @@ module _ {ls : List ℕ} {k : ℕ} {o o₁ : List ℕ} (A : TableAt ls k o) (C :
   unfolding own
   staged s h = C .below (1 * length ls + s) (omega arith)
 
+  -- cleared and filled, they hold the lengths and stages in the final order
   pub tabled : {o₂ : List ℕ} → Tabled ls k o₁ o₂ → Tabled ls k o o₂
   tabled T = record {
     size = T .size ∙ C .size;

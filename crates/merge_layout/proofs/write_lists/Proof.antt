@@ -1,6 +1,6 @@
 -- `merge_layout::write_lists` meets its contract. Assumes nothing.
 use native.Mathlib.Omega.{arith}
-use Rattle.merge_layout.proofs.Laws.Whole.{total-at, lengths-inside, stages-inside, written}
+use Rattle.merge_layout.proofs.Laws.Lists.{total-at, lengths-inside, stages-inside, written}
 use borrow.Author.Needs.{needs}
 use Rattle.merge_layout.proofs.write_lists.Statement.{statement}
 use Rattle.merge_layout.proofs.write_lists.Tie as tie

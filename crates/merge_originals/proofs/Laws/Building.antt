@@ -53,6 +53,7 @@ module _ {n s size stages words : ℕ} {o o′ : List ℕ} (S : Stored n s size 
 
 -- ---- the first s slots are built
 
+-- the first s partitions are built and measured, with the greatest count of stages
 pub record Building (rule : WordRule) (K m table base : ℕ) (gates given records xs ls pl ws cs w pl′ ws′ cs′ w′ : List ℕ) (most at s : ℕ) : Type 0 where
   pub upto : s ≤ length ls
   pub start : at ≡ sum (take s ls)
@@ -65,6 +66,7 @@ pub record Building (rule : WordRule) (K m table base : ℕ) (gates given record
   pub few : most ≤ m
 
 module _ {K m table base : ℕ} {gates given records xs ls pl ws cs w : List ℕ} (A : OriginalsAt K m table base gates given records xs ls pl ws cs w) where
+  -- before the first slot none is
   pub building-none : {rule : WordRule} → Building rule K m table base gates given records xs ls pl ws cs w pl ws cs w 0 0 0
   unfolding sum listed gathered mostStages
   building-none = record {
@@ -87,6 +89,7 @@ module _ {K m table base : ℕ} {gates given records xs ls pl ws cs w : List ℕ
 
   module _ {rule : WordRule} {pl₁ ws₁ cs₁ w₁ : List ℕ} {most at s : ℕ} (N : Building rule K m table base gates given records xs ls pl ws cs w pl₁ ws₁ cs₁ w₁ most at s) where
     module _ (h : s < length ls) {l : ℕ} (el : l ≡ getD ls s 0) where
+      -- the next slot's groups end within the indices
       pub part-end : at + l ≤ length xs
       part-end = omega (arith, N .start, sum-next ls s h, sum-part ls (s + 1), A .all)
 
@@ -99,6 +102,7 @@ module _ {K m table base : ℕ} {gates given records xs ls pl ws cs w : List ℕ
       part-length : length part ≤ length xs
       part-length = omega (arith, length-take-le (at + l - at) (drop at xs) (rw length-drop (omega (arith, part-end))), part-end)
 
+      -- the next slot's partition may be built and measured
       pub building-at : MeasureAt K m table base n s gates given records part pl₁ ws₁ cs₁ w₁
       building-at = record {
         ground = ground-changes (A .ground) (N .changes);
@@ -130,6 +134,7 @@ module _ {K m table base : ℕ} {gates given records xs ls pl ws cs w : List ℕ
         changed : Changes m table base n w w₂
         changed = changes-then (N .changes) (M .changes)
 
+        -- a refused partition refuses the merge, with its number
         pub building-refused : a .number ≢ 0 → Given rule K m table base gates given records xs ls pl ws cs w (Refused (s + 1) (a .number) (a .stage)) pl₂ ws₂ cs₂ w₂
         unfolding partsFor
         building-refused z = record {
@@ -156,6 +161,7 @@ module _ {K m table base : ℕ} {gates given records xs ls pl ws cs w : List ℕ
           unfolding held
           this-stages = O .stored .stages-are
 
+          -- one more partition is built and measured
           pub building-more : {most′ : ℕ} → most′ ≡ max (a .stages) most → Building rule K m table base gates given records xs ls pl ws cs w pl₂ ws₂ cs₂ w₂ most′ (at + l) (s + 1)
           building-more e = record {
             upto = omega arith;
@@ -174,6 +180,7 @@ module _ {K m table base : ℕ} {gates given records xs ls pl ws cs w : List ℕ
             few = omega (arith, N .few, M .few);
           }
 
+    -- past the last slot all partitions are built
     pub building-done : length ls ≤ s → Given rule K m table base gates given records xs ls pl ws cs w (Built most) pl₁ ws₁ cs₁ w₁
     unfolding partsFor allHeld
     building-done h =

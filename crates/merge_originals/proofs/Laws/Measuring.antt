@@ -5,9 +5,8 @@ use mathlib.Core.List.{List, [], _∷_, _++_, append-nil}
 use mathlib.Core.Logic.{_≢_}
 use mathlib.Core.Path.{_≡_, refl, sym, ap, _∙_}
 use native.Mathlib.Omega.{arith}
-use lib.Dec.{leb}
 use lib.ListN.{length, take, drop}
-use borrow.Author.Tests.{leb-true}
+use Rattle.cells.proofs.Heights.{tall-height}
 use Rattle.rules.specs.Cells.{isHeight, empty, wordLimit, rooms}
 use Rattle.rules.specs.Graph.{graphOf}
 use Rattle.rules.specs.Records.{Group, groupsOf, Ends, first, later}
@@ -15,7 +14,7 @@ use Rattle.rules.specs.Traversal.{WordRule}
 use Rattle.rules.specs.Build as rules
 use Rattle.rules.specs.Merge.{Common, named, builtOf}
 use Rattle.rules.specs.Lists.{In}
-use Rattle.rules.proofs.Lists.Members.{in-nil, in-here, in-there, and-true}
+use Rattle.rules.proofs.Lists.Members.{in-nil, in-here, in-there}
 use Rattle.rules.proofs.Demand.{build-few}
 use Rattle.rules.proofs.Build.Bounds.{Few}
 use Rattle.placer.specs.declared.Answer.{Answer}
@@ -34,13 +33,16 @@ use Rattle.merge_originals.specs.Originals.{Ground, Grouped, Changes, No
 
 -- ---- what calls leave
 
+-- nothing changed, so nothing but own numbers did
 pub changes-none : {m table base n : ℕ} {K : ℕ} {gates given records w : List ℕ} → Ground K m table base n gates given records w → Changes m table base n w w
 changes-none G = record { len = refl; idle = G .idle; starts = λ j a b. refl; past = λ j h. refl }
 
+-- two changes of own numbers are one
 pub changes-then : {m table base n : ℕ} {w w₁ w₂ : List ℕ} → Changes m table base n w w₁ → Changes m table base n w₁ w₂ → Changes m table base n w w₂
 changes-then C D = record { len = D .len ∙ C .len; idle = D .idle; starts = λ j a b. D .starts j a b ∙ C .starts j a b; past = λ j h. D .past j h ∙ C .past j h }
 
 module _ {K m table base n : ℕ} {gates given records w : List ℕ} (G : Ground K m table base n gates given records w) where
+  -- what a merge finds it finds again after such a change
   pub ground-changes : {w₁ : List ℕ} → Changes m table base n w w₁ → Ground K m table base n gates given records w₁
   ground-changes C = record {
     sized = G .sized;
@@ -54,12 +56,15 @@ module _ {K m table base n : ℕ} {gates given records w : List ℕ} (G : Ground
     room = omega (arith, G .room, C .len);
   }
 
+  -- what a union's call leaves is such a change
   pub leaves-changes : {w₁ : List ℕ} → Leaves m table w w₁ → Changes m table base n w w₁
   leaves-changes L = record { len = L .len; idle = L .idle; starts = λ j a b. L .past j a; past = λ j h. L .past j (omega (arith, G .behind)) }
 
+  -- a union's call leaves the own numbers
   pub leaves-own : {w₁ : List ℕ} → Leaves m table w w₁ → owned base n w₁ ≡ owned base n w
   leaves-own {w₁} L = owned-same base n w w₁ (G .room) (L .len) (λ j h. L .past j (omega (arith, G .behind)))
 
+  -- one partition is a union with none
   pub union-at : {part : List ℕ} → Grouped m table records part → UnionAt K m table gates given records part [] w
   union-at P = record {
     sized = G .sized;
@@ -76,13 +81,16 @@ module _ {K m table base n : ℕ} {gates given records w : List ℕ} (G : Ground
 -- ---- the size and the own numbers
 
 module _ {m table base n s stages words : ℕ} {gates given records part w : List ℕ} (A : NoteAt m table base n s stages words gates given records part w) where
+  -- the partition's traversal may be measured
   pub note-size : SizeAt m table gates given records part [] w
   note-size = record { K = A .K; at = union-at (A .ground) (A .groups) }
 
   module _ {size : ℕ} {w₁ : List ℕ} (M : Measured m table gates given records part [] w size w₁) where
+    -- the own numbers lie in the area
     pub note-end : base + 8 * n ≤ length w₁
     note-end = omega (arith, A .ground .room, M .leaves .len)
 
+    -- the slot's may be stored
     pub note-store : BuiltAt n s size stages words (take (base + 8 * n - base) (drop base w₁))
     note-store = rw (lent base n w₁ note-end) (record {
       area = record { few = A .ground .few; room = own-length base n w₁ note-end };
@@ -92,6 +100,7 @@ module _ {m table base n s stages words : ℕ} {gates given records part w : Lis
       words-fit = A .words-fit;
     })
 
+    -- the slot's size, stages and words are stored
     pub noted : {ys : List ℕ} → Stored n s size stages words (take (base + 8 * n - base) (drop base w₁)) ys → Noted m table base n s stages words gates given records part w (take base w₁ ++ (ys ++ drop (base + 8 * n - base) (drop base w₁)))
     noted {ys} S₀ =
         let S : Stored n s size stages words (owned base n w₁) ys = rw (lent base n w₁ note-end) at S₀ in
@@ -116,15 +125,12 @@ unfolding picked
 picked-ends gs (i ∷ is) q b (first e) = group-ends gs i q (b i (in-here i is)) e
 picked-ends gs (i ∷ is) q b (later e) = picked-ends gs is q (λ j h. b j (in-there j i is h)) e
 
-tall : (K : ℕ) → isHeight K ≡ true → (6 ≤ K) × (K ≤ 13)
-unfolding isHeight
-tall K h = let t = and-true (leb 6 K) (leb K 13) h in (leb-true 6 K (t .0), leb-true K 13 (t .1))
-
 limit-fits : (K : ℕ) → isHeight K ≡ true → wordLimit K ≤ 256
 unfolding wordLimit
-limit-fits K h = limit-small K (tall K h .1)
+limit-fits K h = limit-small K (tall-height K h .high)
 
 module _ {K m table base n s : ℕ} {gates given records part pl ws cs w : List ℕ} (A : MeasureAt K m table base n s gates given records part pl ws cs w) where
+  -- the partition may be built
   pub measure-try : TryAt K m table gates given records part [] pl ws cs w
   measure-try = record { union = union-at (A .ground) (A .groups); blank = A .blank }
 
@@ -140,7 +146,7 @@ module _ {K m table base n s : ℕ} {gates given records part pl ws cs w : List 
     unfolding builtOf empty
     few₀ =
         let P = A .ground .passed in
-        build-few rule K (graphOf gates) (P .valid) (tall K (P .height) .0) (omega (arith, P .pins, P .few)) given [] (named J₀ part)
+        build-few rule K (graphOf gates) (P .valid) (tall-height K (P .height) .low) (omega (arith, P .pins, P .few)) given [] (named J₀ part)
         (λ q e. rw (P .pins) (P .named q (picked-ends (groupsOf records) part q (A .groups .named) (rw (named-picked J₀ part {gs = groupsOf records} refl) at e)))) (rooms K (length pl))
 
     replied : (J : Common) → Places rule K (length pl) gates given records J → told a ≡ rules.reply (builtOf J part)
@@ -154,6 +160,7 @@ module _ {K m table base n s : ℕ} {gates given records part pl ws cs w : List 
     unfolding told
     words-most = let e : a .words ≡ rules.reply (builtOf J₀ part) .words = ap (λ (r : rules.Reply). r .words) (replied J₀ fits₀) in omega (arith, few₀ .words-most, limit-fits K (A .ground .passed .height))
 
+    -- a built partition may be measured
     pub measure-note : NoteAt m table base n s (a .stages) (a .words) gates given records part w₁
     measure-note = record {
       K = K;
@@ -175,9 +182,11 @@ module _ {K m table base n s : ℕ} {gates given records part pl ws cs w : List 
       noted = N;
     }
 
+    -- for a refused partition nothing is stored
     pub measure-refused : a .number ≢ 0 → Measures rule K m table base n s gates given records part pl ws cs w a pl₁ ws₁ cs₁ w₁
     measure-refused h = measures (leaves-changes (A .ground) (B .leaves)) (λ z. absurd (h z))
 
+    -- for a whole one its size, stages and words are stored
     pub measure-whole : {w₂ : List ℕ} → Noted m table base n s (a .stages) (a .words) gates given records part w₁ w₂ → Measures rule K m table base n s gates given records part pl ws cs w a pl₁ ws₁ cs₁ w₂
     measure-whole N =
         let C = changes-then (leaves-changes (A .ground) (B .leaves)) (N .changes) in

@@ -45,11 +45,13 @@ module _ (J : Common) (hs : List (List ℕ)) (P : ℕ → Part) where
   right-step : (i : ℕ) → i < length hs → Right J (getD hs i []) i (P i) → original J i (drop i hs) ≡ cons (P i) (original J (suc i) (drop (suc i) hs))
   right-step i h R = ap (original J i) (drop-cons hs i [] h) ∙ step-whole J i (getD hs i []) (drop (suc i) hs) (builtOf J (getD hs i [])) refl (R .whole) ∙ ap (λ (p : Part). cons p (original J (suc i) (drop (suc i) hs))) (sym (R .part))
 
+  -- where every slot is built the partitions are those in the slots
   pub all-right : (k i : ℕ) → i + k ≡ length hs → ((t : ℕ) → i ≤ t → t < i + k → Right J (getD hs t []) t (P t)) → original J i (drop i hs) ≡ good (listed P (λ _. true) k i)
   unfolding listed gathered cons
   all-right zero i e R = none-left i (omega arith)
   all-right (suc k) i e R = right-step i (omega arith) (R i (omega arith) (omega arith)) ∙ rw (all-right k (suc i) (omega arith) (λ t a b. R t (omega arith) (omega arith))) refl
 
+  -- the first that is refused refuses the merge
   pub one-refused : (k i s : ℕ) → i + k ≡ s → s < length hs → ((t : ℕ) → i ≤ t → t < s → Right J (getD hs t []) t (P t)) → reply (builtOf J (getD hs s [])) .number ≢ 0
       → original J i (drop i hs) ≡ bad (suc s) (reply (builtOf J (getD hs s [])) .number) (reply (builtOf J (getD hs s [])) .stage)
   unfolding cons
@@ -61,11 +63,13 @@ module _ (J : Common) (hs : List (List ℕ)) (P : ℕ → Part) where
 -- ---- the greatest stage count
 
 module _ (P : ℕ → Part) where
+  -- one slot more, for the greatest count of stages
   pub most-next : (k i m : ℕ) → mostStages (listed P (λ _. true) (suc k) i) m ≡ max (P (i + k) .stages) (mostStages (listed P (λ _. true) k i) m)
   unfolding listed gathered mostStages
   most-next zero i m = let z : i + 0 ≡ i = omega arith in rw z refl
   most-next (suc k) i m = let z : i + suc k ≡ suc i + k = omega arith in rw z (most-next k (suc i) (max (P i .stages) m))
 
+  -- k slots stand for k partitions
   pub listed-count : (k i : ℕ) → length (listed P (λ _. true) k i) ≡ k
   unfolding listed gathered
   listed-count zero i = refl
@@ -91,6 +95,7 @@ module _ (P : ℕ → Part) (ls : List ℕ) (sizes : (t : ℕ) → length (P t .
       let z : getD ls i 0 ≡ suc (length xs) = sym (sizes i) ∙ ap length e in
       occupied-some (P i) _ x xs e ∙ ap (λ (l : List Part). P i ∷ l) ih ∙ sym (gathered-in (λ p ps. p ∷ ps) P (full ls) k i (rw (ne-eqb (getD ls i 0) 0 (λ y. omega arith)) refl))
 
+  -- the partitions with groups are those of the full slots
   pub occupied-full : (k i : ℕ) → occupied (listed P (λ _. true) k i) ≡ listed P (full ls) k i
   unfolding listed gathered occupied
   occupied-full zero i = refl
@@ -106,10 +111,7 @@ module _ (n : ℕ) (ls xs o : List ℕ) (all : sum ls ≡ length xs) where
   unfolding allHeld
   all-occupied = occupied-full (held n ls xs o) ls held-size n 0
 
+  -- n slots hold n partitions
   pub all-count : length (allHeld n ls xs o) ≡ n
   unfolding allHeld
   all-count = listed-count (held n ls xs o) n 0
-
-pub held-number : (n : ℕ) (ls xs o : List ℕ) (t : ℕ) → held n ls xs o t .nr ≡ t
-unfolding held
-held-number n ls xs o t = refl

@@ -11,7 +11,7 @@ use Rattle.merge_originals.proofs.build_originals.Tie as tie
 
 abbrev Inv-loop : tie.InvT-loop
 Inv-loop height rule gates given records indices lengths plan₀ words₀ counts₀ work₀ m table base n most₀ at₀ s₀ plan words counts work most at s =
-    Building (ruleOf rule) height m table base gates given records indices lengths plan₀ words₀ counts₀ work₀ plan words counts work most at s
+    Building (ruleOf rule) (height .0) m table base gates given records indices lengths plan₀ words₀ counts₀ work₀ plan words counts work most at s
 
 abbrev μ-loop : tie.MeasureT-loop
 μ-loop height rule gates given records indices lengths plan₀ words₀ counts₀ work₀ m table base n most₀ at₀ s₀ plan words counts work most at s =

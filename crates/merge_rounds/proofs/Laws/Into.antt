@@ -42,6 +42,7 @@ merged P f k i t = record { part = P i; later = listed P f k (suc i); trials = t
 merged-same : (P Q : ℕ → Part) (f g : ℕ → Bool) (k i t : ℕ) → ((s : ℕ) → i ≤ s → s < suc i + k → g s ≡ f s) → ((s : ℕ) → i ≤ s → s < suc i + k → Q s ≡ P s) → merged P f k i t ≡ merged Q g k i t
 merged-same P Q f g k i t d e = rw (e i (omega arith) (omega arith), listed-same Q P g f k (suc i) (λ s l u. d s (omega arith) u) (λ s l u z. e s (omega arith) u)) refl
 
+-- slots that agree give the same rounds
 pub rounds-same : (J : Common) (P Q : ℕ → Part) (f : ℕ → Bool) (k i left : ℕ) (barred : List ℕ) (t : ℕ) → ((s : ℕ) → i ≤ s → s < suc i + k → Q s ≡ P s)
     → rounds J left (P i) (listed P f k (suc i)) barred t ≡ rounds J left (Q i) (listed Q f k (suc i)) barred t
 rounds-same J P Q f k i left barred t e = rw (e i (omega arith) (omega arith), listed-same Q P f f k (suc i) (λ s l u. refl) (λ s l u z. e s (omega arith) u)) refl
@@ -53,9 +54,11 @@ pub record Going (J : Common) (k i left t : ℕ) (P : ℕ → Part) (f opens : �
   pub same : whole ≡ rounds J left (P i) (listed P f k (suc i)) barred t
 
 module _ {J : Common} {k i left t : ℕ} {P : ℕ → Part} {f opens : ℕ → Bool} {whole : Merged} (G : Going J k i left t P f opens whole) where
+  -- no round left: this is what they come to
   pub going-end : left ≤ 0 → whole ≡ merged P f k i t
   going-end h = let z : left ≡ 0 = omega arith in G .same ∙ rw z (rounds-end J 0 (P i) (listed P f k (suc i)) (G .barred) t)
 
+  -- slots and bars that agree go on the same
   pub going-same : (Q : ℕ → Part) (opens′ : ℕ → Bool) → ((s : ℕ) → i ≤ s → s < suc i + k → Q s ≡ P s) → ((s : ℕ) → i ≤ s → s < suc i + k → opens′ s ≡ opens s) → Going J k i left t Q f opens′ whole
   going-same Q opens′ e d = record {
     barred = G .barred;
@@ -73,6 +76,7 @@ module _ {J : Common} {k i left t : ℕ} {P : ℕ → Part} {f opens : ℕ → B
     more : left ≡ suc (left - 1)
     more = omega arith
 
+    -- a round without a union ends them
     pub going-fails : (barred′ : List ℕ) (t′ : ℕ) → goes J (P i) P k (suc i) opens r (G .barred) t ≡ none barred′ t′ → whole ≡ merged P f k i t′
     going-fails barred′ t′ d = G .same ∙ ap (λ (a : ℕ). rounds J a (P i) later (G .barred) t) more ∙ rounds-none J (left - 1) (P i) later (G .barred) t barred′ t′ (round-begins J (P i) P k (suc i) n (G .bars) (J .ranks) t ∙ begins d)
 
@@ -80,6 +84,7 @@ module _ {J : Common} {k i left t : ℕ} {P : ℕ → Part} {f opens : ℕ → B
       without-is : without j later ≡ listed Q g k (suc i)
       without-is = without-slot P n j f k (suc i) ∙ listed-same P Q (but j f) g k (suc i) (λ s l u. sym (fulls s)) (λ s l u z. sym (parts s (omega arith) u (λ y. true-false z (fulls s ∙ but-same j f s y))))
 
+      -- one with a union leaves one round less, and slot j empty
       pub going-wins : {opens′ : ℕ → Bool} (barred′ : List ℕ) (t′ : ℕ) → Bars g opens′ k (suc i) barred′ → goes J (P i) P k (suc i) opens r (G .barred) t ≡ some j (Q i) barred′ t′ → Going J k i (left - 1) t′ Q g opens′ whole
       going-wins barred′ t′ B d = record {
         barred = barred′;
@@ -89,9 +94,11 @@ module _ {J : Common} {k i left t : ℕ} {P : ℕ → Part} {f opens : ℕ → B
 
 -- ---- the loop
 
+-- two calls keep what each keeps
 pub keeps-more : {K m table base : ℕ} {gates given records ls pl xs₁ ls₁ pl₁ ws₁ cs₁ w₁ xs₂ ls₂ pl₂ ws₂ cs₂ w₂ : List ℕ} → Keeps K m table base gates given records ls pl xs₁ ls₁ pl₁ ws₁ cs₁ w₁ → Keeps K m table base gates given records ls₁ pl₁ xs₂ ls₂ pl₂ ws₂ cs₂ w₂ → Keeps K m table base gates given records ls pl xs₂ ls₂ pl₂ ws₂ cs₂ w₂
 keeps-more A B = record { stands = B .stands; blank = B .blank; plan = B .plan ∙ A .plan; count = B .count ∙ A .count }
 
+-- the same merge, where the size has another name
 pub tries-same : {rule : WordRule} {K a b cap : ℕ} {gates given records : List ℕ} {J : Common} → b ≡ a → Tries rule K a cap gates given records J → Tries rule K b cap gates given records J
 tries-same {rule} {K} {a} {b} {cap} {gates} {given} {records} {J} e T = subst (λ (z : ℕ). Tries rule K z cap gates given records J) (sym e) T
 
@@ -99,6 +106,7 @@ tries-same {rule} {K} {a} {b} {cap} {gates} {given} {records} {J} e T = subst (�
 abbrev pub aim : Common → (base i fuel trials : ℕ) → (xs ls w : List ℕ) → Merged
 aim J base i fuel trials xs ls w = rounds J fuel (partsIn base xs ls w i) (listed (partsIn base xs ls w) (full ls) (length ls - suc i) (suc i)) [] trials
 
+-- so many rounds are left, and what they come to is still the aim
 pub record Rounding (rule : WordRule) (K m table base i cap ranks fuel trials t left : ℕ) (gates given records xs ls pl w xs₁ ls₁ pl₁ ws₁ cs₁ w₁ : List ℕ) : Type 0 where
   pub keeps : Keeps K m table base gates given records ls pl xs₁ ls₁ pl₁ ws₁ cs₁ w₁
   pub upto : left ≤ fuel
@@ -118,10 +126,12 @@ pub record Sizes (xs ls pl ws cs w xs₁ ls₁ pl₁ ws₁ cs₁ w₁ : List ℕ
   pub counts : length cs₁ ≡ length cs
   pub work : length w₁ ≡ length w
 
+-- with nothing changed the areas' lengths stay
 pub sizes-none : {xs ls pl ws cs w : List ℕ} → Sizes xs ls pl ws cs w xs ls pl ws cs w
 sizes-none = record { indices = refl; lengths = refl; plan = refl; words = refl; counts = refl; work = refl }
 
 module _ {K m table base i cap ranks fuel trials : ℕ} {gates given records xs ls pl ws cs w : List ℕ} (A : IntoAt K m table base i cap ranks fuel trials gates given records xs ls pl ws cs w) where
+  -- before the first round nothing is merged
   pub rounding-none : {rule : WordRule} → Rounding rule K m table base i cap ranks fuel trials trials fuel gates given records xs ls pl w xs ls pl ws cs w
   rounding-none = record {
     keeps = record { stands = A .at; blank = A .blank; plan = refl; count = refl };
@@ -137,6 +147,7 @@ module _ {K m table base i cap ranks fuel trials : ℕ} {gates given records xs 
     first : i < length ls₁
     first = omega (arith, A .first, N .keeps .count)
 
+    -- the later slots may be ranked
     pub rounding-at : AllAt m table base i gates given records xs₁ ls₁ w₁
     rounding-at = record { K = K; at = N .keeps .stands; first = first }
 
@@ -148,6 +159,7 @@ module _ {K m table base i cap ranks fuel trials : ℕ} {gates given records xs 
       opens : (s : ℕ) → s < length ls₁ → opensIn base ls₁ w₂ s ≡ opensIn base ls₁ w₁ s
       opens s h = free-same (length ls₁) (owned base (length ls₁) w₁) (owned base (length ls₁) w₂) (R .low) s h
 
+      -- ranking the later slots leaves the rounds where they stood
       pub rounding-ranked : Rounding rule K m table base i cap ranks fuel trials t left gates given records xs ls pl w xs₁ ls₁ pl₁ ws₁ cs₁ w₂
       rounding-ranked = record {
         keeps = record { stands = stands-stays (N .keeps .stands) (R .stays); blank = N .keeps .blank; plan = N .keeps .plan; count = N .keeps .count };
@@ -170,6 +182,7 @@ module _ {K m table base i cap ranks fuel trials : ℕ} {gates given records xs 
             union = r .union ∙ ap (λ (x : Part). rankOf J x (partsIn base xs₁ ls₁ w₁ s) .union) p ∙ ap (λ (x : Part). rankOf J (partsIn base xs₁ ls₁ w₂ i) x .union) q;
           }
 
+      -- the next round may be tried
       pub round-at : 0 < left → RoundAt K m table base i cap ranks t gates given records xs₁ ls₁ pl₁ ws₁ cs₁ w₂
       round-at h = record {
         at = stands-stays (N .keeps .stands) (R .stays);
@@ -206,6 +219,7 @@ module _ {K m table base i cap ranks fuel trials : ℕ} {gates given records xs 
             ∙ ap (λ (x : ℕ). merged P (full ls₁) (x - suc i) i (r .trials)) (N .keeps .count)
             ∙ merged-same P Q (full ls₁) (full ls₂) (length ls - suc i) i (r .trials) (λ s l u. still-full s) (λ s l u. still-parts s (omega (arith, first, N .keeps .count)))
 
+        -- a round without a union ends the slot's rounds
         pub fails : Into rule K m table base i cap ranks fuel trials gates given records xs ls pl w (r .trials) xs₂ ls₂ pl₂ ws₂ cs₂ w₂
         fails = record {
           keeps = keeps-more (N .keeps) (O .keeps);
@@ -216,6 +230,7 @@ module _ {K m table base i cap ranks fuel trials : ℕ} {gates given records xs 
           is = comes;
         }
 
+      -- so it is where the round answers that none was taken
       pub rounding-fails : r .taken ≡ false → Into rule K m table base i cap ranks fuel trials gates given records xs ls pl w (r .trials) xs₂ ls₂ pl₂ ws₂ cs₂ w₂
       rounding-fails e = fails (O .no e)
 
@@ -232,6 +247,7 @@ module _ {K m table base i cap ranks fuel trials : ℕ} {gates given records xs 
             (sym (O .keeps .count))
             (going-wins G nrs h e (W .j) (W .fulls) (λ s l u z. W .parts s (omega (arith, first)) (λ y. omega arith) z) (v .0) (r .trials) (v .1) (v .2))
 
+        -- a round with a union is followed by the next
         pub wins : Rounding rule K m table base i cap ranks fuel trials (r .trials) (left - 1) gates given records xs ls pl w xs₂ ls₂ pl₂ ws₂ cs₂ w₂
         wins = record {
           keeps = keeps-more (N .keeps) (O .keeps);
@@ -243,9 +259,11 @@ module _ {K m table base i cap ranks fuel trials : ℕ} {gates given records xs 
           is = goes-on;
         }
 
+      -- so it is where the round answers that one was taken
       pub rounding-more : r .taken ≡ true → Rounding rule K m table base i cap ranks fuel trials (r .trials) (left - 1) gates given records xs ls pl w xs₂ ls₂ pl₂ ws₂ cs₂ w₂
       rounding-more e = wins (O .yes e)
 
+    -- with no round left the slot is done
     pub rounding-done : left ≤ 0 → Into rule K m table base i cap ranks fuel trials gates given records xs ls pl w t xs₁ ls₁ pl₁ ws₁ cs₁ w₁
     rounding-done h = record {
       keeps = N .keeps;

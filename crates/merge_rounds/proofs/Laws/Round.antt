@@ -87,6 +87,7 @@ module _ {K m table base i cap ranks trials : ℕ} {gates given records xs ls pl
   abbrev part : ℕ → Part
   part = partsIn base xs ls w
 
+  -- before the first rank nothing is tried
   pub trying-none : {rule : WordRule} → Trying rule K m table base i cap ranks trials gates given records xs ls pl ws cs w xs ls pl ws cs w trials ranks
   trying-none = record {
     indices = refl;
@@ -123,6 +124,7 @@ module _ {K m table base i cap ranks trials : ℕ} {gates given records xs ls pl
     lent-now : take (base + 8 * n - base) (drop base w₁) ≡ o₁
     lent-now = lent base n w₁ own-room
 
+    -- the best open slot may be looked for
     pub trying-best : BestAt n (i + 1) (take (base + 8 * n - base) (drop base w₁))
     trying-best = rw lent-now (record { own = record { few = A .at .few; room = own-length base n w₁ own-room }; upto = omega (arith, A .first) })
 
@@ -136,6 +138,7 @@ module _ {K m table base i cap ranks trials : ℕ} {gates given records xs ls pl
       yes = λ z. true-false z refl;
     }
 
+    -- no rank left: the round ends without a union
     pub trying-ends : left ≤ 0 → Rounded rule K m table base i cap ranks trials gates given records xs ls pl w (record { taken = false; trials = t }) xs₁ ls₁ pl₁ ws₁ cs₁ w₁
     trying-ends h = let z : left ≡ 0 = omega arith in fails (λ J bs. rw z (round-ends J (part i) part k (suc i) (ahead n o₁) (free n o₁) bs t))
 
@@ -143,6 +146,7 @@ module _ {K m table base i cap ranks trials : ℕ} {gates given records xs ls pl
       picked : best (ahead n o₁) (free n o₁) k (suc i) ≡ seen n j
       picked = let z : i + 1 ≡ suc i = omega arith in let q : Picked n (suc i) o₁ j = rw (z, lent-now) at G in q .is
 
+      -- no open slot: it does too
       pub trying-stuck : j ≡ n → Rounded rule K m table base i cap ranks trials gates given records xs ls pl w (record { taken = false; trials = t }) xs₁ ls₁ pl₁ ws₁ cs₁ w₁
       trying-stuck e = fails (λ J bs. round-none J (part i) part k (suc i) (ahead n o₁) (free n o₁) left bs t (picked ∙ seen-none n j e))
 
@@ -159,6 +163,7 @@ module _ {K m table base i cap ranks trials : ℕ} {gates given records xs ls pl
         inside : j < n
         inside = omega (arith, chosen .high, A .first)
 
+        -- the best slot's union may be tried
         pub trying-try : TryAt K m table base i j cap gates given records xs₁ ls₁ pl₁ ws₁ cs₁ w₁
         trying-try = record { at = N .keeps .stands; blank = N .keeps .blank; order = order; second = omega (arith, inside, N .keeps .count); cap-fits = A .cap-fits }
 
@@ -212,6 +217,7 @@ module _ {K m table base i cap ranks trials : ℕ} {gates given records xs ls pl
                 ∙ ap (λ (a : ℕ). some j (partOf i (part i .has ++ part j .has) a (builtOf J (part i .has ++ part j .has))) bs (t + 1)) (sym (ready j chosen .union))
                 ∙ ap (λ (p : Part). some j p bs (t + 1)) (sym u)
 
+          -- a union that is not accepted bars its slot and counts a trial
           pub trying-more : r ≡ false → length ws₂ ≡ length ws₁ → length cs₂ ≡ length cs₁ → length w₂ ≡ length w₁
               → Trying rule K m table base i cap ranks trials gates given records xs ls pl ws cs w xs₂ ls₂ pl₂ ws₂ cs₂ w₂ (t + 1) (left - 1)
           trying-more e lw lc la =
@@ -241,6 +247,7 @@ module _ {K m table base i cap ranks trials : ℕ} {gates given records xs ls pl
           P₀ : Places rule K (length pl₁) gates given records J₀
           P₀ = record { shares = record { graph = refl; given-same = refl; groups-same = refl }; rule-same = refl; height = refl; rooms-same = refl }
 
+          -- an accepted union ends the round
           pub trying-takes : r ≡ true → Rounded rule K m table base i cap ranks trials gates given records xs ls pl w (record { taken = true; trials = t + 1 }) xs₂ ls₂ pl₂ ws₂ cs₂ w₂
           trying-takes e =
               let U = R .yes e J₀ P₀ in

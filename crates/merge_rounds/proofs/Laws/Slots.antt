@@ -28,6 +28,7 @@ module _ {K m table base i cap ranks fuel trials : ℕ} {gates given records xs 
   abbrev n : ℕ
   n = length ls
 
+  -- an empty slot is passed over
   pub slot-empty : {rule : WordRule} → getD ls i 0 ≡ 0 → Stepped rule K m table base i cap ranks fuel trials gates given records xs ls pl w (record { fuel = fuel; trials = trials }) xs ls pl ws cs w
   unfolding full
   slot-empty e = record {
@@ -38,6 +39,7 @@ module _ {K m table base i cap ranks fuel trials : ℕ} {gates given records xs 
     is = λ J T r whole M. merging-empty M (A .first) (rw (eq-eqb (getD ls i 0) 0 e) refl);
   }
 
+  -- a slot that is left has fuel
   pub slot-fuel : 1 ≤ fuel
   slot-fuel = omega (arith, A .first, A .enough)
 
@@ -58,6 +60,7 @@ module _ {K m table base i cap ranks fuel trials : ℕ} {gates given records xs 
     parts : (s : ℕ) → s < n → partsIn base xs ls now s ≡ partsIn base xs ls w s
     parts s h = held-same n ls xs (owned base n w) (owned base n now) (λ x l. ap (λ (o : List ℕ). getD o x 0) back ∙ O .only .below x l ∙ ap (λ (o : List ℕ). getD o x 0) (lent base n w (A .at .room))) s h
 
+    -- the later full slots opened, the slot's rounds may run
     pub into-at : IntoAt K m table base i cap ranks fuel trials gates given records xs ls pl ws cs now
     into-at = record {
       at = stands-stays (A .at) stays;
@@ -74,6 +77,7 @@ module _ {K m table base i cap ranks fuel trials : ℕ} {gates given records xs 
       steps : (J : Common) → Tries rule K (length pl) cap gates given records J → J .ranks ≡ ranks → (whole : Result) → Merging J n whole (partsIn base xs ls w) (full ls) i fuel trials → Merging J n whole (partsIn base xs₁ ls₁ w₁) (full ls₁) (i + 1) (fuel - 1) t
       steps J T e whole M = merging-full M (A .first) is-full (I .still) (I .lower) (λ s l. I .kept s l ∙ parts s (omega (arith, A .first))) (rounds-same J (partsIn base xs ls w) (partsIn base xs ls now) (full ls) (n - suc i) i fuel [] trials (λ s a b. parts s (omega (arith, A .first))) ∙ I .is J T e)
 
+      -- with its rounds run the slot is done
       pub slot-merged : Stepped rule K m table base i cap ranks fuel trials gates given records xs ls pl w (record { fuel = fuel - 1; trials = t }) xs₁ ls₁ pl₁ ws₁ cs₁ w₁
       slot-merged = record {
         keeps = I .keeps;
@@ -89,6 +93,7 @@ module _ {K m table base i cap ranks fuel trials : ℕ} {gates given records xs 
 abbrev pub goal : Common → ℕ → (xs ls w : List ℕ) → Result
 goal J base xs ls w = merging J (length ls) (listed (partsIn base xs ls w) (full ls) (length ls) 0) 0
 
+-- the slots before i are done, and what is left is still the goal
 pub record Slotting (rule : WordRule) (K m table base cap ranks i fuel trials : ℕ) (gates given records xs ls pl w xs₁ ls₁ pl₁ ws₁ cs₁ w₁ : List ℕ) : Type 0 where
   pub keeps : Keeps K m table base gates given records ls pl xs₁ ls₁ pl₁ ws₁ cs₁ w₁
   pub upto : i ≤ length ls
@@ -98,6 +103,7 @@ pub record Slotting (rule : WordRule) (K m table base cap ranks i fuel trials : 
   pub is : (J : Common) → Tries rule K (length pl) cap gates given records J → J .ranks ≡ ranks → Merging J (length ls₁) (goal J base xs ls w) (partsIn base xs₁ ls₁ w₁) (full ls₁) i fuel trials
 
 module _ {K m table base cap ranks : ℕ} {gates given records xs ls pl ws cs w : List ℕ} (A : SlotsAt K m table base cap ranks gates given records xs ls pl ws cs w) where
+  -- before the first slot nothing is merged
   pub slotting-none : {rule : WordRule} → Slotting rule K m table base cap ranks 0 (length ls) 0 gates given records xs ls pl w xs ls pl ws cs w
   slotting-none = record {
     keeps = record { stands = A .at; blank = A .blank; plan = refl; count = refl };
@@ -109,6 +115,7 @@ module _ {K m table base cap ranks : ℕ} {gates given records xs ls pl ws cs w 
   }
 
   module _ {rule : WordRule} {i fuel trials : ℕ} {xs₁ ls₁ pl₁ ws₁ cs₁ w₁ : List ℕ} (N : Slotting rule K m table base cap ranks i fuel trials gates given records xs ls pl w xs₁ ls₁ pl₁ ws₁ cs₁ w₁) where
+    -- the next slot may have its turn
     pub slotting-at : i < length ls → SlotAt K m table base i cap ranks fuel trials gates given records xs₁ ls₁ pl₁ ws₁ cs₁ w₁
     slotting-at h = record {
       at = N .keeps .stands;
@@ -122,6 +129,7 @@ module _ {K m table base cap ranks : ℕ} {gates given records xs ls pl ws cs w 
     }
 
     module _ (h : i < length ls) {r : Course} {xs₂ ls₂ pl₂ ws₂ cs₂ w₂ : List ℕ} (S : Stepped rule K m table base i cap ranks fuel trials gates given records xs₁ ls₁ pl₁ w₁ r xs₂ ls₂ pl₂ ws₂ cs₂ w₂) where
+      -- one more slot is done
       pub slotting-more : Slotting rule K m table base cap ranks (i + 1) (r .fuel) (r .trials) gates given records xs ls pl w xs₂ ls₂ pl₂ ws₂ cs₂ w₂
       slotting-more = record {
         keeps = keeps-more (N .keeps) (S .keeps);
@@ -132,6 +140,7 @@ module _ {K m table base cap ranks : ℕ} {gates given records xs ls pl ws cs w 
         is = λ J T e. subst (λ (x : ℕ). Merging J x (goal J base xs ls w) (partsIn base xs₂ ls₂ w₂) (full ls₂) (i + 1) (r .fuel) (r .trials)) (sym (S .keeps .count)) (S .is J (tries-same (N .keeps .plan) T) e (goal J base xs ls w) (N .is J T e));
       }
 
+    -- past the last slot all are merged
     pub slotting-done : length ls ≤ i → Slotted rule K m table base cap ranks gates given records xs ls pl w trials xs₁ ls₁ pl₁ ws₁ cs₁ w₁
     slotting-done h = record {
       keeps = N .keeps;

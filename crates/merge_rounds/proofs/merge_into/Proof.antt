@@ -13,7 +13,7 @@ use Rattle.merge_trials.proofs.rank_all.Reads as rank-all-reads
 
 abbrev Inv-loop : tie.InvT-loop
 Inv-loop height rule gates given records indices₀ lengths₀ plan₀ words₀ counts₀ work₀ m table base i cap ranks fuel trials t₀ left₀ indices lengths plan words counts work t left =
-    Rounding (ruleOf rule) height m table base i cap ranks fuel trials t left gates given records indices₀ lengths₀ plan₀ work₀ indices lengths plan words counts work × Sizes indices₀ lengths₀ plan₀ words₀ counts₀ work₀ indices lengths plan words counts work
+    Rounding (ruleOf rule) (height .0) m table base i cap ranks fuel trials t left gates given records indices₀ lengths₀ plan₀ work₀ indices lengths plan words counts work × Sizes indices₀ lengths₀ plan₀ words₀ counts₀ work₀ indices lengths plan words counts work
 
 abbrev μ-loop : tie.MeasureT-loop
 μ-loop height rule gates given records indices₀ lengths₀ plan₀ words₀ counts₀ work₀ m table base i cap ranks fuel trials t₀ left₀ indices lengths plan words counts work t left =

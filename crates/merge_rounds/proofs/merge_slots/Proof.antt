@@ -13,7 +13,7 @@ use Rattle.merge_rounds.proofs.merge_slot.Reads as merge-slot-reads
 
 abbrev Inv-loop : tie.InvT-loop
 Inv-loop height rule gates given records indices₀ lengths₀ plan₀ words₀ counts₀ work₀ m table base cap ranks n trials₀ fuel₀ i₀ indices lengths plan words counts work trials fuel i =
-    Slotting (ruleOf rule) height m table base cap ranks i fuel trials gates given records indices₀ lengths₀ plan₀ work₀ indices lengths plan words counts work × Sizes indices₀ lengths₀ plan₀ words₀ counts₀ work₀ indices lengths plan words counts work
+    Slotting (ruleOf rule) (height .0) m table base cap ranks i fuel trials gates given records indices₀ lengths₀ plan₀ work₀ indices lengths plan words counts work × Sizes indices₀ lengths₀ plan₀ words₀ counts₀ work₀ indices lengths plan words counts work
 
 abbrev μ-loop : tie.MeasureT-loop
 μ-loop height rule gates given records indices₀ lengths₀ plan₀ words₀ counts₀ work₀ m table base cap ranks n trials₀ fuel₀ i₀ indices lengths plan words counts work trials fuel i =

@@ -11,7 +11,7 @@ use Rattle.merge_trials.proofs.try_union.Reads as try-union-reads
 
 abbrev Inv-loop : tie.InvT-loop
 Inv-loop height rule gates given records indices₀ lengths₀ plan₀ words₀ counts₀ work₀ m table base i cap ranks trials n end t₀ left₀ indices lengths plan words counts work t left =
-    Trying (ruleOf rule) height m table base i cap ranks trials gates given records indices₀ lengths₀ plan₀ words₀ counts₀ work₀ indices lengths plan words counts work t left
+    Trying (ruleOf rule) (height .0) m table base i cap ranks trials gates given records indices₀ lengths₀ plan₀ words₀ counts₀ work₀ indices lengths plan words counts work t left
 
 abbrev μ-loop : tie.MeasureT-loop
 μ-loop height rule gates given records indices₀ lengths₀ plan₀ words₀ counts₀ work₀ m table base i cap ranks trials n end t₀ left₀ indices lengths plan words counts work t left =

@@ -25,6 +25,7 @@ same-order : (o : ℕ → ℕ) (u : ℕ → ℕ) (a b : Rank) (s t : ℕ) → o 
 unfolding before
 same-order o u a b s t ag au an bg bu bn = rw (← ag, ← au, ← an, ← bg, ← bu, ← bn) refl
 
+-- slots rank by their keys as the rules rank their partitions
 pub keys-agree : (J : Common) (p : Part) (P : ℕ → Part) → ((s : ℕ) → P s .nr ≡ s) → (n : ℕ) (o : List ℕ) (s t : ℕ) → Ready J p P n o s → Ready J p P n o t → ahead n o t s ≡ before (rankOf J p (P t)) (rankOf J p (P s))
 unfolding ahead rankOf
 keys-agree J p P numbered n o s t x y = same-order (λ z. own 4 n o z) (λ z. own 5 n o z) (rankOf J p (P s)) (rankOf J p (P t)) s t (x .grows) (x .union) (sym (numbered s)) (y .grows) (y .union) (sym (numbered t))
@@ -41,12 +42,15 @@ module _ {i j : ℕ} {xs ls xs′ ls′ : List ℕ} (order : i < j) (inside : j 
   many : length hs ≡ length ls
   many = length-split ls xs
 
+  -- slot i has its own groups and then those of slot j
   pub taken-has : getD (splitBy ls′ xs′) i [] ≡ both
   taken-has = rw (T .groups) (getD-set-other (set hs i both) j i [] [] (λ z. omega arith) ∙ getD-set-same hs i both [] (omega (arith, many)))
 
+  -- other slots have the groups that they had
   pub other-has : (s : ℕ) → s ≢ i → s ≢ j → getD (splitBy ls′ xs′) s [] ≡ getD hs s []
   other-has s a b = rw (T .groups) (getD-set-other (set hs i both) j s [] [] b ∙ getD-set-other hs i s both [] a)
 
+  -- slot j is empty now, the others are as full as before
   pub taken-full : full ls i ≡ true → (s : ℕ) → full ls′ s ≡ but j (full ls) s
   unfolding full
   taken-full f s = rw (T .lengths) (split (eqb s j)
@@ -63,10 +67,12 @@ module _ {i j : ℕ} {xs ls xs′ ls′ : List ℕ} (order : i < j) (inside : j 
 
   -- own numbers n to a column: the union's size, stages and words stand for slot i, the other slots' stay
   module _ (n : ℕ) (o o′ : List ℕ) (a : Answer) (size : own 0 n o′ i ≡ own 5 n o j) (stages : own 1 n o′ i ≡ reply a .stages) (words : own 2 n o′ i ≡ reply a .words) where
+    -- slot i's partition is the union
     pub taken-part : held n ls′ xs′ o′ i ≡ partOf i both (own 5 n o j) a
     unfolding held partOf
     taken-part = rw (taken-has, size, stages, words) refl
 
+  -- other slots' partitions stay
   pub other-part : (n : ℕ) (o o′ : List ℕ) (s : ℕ) → s ≢ i → s ≢ j → ((f : ℕ) → f < 3 → own f n o′ s ≡ own f n o s) → held n ls′ xs′ o′ s ≡ held n ls xs o s
   unfolding held
   other-part n o o′ s a b e = rw (other-has s a b, e 0 (omega arith), e 1 (omega arith), e 2 (omega arith)) refl

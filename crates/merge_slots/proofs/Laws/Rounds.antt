@@ -25,38 +25,46 @@ and-move : (a b c : Bool) → (a && b) && c ≡ a && (b && c)
 and-move true b c = refl
 and-move false b c = refl
 
+-- one slot more is barred
 pub bars-more : {full opens : ℕ → Bool} {k i : ℕ} {barred : List ℕ} → Bars full opens k i barred → (b : ℕ) → Bars full (but b opens) k i (b ∷ barred)
 unfolding but
 bars-more {full} {opens} {barred = barred} B b = record { is = λ s l u. rw (B .is s l u, bar-more s b barred) (and-move (full s) (not (mem s barred)) (not (eqb s b))) }
 
+-- slots that are as open as before are barred as before
 pub bars-same : {full opens opens′ : ℕ → Bool} {k i : ℕ} {barred : List ℕ} → Bars full opens k i barred → ((s : ℕ) → i ≤ s → s < i + k → opens′ s ≡ opens s) → Bars full opens′ k i barred
 bars-same B e = record { is = λ s l u. e s l u ∙ B .is s l u }
 
+-- where every full slot is open none is barred
 pub bars-none : {full opens : ℕ → Bool} {k i : ℕ} → ((s : ℕ) → i ≤ s → s < i + k → opens s ≡ full s) → Bars full opens k i []
 unfolding mem
 bars-none {full} e = record { is = λ s l u. e s l u ∙ sym (and-right (full s)) }
 
 module _ (J : Common) (p : Part) (P : ℕ → Part) (k i : ℕ) where
   module _ (numbered : (s : ℕ) → P s .nr ≡ s) {full opens : ℕ → Bool} {barred : List ℕ} (B : Bars full opens k i barred) where
+    -- a round's attempts are those over the open slots
     pub round-begins : (r t : ℕ) → attempt J p (take r (ranking J p barred (listed P full k i))) barred t ≡ goes J p P k i opens r barred t
     unfolding goes
     round-begins r t = rw (ranking-slots P numbered J p barred full k i) (ap (λ (l : List Rank). attempt J p (take r l) barred t) (gathered-same addRank (λ s. rankOf J p (P s)) (λ s. rankOf J p (P s)) (λ s. full s && not (mem s barred)) opens k i (λ s l u. sym (B .is s l u)) (λ s l u e. refl)))
 
   module _ (less : ℕ → ℕ → Bool) (opens : ℕ → Bool) where
+    -- no open slot: the round ends without a union
     pub round-none : (r : ℕ) (barred : List ℕ) (t : ℕ) → best less opens k i ≡ nothing → goes J p P k i opens r barred t ≡ none barred t
     unfolding goes
     round-none r barred t e = attempt-none J p P less opens k i r barred t e
 
+    -- with no rank left the round ends without a union
     pub round-ends : (barred : List ℕ) (t : ℕ) → goes J p P k i opens 0 barred t ≡ none barred t
     unfolding goes attempt
     round-ends barred t = refl
 
     module _ (agrees : (s t : ℕ) → s < t → Among opens k i s → Among opens k i t → less t s ≡ before (rankOf J p (P t)) (rankOf J p (P s))) (b : ℕ) (e : best less opens k i ≡ found b) (r : ℕ) (barred : List ℕ) (t : ℕ) where
+      -- the best slot's union, if accepted, is what the round takes
       pub round-takes : accepted (J .cap) (builtOf J (p .has ++ P b .has)) ≡ true
           → goes J p P k i opens (suc r) barred t ≡ some (P b .nr) (partOf (p .nr) (p .has ++ P b .has) (rankOf J p (P b) .union) (builtOf J (p .has ++ P b .has))) barred (suc t)
       unfolding goes
       round-takes a = attempt-some J p P less opens k i agrees b e r barred t a
 
+      -- a union that is not accepted bars its slot, with one rank less left
       pub round-bars : P b .nr ≡ b → accepted (J .cap) (builtOf J (p .has ++ P b .has)) ≡ false → (opens′ : ℕ → Bool) → ((s : ℕ) → i ≤ s → s < i + k → opens′ s ≡ but b opens s)
           → goes J p P k i opens (suc r) barred t ≡ goes J p P k i opens′ r (b ∷ barred) (suc t)
       unfolding goes
@@ -68,14 +76,17 @@ module _ (J : Common) (p : Part) (P : ℕ → Part) (k i : ℕ) where
 -- ---- round after round
 
 module _ (J : Common) (f : ℕ) (p : Part) (later : List Part) (barred : List ℕ) (t : ℕ) where
+  -- a round without a union is the last
   pub rounds-none : (barred′ : List ℕ) (t′ : ℕ) → attempt J p (take (J .ranks) (ranking J p barred later)) barred t ≡ none barred′ t′ → rounds J (suc f) p later barred t ≡ record { part = p; later = later; trials = t′ }
   unfolding rounds
   rounds-none barred′ t′ e = rw (e, rounds) refl
 
+  -- a round with a union is followed by another
   pub rounds-some : (j : ℕ) (u : Part) (barred′ : List ℕ) (t′ : ℕ) → attempt J p (take (J .ranks) (ranking J p barred later)) barred t ≡ some j u barred′ t′ → rounds J (suc f) p later barred t ≡ rounds J f u (without j later) barred′ t′
   unfolding rounds
   rounds-some j u barred′ t′ e = rw (e, rounds) refl
 
+  -- without fuel nothing more is merged
   pub rounds-end : rounds J zero p later barred t ≡ record { part = p; later = later; trials = t }
   unfolding rounds
   rounds-end = refl
@@ -95,6 +106,7 @@ listed-no : (P : ℕ → Part) (f : ℕ → Bool) (k i : ℕ) → f i ≡ false 
 unfolding listed
 listed-no P f k i e = gathered-out (λ p ps. p ∷ ps) P f k i e
 
+-- slots that agree stand for the same partitions
 pub listed-same : (P Q : ℕ → Part) (f g : ℕ → Bool) (k i : ℕ) → ((s : ℕ) → i ≤ s → s < i + k → f s ≡ g s) → ((s : ℕ) → i ≤ s → s < i + k → g s ≡ true → P s ≡ Q s) → listed P f k i ≡ listed Q g k i
 unfolding listed
 listed-same P Q f g k i = gathered-same (λ p ps. p ∷ ps) P Q f g k i
@@ -136,6 +148,7 @@ after-after : (ps qs : List Part) (r : Result) → after ps (after qs r) ≡ aft
 unfolding after
 after-after ps qs r = rw (onto-append ps qs (r .parts)) refl
 
+-- before the first slot nothing is merged
 pub merging-none : {J : Common} {n : ℕ} {P : ℕ → Part} {f : ℕ → Bool} → Merging J n (merging J n (listed P f n 0) 0) P f 0 n 0
 unfolding listed gathered after onto
 merging-none {n = n} = record { upto = omega arith; enough = omega arith; same = let z : n - 0 ≡ n = omega arith in rw z refl }
@@ -144,6 +157,7 @@ module _ {J : Common} {n : ℕ} {whole : Result} {P : ℕ → Part} {f : ℕ →
   abbrev k : ℕ
   k = n - suc i
 
+  -- an empty slot is passed over
   pub merging-empty : i < n → f i ≡ false → Merging J n whole P f (i + 1) left t
   merging-empty h e =
       let z : n - i ≡ suc k = omega arith in
@@ -159,6 +173,7 @@ module _ {J : Common} {n : ℕ} {whole : Result} {P : ℕ → Part} {f : ℕ →
 
   module _ (h : i < n) (e : f i ≡ true) {Q : ℕ → Part} {g : ℕ → Bool} {t′ : ℕ} (d : g i ≡ true) (lower : (s : ℕ) → s < i → g s ≡ f s) (kept : (s : ℕ) → s < i → Q s ≡ P s)
       (r : rounds J left (P i) (listed P f k (suc i)) [] t ≡ record { part = Q i; later = listed Q g k (suc i); trials = t′ }) where
+    -- a full one is merged with what its rounds take
     pub merging-full : Merging J n whole Q g (i + 1) (left - 1) t′
     merging-full =
         let z : n - i ≡ suc k = omega arith in
@@ -177,6 +192,7 @@ module _ {J : Common} {n : ℕ} {whole : Result} {P : ℕ → Part} {f : ℕ →
           same = rw (y, x, w) (N .same ∙ ap (after (listed P f i 0)) m ∙ after-after (listed P f i 0) (Q i ∷ []) (merging J (left - 1) (listed Q g k (suc i)) t′));
         }
 
+  -- past the last slot the partitions are the merge's, sorted
   pub merging-done : n ≤ i → whole ≡ record { parts = gathered addPart P f n 0; trials = t }
   unfolding after
   merging-done h =

@@ -1,33 +1,38 @@
 -- The groups of the slots one after the other, and slot i with those of slot j. Assumes nothing.
-use Prim.Native.Nat.{ℕ, zero, suc, _+_, _-_, _<_, _≤_}
+use Prim.Native.Nat.{ℕ, suc, _+_, _-_, _<_, _≤_}
 use mathlib.Core.Bool.{Bool, true, _&&_}
 use mathlib.Core.List.{List, [], _∷_, _++_, map, append-nil, append-assoc}
 use mathlib.Core.Path.{_≡_, refl, sym, ap, _∙_}
 use native.Mathlib.Omega.{arith}
 use lib.ListN.{length, getD, set, take, drop, length-append, length-drop, length-set, drop-of-length-le, List·getD-map}
 use lib.Seq.{take-append-seam, drop-append-seam, length-take-le, take-take, take-set-lt, drop-set-lt, split-at, set-split, getD-take, take-at, drop-at, take-append-le, drop-append-le}
+use Rattle.rules.proofs.Lists.Parts.{map-set, map-take}
 use Rattle.rules.specs.Lists.{sum, every}
 use Rattle.rules.specs.Merge.{splitBy, joined}
 use Rattle.rules.proofs.Lists.Members.{split, and-true}
-use Rattle.rules.proofs.Merge.{joined-split}
+use Rattle.rules.proofs.Merge.Merge.{joined-split}
 use Rattle.merge_slots.specs.Moves.{TurnAt, TakeAt, Taken}
 use Rattle.merge_slots.proofs.Laws.Sums.{sum-part, sum-next}
 
+-- two lists of groups joined, one behind the other
 pub joined-append : (gs hs : List (List ℕ)) → joined (gs ++ hs) ≡ joined gs ++ joined hs
 unfolding joined
 joined-append [] hs = refl
 joined-append (g ∷ gs) hs = ap (λ (l : List ℕ). g ++ l) (joined-append gs hs) ∙ sym (append-assoc g (joined gs) (joined hs))
 
+-- joined they are as long as together
 pub length-joined : (hs : List (List ℕ)) → length (joined hs) ≡ sum (map length hs)
 unfolding joined sum
 length-joined [] = refl
 length-joined (h ∷ hs) = length-append h (joined hs) ∙ ap (λ (n : ℕ). length h + n) (length-joined hs)
 
+-- split by their lengths they are as before
 pub split-joined : (hs : List (List ℕ)) → splitBy (map length hs) (joined hs) ≡ hs
 unfolding splitBy joined
 split-joined [] = refl
 split-joined (h ∷ hs) = rw (take-append-seam h (joined hs), drop-append-seam h (joined hs), split-joined hs) refl
 
+-- the parts have the lengths by which they were split
 pub lengths-split : (ls xs : List ℕ) → sum ls ≡ length xs → map length (splitBy ls xs) ≡ ls
 unfolding splitBy sum
 lengths-split [] xs e = refl
@@ -35,28 +40,20 @@ lengths-split (l ∷ ls) xs e =
     let h : length (take l xs) ≡ l = length-take-le l xs (omega arith) in
     rw (h, lengths-split ls (drop l xs) (rw length-drop (omega arith))) refl
 
+-- there are as many parts as lengths
 pub length-split : (ls xs : List ℕ) → length (splitBy ls xs) ≡ length ls
 unfolding splitBy
 length-split [] xs = refl
 length-split (l ∷ ls) xs = ap suc (length-split ls (drop l xs))
 
-module _ {A B : Type 0} (f : A → B) where
-  pub map-set : (hs : List A) (i : ℕ) (h : A) → map f (set hs i h) ≡ set (map f hs) i (f h)
-  map-set [] i h = refl
-  map-set (g ∷ hs) zero h = refl
-  map-set (g ∷ hs) (suc i) h = ap (λ (l : List B). f g ∷ l) (map-set hs i h)
-
-  pub map-take : (i : ℕ) (hs : List A) → map f (take i hs) ≡ take i (map f hs)
-  map-take zero hs = refl
-  map-take (suc i) [] = refl
-  map-take (suc i) (h ∷ hs) = ap (λ (l : List B). f h ∷ l) (map-take i hs)
-
 -- the groups before slot i, its own, those behind
 module _ (hs : List (List ℕ)) (i : ℕ) (inside : i < length hs) where
+  -- the groups before a slot, its own, and those behind
   pub joined-at : joined hs ≡ joined (take i hs) ++ (getD hs i [] ++ joined (drop (suc i) hs))
   unfolding joined
   joined-at = ap joined (split-at hs i [] inside) ∙ joined-append (take i hs) (getD hs i [] ∷ drop (suc i) hs)
 
+  -- other groups in a slot change only the slot's part
   pub joined-set : (h : List ℕ) → joined (set hs i h) ≡ joined (take i hs) ++ (h ++ joined (drop (suc i) hs))
   unfolding joined
   joined-set h = ap joined (set-split hs i h inside) ∙ joined-append (take i hs) (h ∷ drop (suc i) hs)
@@ -84,6 +81,7 @@ module _ {s spare y₁ y₂ y₃ : List ℕ} {k : ℕ} (A : TurnAt s spare k) (e
   sooner : y₃ ≡ take k s
   sooner = let z : k - 0 ≡ k = omega arith in e₃ ∙ rw (z, e₁) (take-append-le k s (drop (length s - 0) spare) (A .inside))
 
+  -- copied over and back, the part's two halves have changed places
   pub turned : take (length s - k) (y₂ ++ drop (length s - k - 0) s) ++ (y₃ ++ drop (length s - (length s - k)) (drop (length s - k) (y₂ ++ drop (length s - k - 0) s))) ≡ drop k s ++ take k s
   turned =
       let n : length (drop k s) ≡ length s - k = length-drop k s in
@@ -170,18 +168,22 @@ module _ {xs ls spare : List ℕ} {i j : ℕ} (A : TakeAt xs ls spare i j) where
         let b : joined (take j hs) ≡ X ++ M = joined-at (take j hs) i (omega (arith, front, A .order)) ∙ rw (take-take i j hs (omega (arith, A .order)), getD-take j hs i [] (A .order)) (sym (append-assoc (joined (take i hs)) I M)) in
         sym (length-append X M) ∙ ap length (sym b) ∙ start-is j ∙ sym ec
 
+    -- slot i's end is before slot j's start, and that before its end, all in the list
     pub ordered : (a ≤ c) × (c ≤ d) × (d ≤ length xs)
     ordered = (omega (arith, first, middle), omega arith, omega (arith, sum-next ls j (A .inside), sum-part ls (j + 1), A .all))
 
+    -- the two lengths together fit a number
     pub pair-fits : getD ls i 0 + getD ls j 0 < 4294967296
     pair-fits = let o = ordered in omega (arith, A .few, el, ek)
 
+    -- the part between them may be turned
     pub turn-at : TurnAt (take (d - a) (drop a xs)) spare (c - a)
     turn-at =
         let o = ordered in
         let n : length (take (d - a) (drop a xs)) ≡ d - a = length-take-le (d - a) (drop a xs) (rw length-drop (omega arith)) in
         record { inside = omega arith; room = omega (arith, A .room) }
 
+    -- turned, slot i has slot j's groups behind its own
     pub taken : {ys : List ℕ} → ys ≡ drop (c - a) (take (d - a) (drop a xs)) ++ take (c - a) (take (d - a) (drop a xs))
         → Taken i j xs ls (take a xs ++ (ys ++ drop (d - a) (drop a xs))) (set (set ls i (getD ls i 0 + getD ls j 0)) j 0)
     taken {ys} ey =

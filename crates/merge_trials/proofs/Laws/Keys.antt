@@ -28,9 +28,11 @@ module _ {m table base i s : ℕ} {gates given records xs ls w : List ℕ} (A : 
   abbrev o : List ℕ
   o = owned base n w
 
+  -- with nothing changed the table stays
   pub rank-stays : Stays m table base w w
   rank-stays = record { len = refl; idle = A .at .idle; kept = λ j h l. refl }
 
+  -- a barred slot gets no keys
   pub rank-barred : getD w (base + (3 * n + s)) 0 ≢ 0 → SlotRanked m table base i s gates given records xs ls w w
   unfolding free own
   rank-barred h = record {
@@ -46,9 +48,11 @@ module _ {m table base i s : ℕ} {gates given records xs ls w : List ℕ} (A : 
     lent-now : take (base + 8 * n - base) (drop base w₁) ≡ o
     lent-now = lent base n w₁ (stands .room) ∙ leaves-owned (A .at) (M .leaves)
 
+    -- the own numbers lie in the area after the measure
     pub rank-room : base + 8 * n ≤ length w₁
     rank-room = stands .room
 
+    -- an open slot's keys may be stored
     pub key-at : KeyAt n i s u (take (base + 8 * n - base) (drop base w₁))
     key-at = rw lent-now (record { area = record { few = A .at .few; room = own-length base n w (A .at .room) }; first = omega (arith, A .order, A .second); second = A .second; fits = omega (arith, M .few, A .at .idle .area .small) })
 
@@ -56,6 +60,7 @@ module _ {m table base i s : ℕ} {gates given records xs ls w : List ℕ} (A : 
       R : Ranked n i s u o ys
       R = rw lent-now at R₀
 
+      -- the keys stored for a slot stand for its rank
       pub slot-ranked : SlotRanked m table base i s gates given records xs ls w (take base w₁ ++ (ys ++ drop (base + 8 * n - base) (drop base w₁)))
       unfolding rankOf held
       slot-ranked =
@@ -87,10 +92,8 @@ module _ {m table base i : ℕ} {gates given records xs ls w : List ℕ} (A : Al
   abbrev c : ℕ
   c = length ls
 
-  pub keying-none : Keying m table base i (i + 1) gates given records xs ls w w
-  keying-none = record { from = omega arith; upto = omega (arith, A .first); stays = record { len = refl; idle = A .at .idle; kept = λ j h l. refl }; low = λ x h. refl; high = λ x h. refl; ready = λ J S t a b. absurd (omega arith) }
-
   module _ {s : ℕ} {w₁ : List ℕ} (N : Keying m table base i s gates given records xs ls w w₁) where
+    -- the next slot may be ranked
     pub keying-at : s < length ls → RankAt m table base i s gates given records xs ls w₁
     keying-at h = record { K = A .K; at = stands-stays (A .at) (N .stays); order = N .from; second = h }
 
@@ -115,6 +118,7 @@ module _ {m table base i : ℕ} {gates given records xs ls w : List ℕ} (A : Al
           let b = held-same c ls xs o₀ o₁ (λ x l. N .low x (omega arith)) s h in
           record { grows = r .grows ∙ ap (λ (p : Part). rankOf J p (held c ls xs o₁ s) .grows) a ∙ ap (λ (q : Part). rankOf J (held c ls xs o₀ i) q .grows) b; union = r .union ∙ ap (λ (p : Part). rankOf J p (held c ls xs o₁ s) .union) a ∙ ap (λ (q : Part). rankOf J (held c ls xs o₀ i) q .union) b }
 
+      -- one more slot is ranked
       pub keying-more : Keying m table base i (s + 1) gates given records xs ls w w₂
       unfolding own
       keying-more = record {
@@ -129,5 +133,6 @@ module _ {m table base i : ℕ} {gates given records xs ls w : List ℕ} (A : Al
         ];
       }
 
+    -- past the last all open ones are
     pub keying-done : length ls ≤ s → AllRanked m table base i gates given records xs ls w w₁
     keying-done h = record { stays = N .stays; low = N .low; high = N .high; ready = λ J S t a b. N .ready J S t a (omega arith) }

@@ -47,6 +47,7 @@ sum-below ls a b h = rw (take-take a b ls h) at (sum-part (take b ls) a)
 -- ---- what is kept
 
 module _ {K m table base : ℕ} {gates given records xs ls w : List ℕ} (S : Stands K m table base gates given records xs ls w) where
+  -- what every step finds it finds again after a change that keeps the table
   pub stands-stays : {w′ : List ℕ} → Stays m table base w w′ → Stands K m table base gates given records xs ls w′
   stands-stays T = record {
     sized = S .sized;
@@ -63,12 +64,15 @@ module _ {K m table base : ℕ} {gates given records xs ls w : List ℕ} (S : St
     room = omega (arith, T .len, S .room);
   }
 
+  -- what a union's call leaves is such a change: it keeps the table
   pub stays-leaves : {w′ : List ℕ} → Leaves m table w w′ → Stays m table base w w′
   stays-leaves L = record { len = L .len; idle = L .idle; kept = λ j h l. L .past j h }
 
+  -- a union's call leaves the own numbers
   pub leaves-owned : {w′ : List ℕ} → Leaves m table w w′ → owned base (length ls) w′ ≡ owned base (length ls) w
   leaves-owned {w′} L = owned-same base (length ls) w w′ (S .room) (L .len) (λ j h. L .past j (omega (arith, S .behind)))
 
+  -- a slot's start may be added up
   pub start-at : (s : ℕ) → s ≤ length ls → StartAt ls s
   start-at s h = record { inside = h; few = omega (arith, S .all, S .short) }
 
@@ -77,6 +81,7 @@ module _ (m table base a e : ℕ) (w : List ℕ) (I : Idle m w) (order : a ≤ e
   abbrev now : List ℕ
   now = take a w ++ (ys ++ drop (e - a) (drop a w))
 
+  -- a change of free numbers, or of own ones, keeps the table
   pub part-stays : (e ≤ table) ⊎ (base ≤ a) → Stays m table base w now
   part-stays o =
       let n : length now ≡ length w = part-length a e w order inside ys l in
@@ -86,6 +91,7 @@ module _ (m table base a e : ℕ) (w : List ℕ) (I : Idle m w) (order : a ≤ e
         kept = λ j h b. elim o [ inl z ↦ part-above a e w order inside ys l j (omega arith) | inr z ↦ part-below a e w order inside ys l j (omega arith) ];
       }
 
+-- two such changes are one
 pub stays-more : {m table base : ℕ} {w w₁ w₂ : List ℕ} → Stays m table base w w₁ → Stays m table base w₁ w₂ → Stays m table base w w₂
 stays-more A B = record { len = B .len ∙ A .len; idle = B .idle; kept = λ j h l. B .kept j h l ∙ A .kept j h l }
 
@@ -93,6 +99,7 @@ stays-more A B = record { len = B .len ∙ A .len; idle = B .idle; kept = λ j h
 
 module _ {K m table base i s : ℕ} {gates given records xs ls w : List ℕ} (S : Stands K m table base gates given records xs ls w) (order : i < s) (second : s < length ls)
     {a b c d : ℕ} (ea : a ≡ sum (take i ls)) (eb : b ≡ sum (take (i + 1) ls)) (ec : c ≡ sum (take s ls)) (ed : d ≡ sum (take (s + 1) ls)) where
+  -- both slots' parts lie in the indices
   pub pair-order : (a ≤ b) × (b ≤ length xs) × (c ≤ d) × (d ≤ length xs)
   pair-order = (
     omega (arith, sum-below ls i (i + 1) (omega arith)),
@@ -101,12 +108,15 @@ module _ {K m table base i s : ℕ} {gates given records xs ls w : List ℕ} (S 
     omega (arith, sum-part ls (s + 1), S .all),
   )
 
+  -- the first part is slot i's groups
   pub first-is : take (b - a) (drop a xs) ≡ groupsAt ls xs i
   first-is = rw (ea, eb) (slot-part ls xs i (S .all) (omega arith))
 
+  -- the second part is slot s's groups
   pub second-is : take (d - c) (drop c xs) ≡ groupsAt ls xs s
   second-is = rw (ec, ed) (slot-part ls xs s (S .all) second)
 
+  -- the union of the two slots may be built and measured
   pub union-at : UnionAt K m table gates given records (take (b - a) (drop a xs)) (take (d - c) (drop c xs)) w
   union-at =
       let o = pair-order in
@@ -125,8 +135,10 @@ module _ {K m table base i s : ℕ} {gates given records xs ls w : List ℕ} (S 
         few = omega (arith, S .short);
       }
 
+  -- what is measured is the two slots' union
   pub pair-measured : {r : ℕ} {w′ : List ℕ} → Measured m table gates given records (take (b - a) (drop a xs)) (take (d - c) (drop c xs)) w r w′ → Measured m table gates given records (groupsAt ls xs i) (groupsAt ls xs s) w r w′
   pair-measured M = rw (first-is, second-is) at M
 
+  -- what is built is the two slots' union
   pub pair-built : {rule : WordRule} {pl ws cs : List ℕ} {r : Answer} {pl′ ws′ cs′ w′ : List ℕ} → Built rule K m table gates given records (take (b - a) (drop a xs)) (take (d - c) (drop c xs)) pl ws cs w r pl′ ws′ cs′ w′ → Built rule K m table gates given records (groupsAt ls xs i) (groupsAt ls xs s) pl ws cs w r pl′ ws′ cs′ w′
   pair-built B = rw (first-is, second-is) at B

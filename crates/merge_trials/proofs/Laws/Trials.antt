@@ -40,6 +40,7 @@ module _ {m table base i j stages words : ℕ} {xs ls w : List ℕ} (A : JoinAt 
   abbrev front : ℕ
   front = 16 * m + 512
 
+  -- slot i may take slot j's groups
   pub join-take : TakeAt xs ls (take (table - front) (drop front w)) i j
   join-take =
       let l : length (take (table - front) (drop front w)) ≡ table - front = length-take-le (table - front) (drop front w) (rw length-drop (omega (arith, A .behind, A .room))) in
@@ -52,6 +53,7 @@ module _ {m table base i j stages words : ℕ} {xs ls w : List ℕ} (A : JoinAt 
     stays : Stays m table base w w₁
     stays = part-stays m table base front table w (A .idle) (omega (arith, A .spare)) (omega (arith, A .behind, A .room)) (omega arith) zs lz (inl (omega arith))
 
+    -- the own numbers lie in the area
     pub join-room : base + 8 * n ≤ length w₁
     join-room = omega (arith, stays .len, A .room)
 
@@ -61,6 +63,7 @@ module _ {m table base i j stages words : ℕ} {xs ls w : List ℕ} (A : JoinAt 
     lent-now : take (base + 8 * n - base) (drop base w₁) ≡ owned base n w
     lent-now = lent base n w₁ join-room ∙ same
 
+    -- with groups taken and numbers stored slot i is the union
     pub joins : {xs′ ls′ ys : List ℕ} → Taken i j xs ls xs′ ls′ → Joined n i j stages words (take (base + 8 * n - base) (drop base w₁)) ys → Joins m table base i j stages words xs ls w xs′ ls′ (take base w₁ ++ (ys ++ drop (base + 8 * n - base) (drop base w₁)))
     joins {xs′} {ls′} {ys} T U = record {
       taken = T;
@@ -71,6 +74,7 @@ module _ {m table base i j stages words : ℕ} {xs ls w : List ℕ} (A : JoinAt 
 -- ---- the trial
 
 module _ {K m table base i j cap : ℕ} {gates given records xs ls pl ws cs w : List ℕ} (A : TryAt K m table base i j cap gates given records xs ls pl ws cs w) where
+  -- the union of the two slots may be built
   pub try-build : BuildAt K m table i j gates given records xs ls pl ws cs w
   try-build = record { base = base; at = A .at; blank = A .blank; order = A .order; second = A .second }
 
@@ -127,6 +131,7 @@ module _ {K m table base i j cap : ℕ} {gates given records xs ls pl ws cs w : 
           et ∙ rw (x, y, c) (accepts-is (builtOf J both) (refused-some (J .rule) (J .K) (J .g) (J .given) (named J both) (J .rooms)) cap)
 
       module _ (yes : t ≡ true) where
+        -- an accepted union may be joined
         pub try-join : JoinAt m table base i j (a .stages) (a .words) xs ls w₁
         try-join =
             let h = leb-true (a .stages) cap (and-true (eqb (a .number) 0) (leb (a .stages) cap) (sym et ∙ yes) .1) in
@@ -144,6 +149,7 @@ module _ {K m table base i j cap : ℕ} {gates given records xs ls pl ws cs w : 
               words-fit = omega (arith, words-fit);
             }
 
+        -- with the slots joined the trial is won
         pub tried-yes : {xs′ ls′ w₂ : List ℕ} → Joins m table base i j (a .stages) (a .words) xs ls w₁ xs′ ls′ w₂ → Tried rule K m table base i j cap gates given records xs ls pl w true xs′ ls′ pl₁ ws₁ cs₁ w₂
         unfolding told
         tried-yes {xs′} {ls′} {w₂} U =
@@ -177,9 +183,11 @@ module _ {K m table base i j cap : ℕ} {gates given records xs ls pl ws cs w : 
                   record { taken = T; joined = rw (← x, ← y, ← own-same) (U .joined) };
             }
 
+      -- slot j's bar lies in the area
       pub try-place : base + (3 * length ls + j) < length w₁
       try-place = omega (arith, now .room, A .second)
 
+      -- a union that is not accepted bars slot j
       pub tried-no : t ≡ false → Tried rule K m table base i j cap gates given records xs ls pl w false xs ls pl₁ ws₁ cs₁ (set w₁ (base + (3 * length ls + j)) 1)
       tried-no failed =
           let at : ℕ = base + (3 * length ls + j) in

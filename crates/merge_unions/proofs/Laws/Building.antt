@@ -5,13 +5,12 @@ use Prim.Native.Nat.{ℕ, _+_, _-_, _*_, _^_, _<_, _≤_}
 use native.Mathlib.Omega.{arith}
 use lib.ListN.{length, getD, take, drop, replicate, length-replicate, getD-replicate, List·getD-append}
 use lib.Seq.{length-take-le, length-front, getD-take, getD-drop, getD-append-add}
-use Rattle.rules.specs.Cells.{empty, isHeight, levelOneSize, rooms}
+use Rattle.rules.specs.Cells.{empty, rooms, rowAt}
 use Rattle.rules.specs.Graph.{graphOf}
 use Rattle.rules.specs.Records.{Group, groupsOf}
 use Rattle.rules.specs.Traversal.{WordRule}
 use Rattle.rules.specs.Build as rules
 use Rattle.rules.specs.Merge.{Common, builtOf}
-use Rattle.cells.specs.Answers.{orZero}
 use Rattle.columns.specs.Fields.{RECORDS}
 use Rattle.placer_start.specs.declared.Opening.{Opening}
 use Rattle.placer_start.specs.declared.Opening.the-variants.{Over, Ready}
@@ -30,6 +29,7 @@ use Rattle.merge_unions.proofs.Laws.Parts.{first-part}
 
 -- ---- a front, lent and given back
 
+-- a front that comes back leaves what is behind it
 pub front-past : (n : ℕ) (xs ys : List ℕ) → length ys ≡ length (take n xs) → n ≤ length xs → (j : ℕ) → n ≤ j → getD (ys ++ drop n xs) j 0 ≡ getD xs j 0
 front-past n xs ys e h j b =
     let l : length ys ≡ n = e ∙ length-take-le n xs h in
@@ -49,30 +49,38 @@ module _ {K m table : ℕ} {gates given records first second pl ws cs w : List �
   gs = picked (groupsOf records) (first ++ second)
 
   module _ {limit : ℕ} (lim : limit ≡ length ws) {r : Opening} {w₁ : List ℕ} (B : Begins m limit table given gs w r w₁) (asked : Asked) where
-    pub try-over : r ≡ Over → Tried (ruleOf asked) K m table gates given records first second pl ws cs w (record { number = 6; stages = 0; words = 0; stage = 0; pin = 0 }) pl ws cs w₁
+    -- a reservation that is over answers 6
+    pub try-over : r ≡ Over → Tried (ruleOf asked) K m table gates given records first second pl ws cs w (record { number = 6; stages = 0; words = 0; stage = 0; pin = record { 0 = 0 } }) pl ws cs w₁
     try-over e = let T = build.built-over (A .union .passed) (A .blank) (A .union .pins) lim B asked e in record { kept = T .kept; past = B .past; reply = T .reply }
 
     module _ {res n : ℕ} (ready : r ≡ Ready res n) where
+      -- the reserved words are within the limit
       pub try-room : res ≤ limit
       try-room = build.built-room (A .union .passed) (A .blank) (A .union .pins) lim B asked ready
 
+      -- the area has room for a build's numbers
       pub try-part : 16 * m + 512 ≤ length w₁
       try-part = omega (arith, A .union .idle .area .room, B .frame .len)
 
+      -- the front of the area that the stages run in
       abbrev pub part : List ℕ
       part = take (16 * m + 512 - 0) w₁
 
+      -- what the first stage starts from stands in it
       pub try-first : First m n given gs part
       try-first =
           let l : length part ≡ 16 * m + 512 - 0 = length-take-le (16 * m + 512 - 0) w₁ (omega (arith, try-part)) in
           first-part w₁ part (λ j h. getD-take (16 * m + 512 - 0) w₁ j 0 (omega arith)) (record { small = A .union .idle .area .small; room = omega arith }) (B .first res n ready)
 
+      -- what the stages start from
       abbrev pub course : Course
       course = build.course (A .union .passed) (A .blank) (A .union .pins) lim B asked ready try-first
 
-      pub try-stages : {h half rms room : ℕ} → h ≡ K → half ≡ orZero (isHeight K) (levelOneSize K) → rms ≡ length cs → room ≡ limit - res → length cs < 2 ^ 63 → StagesAt course m h half asked rms 0 0 n room gates pl ws cs part
-      try-stages height row all left short = build.built-stages (A .union .passed) (A .blank) (A .union .pins) lim B asked ready try-first height row all left short
+      -- the union's stages may run
+      pub try-stages : {rms room : ℕ} → rms ≡ length cs → room ≡ limit - res → length cs < 2 ^ 63 → StagesAt course m K (rowAt K 1) asked rms 0 0 n room gates pl ws cs part
+      try-stages all left short = build.built-stages (A .union .passed) (A .blank) (A .union .pins) lim B asked ready try-first all left short
 
+      -- what the stages answer is the union's answer
       pub try-ran : {a : Answer} {pl′ ws′ cs′ v′ : List ℕ} → Ran course pl ws cs part a pl′ ws′ cs′ v′ → Tried (ruleOf asked) K m table gates given records first second pl ws cs w a pl′ ws′ cs′ (v′ ++ drop (16 * m + 512 - 0) w₁)
       try-ran {v′ = v′} R =
           let T = build.built-ran (A .union .passed) (A .blank) (A .union .pins) lim B asked ready try-first R in
@@ -85,6 +93,7 @@ module _ {K m table : ℕ} {gates given records first second pl ws cs w : List �
   -- ---- everything is emptied again
 
   module _ {rule : WordRule} {a : Answer} {pl₁ ws₁ cs₁ w₁ : List ℕ} (T : Tried rule K m table gates given records first second pl ws cs w a pl₁ ws₁ cs₁ w₁) where
+    -- the area still has room for a build's numbers
     pub built-part : 16 * m + 512 ≤ length w₁
     built-part = omega (arith, A .union .idle .area .room, T .kept .work)
 
@@ -104,6 +113,7 @@ module _ {K m table : ℕ} {gates given records first second pl ws cs w : List �
       zero : (j : ℕ) → j < 16 * m + RECORDS → getD w₂ j 0 ≡ 0
       zero j h = List·getD-append v₂ (drop (16 * m + 512 - 0) w₁) 0 j (omega (arith, front, front-same)) ∙ (rw (E .work) (getD-replicate (length (take (16 * m + 512 - 0) w₁)) j 0 0 (omega (arith, front))))
 
+      -- everything emptied again, the union is built and the area idle
       pub built : Built rule K m table gates given records first second pl ws cs w a pl₂ ws₂ cs₂ w₂
       built = record {
         leaves = record {

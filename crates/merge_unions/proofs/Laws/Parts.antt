@@ -44,6 +44,7 @@ module _ {m : ℕ} (w v : List ℕ) (same : (j : ℕ) → j < 16 * m + RECORDS �
     spare = clear-part SPARE (omega arith) (F .spare);
   }
 
+  -- what the first stage starts from stands in such an area too
   pub first-part : {n : ℕ} {given : List ℕ} {gs : List Group} → Room m v → First m n given gs w → First m n given gs v
   first-part room F = record {
     area = room;

@@ -36,12 +36,14 @@ module _ {m table limit k : ℕ} {count₀ : Count} {xs : List Group} {records n
   abbrev gs : List Group
   gs = groupsOf records
 
+  -- before the first name nothing more is counted
   pub counting-none : Counting m limit k 0 count₀ xs records names w w
   counting-none =
       let z : k + 0 ≡ k = omega arith in
       record { upto = omega arith; touched = touched-none; now = rw (z, picked-none gs, append-nil xs) (A .now) }
 
   module _ {i : ℕ} {count : Count} {w₁ : List ℕ} (C : Counting m limit k i count xs records names w w₁) where
+    -- the names stay good while they are counted
     pub counting-names : Names m table records names w₁
     counting-names = touched-names (A .named) (C .touched) (omega (arith, A .room, C .upto))
 
@@ -49,6 +51,7 @@ module _ {m table limit k : ℕ} {count₀ : Count} {xs : List Group} {records n
     ys = xs ++ picked gs (take i names)
 
     module _ (h : i < length names) {at : ℕ} (e : at ≡ getD w₁ (table + getD names i 0) 0) where
+      -- the next one's record may be counted
       pub counting-at : CountAt m at (k + i) count ys records w₁
       counting-at = record {
         area = frame-room (C .touched .frame) (A .area);
@@ -71,9 +74,11 @@ module _ {m table limit k : ℕ} {count₀ : Count} {xs : List Group} {records n
       all-more = rw (← more, append-assoc xs (picked gs (take (i + 1) names)) (picked gs (drop (i + 1) names)), picked-rest gs names (i + 1))
 
       module _ {w₂ : List ℕ} {c : Count} (D : Counted m at (k + i) ys records w₁ w₂ c) where
+        -- the counts with it are small
         pub counted-few : Few c
         counted-few = record { few = omega (arith, D .few, A .few) }
 
+        -- a limit that is passed ends it
         pub counting-over : {r : Bool} → Judged c limit r → r ≡ true → PartCounted m limit k xs records names w w₂ Passed
         counting-over J t = record {
           touched = touched-then (omega arith) (C .touched) (touched-then (omega arith) (D .touched) touched-none);
@@ -81,6 +86,7 @@ module _ {m table limit k : ℕ} {count₀ : Count} {xs : List Group} {records n
           on = λ d b. absurd (let z : _≡_ {A = ℕ} 0 1 = cc in omega arith);
         }
 
+        -- within the limits the next name follows
         pub counting-more : {r : Bool} → Judged c limit r → r ≡ false → Counting m limit k (i + 1) c xs records names w w₂
         counting-more J t =
             let s : k + (i + 1) ≡ k + i + 1 = omega arith in
@@ -90,6 +96,7 @@ module _ {m table limit k : ℕ} {count₀ : Count} {xs : List Group} {records n
               now = rw (s, more) (record { chains = D .chains; counts = D .counts; few = D .few; fine = λ K l. not-false (reservable K (ys ++ (g ∷ []))) (sym (J .is K (ys ++ (g ∷ [])) l (D .counts)) ∙ t) });
             }
 
+    -- past the last name all are counted
     pub counting-done : length names ≤ i → PartCounted m limit k xs records names w w₁ (Far count)
     counting-done h =
         let s : i ≡ length names = omega (arith, C .upto) in
@@ -102,6 +109,7 @@ module _ {m table limit k : ℕ} {count₀ : Count} {xs : List Group} {records n
 -- ---- two lists
 
 module _ {m table limit : ℕ} {records first second w : List ℕ} (A : BothAt m table records first second w) where
+  -- the first partition's names may be counted
   pub both-first : PartAt m table limit 0 (record { memories = 0; duplicates = 0 }) [] records first w
   unfolding activations memories duplicates codesAt extraAt distinct insertAll
   both-first = record {
@@ -118,6 +126,7 @@ module _ {m table limit : ℕ} {records first second w : List ℕ} (A : BothAt m
   }
 
   module _ {w₁ : List ℕ} {r : Sum} (P : PartCounted m limit 0 [] records first w w₁ r) where
+    -- where the first partition passes a limit the union does
     pub both-over : r ≡ Passed → Reserved m limit (length first + length second) (picked (groupsOf records) (first ++ second)) w w₁ Over
     both-over e = record {
       touched = touched-then (omega arith) (P .touched) touched-none;
@@ -125,6 +134,7 @@ module _ {m table limit : ℕ} {records first second w : List ℕ} (A : BothAt m
     }
 
     module _ {count : Count} (e : r ≡ Far count) where
+      -- where it does not the second partition's names follow
       pub both-second : PartAt m table limit (length first) count (picked (groupsOf records) first) records second w₁
       both-second = record {
         area = frame-room (P .touched .frame) (A .area);
@@ -138,12 +148,15 @@ module _ {m table limit : ℕ} {records first second w : List ℕ} (A : BothAt m
         both-touched : Touched m (length first + length second) w w₂
         both-touched = touched-then (omega arith) (P .touched) (Q .touched)
 
+        -- where these pass a limit the union does
         pub both-over-2 : s ≡ Passed → Reserved m limit (length first + length second) (picked (groupsOf records) (first ++ second)) w w₂ Over
         both-over-2 d = record { touched = both-touched; answer = λ K l. reservation-over K (picked (groupsOf records) (first ++ second)) (rw (picked-append (groupsOf records) first second) (Q .over d K l)) }
 
+        -- where they pass none the counts are small
         pub both-few : {all : Count} → s ≡ Far all → Few all
         both-few {all} d = record { few = omega (arith, Q .on all d .few, A .few) }
 
+        -- and give the union's reservation
         pub both-words : {all : Count} → s ≡ Far all → (n : ℕ) → SetAside all n → Reserved m limit (length first + length second) (picked (groupsOf records) (first ++ second)) w w₂ (Words n)
         both-words {all} d n S =
             let F = Q .on all d in

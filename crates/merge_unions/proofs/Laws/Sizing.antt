@@ -45,10 +45,12 @@ unfolding mem
 out-cons q p xs ne o = rw (ne-eqb q p ne, mem) o
 
 module _ {g m : ℕ} {w : List ℕ} where
+  -- a column that is 0 but at no pin is clear
   pub only-none : Only g m [] w → Clear g m w
   unfolding mem
   only-none O = record { zero = λ p h. O .zero p h refl }
 
+  -- a 0 stored at one pin leaves the others
   pub only-set : (p : ℕ) {xs : List ℕ} → Only g m (p ∷ xs) w → p < m → g * m + m ≤ length w → Only g m xs (set w (g * m + p) 0)
   only-set p {xs} O b room = record { zero = λ q h o. one q h o (ℕ-discrete q p) }
     where
@@ -56,9 +58,11 @@ module _ {g m : ℕ} {w : List ℕ} where
       one q h o (yes e) = rw e (at-set g m w p 0 b room)
       one q h o (no ne) = zero-stays w _ _ (O .zero q h (out-cons q p xs ne o))
 
+  -- a column that is 0 but at some pins stays so where it is not named
   pub only-frame : {xs : List ℕ} → Only g m xs w → {fs : List ℕ} {w′ : List ℕ} → Frame fs m w w′ → among fs g ≡ false → g < 16 → Only g m xs w′
   only-frame O F e h = record { zero = λ p b o. F .cell g e h p b ∙ O .zero p b o }
 
+  -- marks of some pins are 0 elsewhere
   pub marks-only : {xs : List ℕ} → Marks g m xs w → Only g m xs w
   marks-only M = record { zero = λ p h o. M .mark p h ∙ ap bit o }
 
@@ -75,6 +79,7 @@ among-other : (f g : ℕ) → f ≢ g → among (g ∷ []) f ≡ false
 among-other f g ne = rw (ne-eqb f g ne)
 
 module _ {g m i : ℕ} {xs w w₁ : List ℕ} (C : Clearing g m i xs w w₁) (area : Room m w) (to : g < 16) where
+  -- one more entry is cleared
   pub clearing-more : (p : ℕ) {w₂ : List ℕ} → i < length xs → p ≡ getD xs i 0 → p < m → w₂ ≡ set w₁ (g * m + p) 0 → Clearing g m (i + 1) xs w w₂
   clearing-more p h e b ew =
       let d : drop i xs ≡ p ∷ drop (i + 1) xs = rw (add-one i, e) (drop-cons xs i 0 h) in
@@ -84,14 +89,17 @@ module _ {g m i : ℕ} {xs w w₁ : List ℕ} (C : Clearing g m i xs w w₁) (ar
         only = only-set p (rw d at (C .only)) b (omega (arith, inside g m to, frame-room (C .frame) area .room));
       })
 
+  -- past the last entry the column is clear
   pub clearing-done : length xs ≤ i → Along g m w w₁
   clearing-done h = record { frame = C .frame; clear = only-none (rw (drop-of-length-le xs {i = i} h) at (C .only)) }
 
 module _ {f g m n : ℕ} {w : List ℕ} (A : AlongAt f g m n w) where
+  -- before the first entry nothing is cleared
   pub along-none : Clearing g m 0 (list f m n w) w w
   along-none = record { upto = omega arith; frame = frame-none; only = A .only }
 
   module _ {i : ℕ} {w₁ : List ℕ} (C : Clearing g m i (list f m n w) w w₁) where
+    -- the next entry of the list lies in the area
     pub along-room : i < n → f * m + i < length w₁
     along-room h = omega (arith, inside f m (A .from), A .held .few, A .area .room, C .frame .len)
 
@@ -99,33 +107,42 @@ module _ {f g m n : ℕ} {w : List ℕ} (A : AlongAt f g m n w) where
       held : Holds f m n (list f m n w) w₁
       held = holds-frame (A .held) (C .frame) (among-other f g (A .apart)) (A .from)
 
+      -- the next entry of the list is a pin
       pub along-pin : p < m
       along-pin = rw e (holds-pin held i h)
 
+      -- its place in the column to clear lies in the area
       pub along-to : g * m + p < length w₁
       along-to = omega (arith, inside g m (A .to), along-pin, A .area .room, C .frame .len)
 
+      -- one more pin of the list is cleared
       pub along-more : {w₂ : List ℕ} → w₂ ≡ set w₁ (g * m + p) 0 → Clearing g m (i + 1) (list f m n w) w w₂
       along-more ew = clearing-more C (A .area) (A .to) p (omega (arith, A .held .count)) (e ∙ holds-at held i h) along-pin ew
 
+    -- past the last pin of the list the column is clear
     pub along-done : n ≤ i → Along g m w w₁
     along-done h = clearing-done C (A .area) (A .to) (omega (arith, A .held .count))
 
 module _ {m : ℕ} {given w : List ℕ} (A : UnmarkAt m given w) where
+  -- before the first given pin nothing is cleared
   pub unmark-none : Clearing DONE m 0 given w w
   unmark-none = record { upto = omega arith; frame = frame-none; only = A .only }
 
   module _ {i : ℕ} {w₁ : List ℕ} (C : Clearing DONE m i given w w₁) where
     module _ (h : i < length given) {p : ℕ} (e : p ≡ getD given i 0) where
+      -- the next one is a pin of the area
       pub unmark-pin : p < m
       unmark-pin = rw e (A .pins (getD given i 0) (in-getD given i 0 h))
 
+      -- the next given pin's mark lies in the area
       pub unmark-to : DONE * m + p < length w₁
       unmark-to = omega (arith, unmark-pin, A .area .room, C .frame .len)
 
+      -- one more given pin's mark is cleared
       pub unmark-more : {w₂ : List ℕ} → w₂ ≡ set w₁ (DONE * m + p) 0 → Clearing DONE m (i + 1) given w w₂
       unmark-more ew = clearing-more C (A .area) (omega arith) p h e unmark-pin ew
 
+    -- past the last no given pin is marked
     pub unmark-done : length given ≤ i → Along DONE m w w₁
     unmark-done h = clearing-done C (A .area) (omega arith) h
 
@@ -143,6 +160,7 @@ module _ {m table : ℕ} {gates given records first second w : List ℕ} (A : Si
   O : Opens m given w
   O = union-opens (A .at)
 
+  -- the given pins may be marked
   pub size-given : GivenAt m given w
   size-given = given-at O {e = 0} touched-none
 
@@ -150,6 +168,7 @@ module _ {m table : ℕ} {gates given records first second w : List ℕ} (A : Si
     kept : {names : List ℕ} → Names m table records names w → Names m table records names w₁
     kept N = names-kept N (G .frame .len) (λ j h. G .frame .past refl j (omega (arith, N .behind)))
 
+    -- with the given pins marked the union's pins may wait
     pub size-wait : BothAt m table records first second w₁
     size-wait = record { area = opened-room O {e = 0} touched-none G; one = kept (union-first (A .at)); two = kept (union-second (A .at)); clear = opened-places O {e = 0} touched-none G }
 
@@ -157,9 +176,11 @@ module _ {m table : ℕ} {gates given records first second w : List ℕ} (A : Si
       F : First m n given gs w₂
       F = first-stage O {e = 0} touched-none G W
 
+      -- with its pins waiting a first stage could start
       pub size-first : First (pinCount gates) n given gs w₂
       size-first = rw (← A .at .pins) F
 
+      -- the context in which the union is traversed
       abbrev pub unionContext : Context
       unionContext = firstContext (A .at .passed) size-first
 
@@ -174,6 +195,7 @@ module _ {m table : ℕ} {gates given records first second w : List ℕ} (A : Si
       unfolding setting
       waiting-is = ap (λ (X : Setting). X .waiting) set-is
 
+      -- the union's traversal may be made
       pub size-traverse : TraverseAt unionContext m n gates w₂
       size-traverse =
           let B = first-begun (A .at .passed) size-first in
@@ -190,6 +212,7 @@ module _ {m table : ℕ} {gates given records first second w : List ℕ} (A : Si
         room-3 : Room m w₃
         room-3 = frame-room (T .frame) (F .area)
 
+        -- the traversal's marks may be cleared along the order
         pub size-unlist : AlongAt ORDER LISTED m k w₃
         size-unlist = record {
           area = room-3;
@@ -207,6 +230,7 @@ module _ {m table : ℕ} {gates given records first second w : List ℕ} (A : Si
           only-4 : Only PLACE m (waitingOf gs []) w₄
           only-4 = only-frame (only-frame (record { zero = W .now .none }) (T .frame) refl (omega arith)) (L .frame) refl (omega arith)
 
+          -- then the places may be cleared along the waiting list
           pub size-unwait : AlongAt WAITING PLACE m n w₄
           size-unwait = record {
             area = frame-room (L .frame) room-3;
@@ -218,6 +242,7 @@ module _ {m table : ℕ} {gates given records first second w : List ℕ} (A : Si
           }
 
           module _ {w₅ : List ℕ} (U : Along PLACE m w₄ w₅) where
+            -- then the marks of the given pins may be cleared
             pub size-unmark : UnmarkAt m given w₅
             size-unmark = record {
               area = frame-room (U .frame) (frame-room (L .frame) room-3);
@@ -267,6 +292,7 @@ module _ {m table : ℕ} {gates given records first second w : List ℕ} (A : Si
                   ∙ ap (λ (X : Setting). length (X .order)) set-is
                   ∙ length-reverse (traverse (length (graphOf gates)) (graphOf gates) given (waitingOf gs []))
 
+              -- the traversal's size is the union's, and the area is idle again
               pub measured : Measured m table gates given records first second w k w₆
               measured = record {
                 leaves = size-leaves;

@@ -40,6 +40,7 @@ pub record Locating (table at n : ℕ) (records w w′ : List ℕ) : Type 0 wher
   pub past : (j : ℕ) → table + n ≤ j → getD w′ j 0 ≡ getD w j 0
 
 module _ {table : ℕ} {records w : List ℕ} (A : LocateAt table records w) where
+  -- before the first record the table is empty
   pub locating-none : Locating table 0 0 records w w
   locating-none = record {
     upto = omega arith;
@@ -60,9 +61,11 @@ module _ {table : ℕ} {records w : List ℕ} (A : LocateAt table records w) whe
       next : Next records at (L .rest)
       next = read-next records at (L .rest) (L .unread) h
 
+      -- a whole record stands at the index
       pub locating-stands : Stands records at
       locating-stands = standing records at (next .whole)
 
+      -- the table has room for its start
       pub locating-room : table + n < length w₁
       locating-room = omega (arith, A .room, L .few, L .len)
 
@@ -87,6 +90,7 @@ module _ {table : ℕ} {records w : List ℕ} (A : LocateAt table records w) whe
         group-more i b (yes k) = rw (other (table + i) (λ d. omega arith), List·getD-append (L .xs) (g ∷ []) (output 0) i (omega (arith, L .count))) (L .located .group i (omega (arith, L .count)))
         group-more i b (no k) = let d : i ≡ n = (let z : (i < n → ⊥) = k in omega arith) in rw (d, own) (sym (getD-at (L .xs) g [] (output 0) n (L .count)))
 
+        -- one more record's start is stored
         pub locating-more : (size : ℕ) → size ≡ sizeAt records at → Locating table (at + (1 + size)) (n + 1) records w w₂
         locating-more size es =
             let s = locating-stands in
@@ -108,6 +112,7 @@ module _ {table : ℕ} {records w : List ℕ} (A : LocateAt table records w) whe
               past = λ j b. other j (λ d. omega arith) ∙ L .past j (omega arith);
             }
 
+    -- past the last record the table is whole
     pub locating-done : length records ≤ at → Locates table records w w₁ n
     locating-done h =
         let z = read-last records at (L .rest) (L .unread) h in

@@ -32,15 +32,18 @@ module _ {m table n : ℕ} {records names w : List ℕ} (A : PartAt m table n re
   abbrev gs : List Group
   gs = groupsOf records
 
+  -- before the first name no pin more waits
   pub gathering-none : Gathering m n 0 records names w w n
   unfolding waitingOf
   gathering-none = record { upto = omega arith; frame = frame-none; now = rw (picked-none gs, waitingOf) (A .now) }
 
   module _ {i k : ℕ} {w₁ : List ℕ} (G : Gathering m n i records names w w₁ k) where
+    -- the names stay good while their pins wait
     pub gathering-names : Names m table records names w₁
     gathering-names = framed-names (A .named) (G .frame)
 
     module _ (h : i < length names) {at : ℕ} (e : at ≡ getD w₁ (table + getD names i 0) 0) where
+      -- the next one's pins may wait
       pub gathering-at : RecordAt m k at records w₁
       gathering-at =
           let t = name-whole gathering-names h e in
@@ -52,6 +55,7 @@ module _ {m table n : ℕ} {records names w : List ℕ} (A : PartAt m table n re
             now = placed-self (G .now);
           }
 
+      -- the pins of one more name wait
       pub gathering-more : {w₂ : List ℕ} {r : ℕ} → RecordWaits m k at records w₁ w₂ r → Gathering m n (i + 1) records names w w₂ r
       gathering-more W = record {
         upto = omega arith;
@@ -59,6 +63,7 @@ module _ {m table n : ℕ} {records names w : List ℕ} (A : PartAt m table n re
         now = rw (name-more gathering-names h e, waitingOf-snoc, ← G .now .held .is) (W .now);
       }
 
+    -- past the last name all wait
     pub gathering-done : length names ≤ i → PartWaits m n records names w w₁ k
     gathering-done h = record { frame = G .frame; now = rw (← picked-all gs names i h) (G .now) }
 
@@ -69,13 +74,16 @@ module _ {m table : ℕ} {records first second w : List ℕ} (A : BothAt m table
   unfolding list
   none-waits = refl
 
+  -- the first partition's pins may wait
   pub both-first : PartAt m table 0 records first w
   both-first = record { area = A .area; named = A .one; now = rw none-waits (placed-none (A .clear .zero)) }
 
   module _ {w₁ : List ℕ} {n : ℕ} (P : PartWaits m 0 records first w w₁ n) where
+    -- behind the first partition's pins the second's may wait
     pub both-second : PartAt m table n records second w₁
     both-second = record { area = frame-room (P .frame) (A .area); named = framed-names (A .two) (P .frame); now = placed-self (P .now) }
 
+    -- the pins of both partitions are the union's waiting list
     pub both-wait : {w₂ : List ℕ} {r : ℕ} → PartWaits m n records second w₁ w₂ r → AllWait m (picked (groupsOf records) (first ++ second)) w w₂ r
     both-wait Q = record {
       frame = frame-then (P .frame) (Q .frame);

@@ -16,11 +16,8 @@ enum-told c = search needs
 enum-known-opening : tie.Need-enum-known-opening
 enum-known-opening c = search needs
 
-level-one-size-requires : tie.Need-level-one-size-requires
-level-one-size-requires c κs = search needs
-
 sub-room : tie.Need-sub-room
-sub-room c = omega (arith, try-room (c .before .before .before .before .before .before .before .before .before .before .before .before .before .before .before .before .before .pre) refl (c .before .before .before .before .before .before .begin-both .ensures) (c .before .before .before .before .before .before .before .before .before .before .before .before .before .before .before .before .before .args .rule) (c .before .before .opening .given .1))
+sub-room c = omega (arith, try-room (c .before .before .before .before .before .before .before .before .before .before .before .before .before .before .before .before .pre) refl (c .before .before .before .before .before .begin-both .ensures) (c .before .before .before .before .before .before .before .before .before .before .before .before .before .before .before .before .args .rule) (c .before .opening .given .1))
 
 mul-size : tie.Need-mul-size
 mul-size c = search needs
@@ -37,11 +34,8 @@ part-stages-start c = search needs
 part-stages-end : tie.Need-part-stages-end
 part-stages-end c = search needs
 
-wide-requires : tie.Need-wide-requires
-wide-requires c κs = search needs
-
 stages-requires : tie.Need-stages-requires
-stages-requires c κs = let A = c .before .before .before .before .before .before .before .before .before .before .before .before .before .before .before .before .before .before .before .before .before .before .pre in let v = c .before .before .before .before .before .before .before .before .before .before .before .before .before .before .before .before .before .before .before .before .before .before .args .rule in let B = c .before .before .before .before .before .before .before .before .before .before .before .begin-both .ensures in let e = c .before .before .before .before .before .before .before .opening .given .1 in record { it = course A refl B v e; at = try-stages A refl B v e (c .wide .ensures) (c .before .before .before .before .before .level-one-size .ensures) refl refl (omega (arith, c .before .before .before .before .before .before .before .before .before .before .before .before .before .before .before .before .before .before .before .before .before .before .good .1 .1 .1 .1 .1 .1 .1 .1 .1 .0 .1)) }
+stages-requires c κs = let A = c .before .before .before .before .before .before .before .before .before .before .before .before .before .before .before .before .before .before .before .before .pre in let v = c .before .before .before .before .before .before .before .before .before .before .before .before .before .before .before .before .before .before .before .before .args .rule in let B = c .before .before .before .before .before .before .before .before .before .begin-both .ensures in let e = c .before .before .before .before .before .opening .given .1 in record { it = course A refl B v e; at = try-stages A refl B v e refl refl (omega (arith, c .before .before .before .before .before .before .before .before .before .before .before .before .before .before .before .before .before .before .before .before .good .1 .1 .1 .1 .1 .1 .1 .1 .1 .0 .1)) }
 
 same-length : tie.Need-same-length
 same-length c = search needs
@@ -62,7 +56,7 @@ same-length-5 : tie.Need-same-length-5
 same-length-5 c = search needs
 
 returns-2 : tie.Need-returns-2
-returns-2 c = let A = c .before .before .before .before .before .before .before .before .before .before .before .before .before .before .before .before .before .before .before .before .before .before .before .before .before .before .before .before .before .before .before .pre in let v = c .before .before .before .before .before .before .before .before .before .before .before .before .before .before .before .before .before .before .before .before .before .before .before .before .before .before .before .before .before .before .before .args .rule in let B = c .before .before .before .before .before .before .before .before .before .before .before .before .before .before .before .before .before .before .before .before .begin-both .ensures in let e = c .before .before .before .before .before .before .before .before .before .before .before .before .before .before .before .before .opening .given .1 in try-ran A refl B v e (c .before .before .before .before .before .before .before .before .stages .ensures .all _ (try-stages A refl B v e (c .before .before .before .before .before .before .before .before .before .wide .ensures) (c .before .before .before .before .before .before .before .before .before .before .before .before .before .before .level-one-size .ensures) refl refl (omega (arith, c .before .before .before .before .before .before .before .before .before .before .before .before .before .before .before .before .before .before .before .before .before .before .before .before .before .before .before .before .before .before .before .good .1 .1 .1 .1 .1 .1 .1 .1 .1 .0 .1))))
+returns-2 c = let A = c .before .before .before .before .before .before .before .before .before .before .before .before .before .before .before .before .before .before .before .before .before .before .before .before .before .before .before .before .before .pre in let v = c .before .before .before .before .before .before .before .before .before .before .before .before .before .before .before .before .before .before .before .before .before .before .before .before .before .before .before .before .before .args .rule in let B = c .before .before .before .before .before .before .before .before .before .before .before .before .before .before .before .before .before .before .begin-both .ensures in let e = c .before .before .before .before .before .before .before .before .before .before .before .before .before .before .opening .given .1 in try-ran A refl B v e (c .before .before .before .before .before .before .before .before .stages .ensures .all _ (try-stages A refl B v e refl refl (omega (arith, c .before .before .before .before .before .before .before .before .before .before .before .before .before .before .before .before .before .before .before .before .before .before .before .before .before .before .before .before .before .good .1 .1 .1 .1 .1 .1 .1 .1 .1 .0 .1))))
 
 pub attempt-spec : {M : Type 1} → statement M
 attempt-spec =
@@ -71,14 +65,12 @@ attempt-spec =
     begin-both-requires
     enum-told
     enum-known-opening
-    level-one-size-requires
     sub-room
     mul-size
     add-size
     sub-stages
     part-stages-start
     part-stages-end
-    wide-requires
     stages-requires
     same-length
     returns

@@ -63,7 +63,8 @@ module _ {K : ℕ} {sized : Bool} {gates given records : List ℕ} (P : Passed K
   limit-is : limit ≡ wordLimit K
   limit-is = lim ∙ A .words-size
 
-  pub built-over : r ≡ Over → Tried (rules.build (ruleOf asked) K (graphOf gates) given gs (rooms K (length pl))) pl ws cs w (record { number = 6; stages = 0; words = 0; stage = 0; pin = 0 }) pl ws cs w₁
+  -- a reservation that is over answers 6, with plan, words and counts as they were
+  pub built-over : r ≡ Over → Tried (rules.build (ruleOf asked) K (graphOf gates) given gs (rooms K (length pl))) pl ws cs w (record { number = 6; stages = 0; words = 0; stage = 0; pin = record { 0 = 0 } }) pl ws cs w₁
   unfolding rules.build told rules.reply rules.refuse reservationFor
   built-over e =
       let f = over-refused K gs (ap reservationFor (sym e) ∙ B .answer K limit-is) in
@@ -78,14 +79,17 @@ module _ {K : ℕ} {sized : Bool} {gates given records : List ℕ} (P : Passed K
     unfolding reservationFor
     known = words-reserved K gs res (ap reservationFor (sym ready) ∙ B .answer K limit-is)
 
+    -- the reserved words are within the limit
     pub built-room : res ≤ limit
     built-room = omega (arith, known .1, reserved-less K gs (known .0), limit-is)
 
     -- in an area that may be a part of the one at the opening
     module _ {v : List ℕ} (M : First m n given gs v) where
+      -- what the first stage starts from, by the graph's own count of pins
       pub F : First (pinCount gates) n given gs v
       F = rw (← pins) M
 
+      -- what the stages of this build start from
       abbrev pub course : Course
       course = record {
         rule = ruleOf asked;
@@ -143,14 +147,11 @@ module _ {K : ℕ} {sized : Bool} {gates given records : List ℕ} (P : Passed K
         work = record { area = M .area; done = M .done; waiting = M .waiting; fresh = M .fresh; cells = M .cells; marks = M .marks; tail = λ j h. M .zeros j (omega arith) };
       }
 
-      module _ {h half rms room : ℕ} (height : h ≡ K) (row : half ≡ orZero (isHeight K) (levelOneSize K)) (all : rms ≡ length cs) (left : room ≡ limit - res) (short : length cs < 2 ^ 63) where
-        half-is : half ≡ rowAt h 1
-        unfolding rowAt
-        half-is = rw height (row ∙ (rw (P .height, orZero-true (levelOneSize K)) refl))
-
-        pub built-stages : StagesAt course m h half asked rms 0 0 n room gates pl ws cs v
+      module _ {rms room : ℕ} (all : rms ≡ length cs) (left : room ≡ limit - res) (short : length cs < 2 ^ 63) where
+        -- with the first stage's start there the stages may run
+        pub built-stages : StagesAt course m K (rowAt K 1) asked rms 0 0 n room gates pl ws cs v
         built-stages = record {
-          known = record { ruled = refl; height = height; row = half-is; graph = refl; size = P .pins ∙ sym pins; pair = P .even ∙ ap (λ (i : ℕ). 2 * i) (sym pins) };
+          known = record { ruled = refl; height = refl; row = refl; graph = refl; size = P .pins ∙ sym pins; pair = P .even ∙ ap (λ (i : ℕ). 2 * i) (sym pins) };
           now = first;
           all = all ∙ A .counts-size;
           short = omega arith;
@@ -160,6 +161,7 @@ module _ {K : ℕ} {sized : Bool} {gates given records : List ℕ} (P : Passed K
       abbrev ss : List rules.Stage
       ss = rules.stagesOf (answer course)
 
+      -- what the stages answer is the build's answer
       pub built-ran : {a : Answer} {pl′ ws′ cs′ w′ : List ℕ} → Ran course pl ws cs v a pl′ ws′ cs′ w′ → Tried (rules.build (ruleOf asked) K (graphOf gates) given gs (rooms K (length pl))) pl ws cs v a pl′ ws′ cs′ w′
       built-ran R = rw built (record {
         kept = R .kept;
@@ -174,9 +176,11 @@ module _ {K : ℕ} {sized : Bool} {gates given records : List ℕ} (P : Passed K
 -- ---- the build of all records
 
 module _ {K : ℕ} {gates given records pl ws cs w : List ℕ} (A : TryAt K gates given records pl ws cs w) where
+  -- the areas to be built in are empty
   pub try-blank : Blank K pl ws cs
   try-blank = record { plan-size = A .at .plan; words-size = A .at .words; counts-size = A .at .counts; plan = A .plan; words = A .words; counts = A .counts }
 
+  -- the build may be opened
   pub try-begin : {m : ℕ} → m ≡ pinCount gates → BeginAt m given records w
   try-begin pins = rw pins (begin-at (A .at .passed) w (omega (arith, A .at .work)) (laid-self (workSize gates records) w (A .at .work) (A .work)))
 
@@ -200,6 +204,7 @@ module _ {K : ℕ} {gates given records pl ws cs w pl₁ ws₁ cs₁ w₁ : List
   work-same : length w₁ ≡ length w
   work-same = ap length (E .work) ∙ length-replicate (length w) 0
 
+  -- emptied areas may be built in
   pub place-try : TryAt K gates given records pl₁ ws₁ cs₁ w₁
   place-try = record {
     at = record { sized = A .sized; passed = A .passed; plan = rw plan-same (A .plan); words = words-same ∙ A .words; counts = counts-same ∙ rw plan-same (A .counts); work = work-same ∙ A .work };
@@ -241,6 +246,7 @@ module _ {K : ℕ} {gates given records pl ws cs w pl₁ ws₁ cs₁ w₁ : List
       work = D .work ∙ ap (λ (i : ℕ). replicate i 0) (T .kept .work ∙ work-same);
     }
 
+  -- emptied, built and tidied: the areas are as the rules leave them
   pub placed : (asked : Asked) {a : Answer} {pl₂ ws₂ cs₂ w₂ pl₃ ws₃ cs₃ w₃ : List ℕ} → Tried (rules.answerOf (ruleOf asked) K gates given records (length pl₁)) pl₁ ws₁ cs₁ w₁ a pl₂ ws₂ cs₂ w₂ → Tidied (a .number) pl₂ ws₂ cs₂ w₂ pl₃ ws₃ cs₃ w₃ →
       Placed (rules.answerOf (ruleOf asked) K gates given records (length pl)) pl ws cs w a pl₃ ws₃ cs₃ w₃
   placed asked T D = so (rw plan-same at T) D

@@ -20,26 +20,31 @@ use Rattle.placer.specs.Stages.{Course, answer, OneAt, One, StagesAt, Wh
 
 -- ---- stages behind stages
 
+-- one stage more adds its cells behind the others
 pub cells-more : (ss : List Stage) (s : Stage) → cellsOf (ss ++ (s ∷ [])) ≡ cellsOf ss ++ s .plan
 unfolding cellsOf
 cells-more [] s = append-nil (s .plan)
 cells-more (t ∷ ss) s = ap (λ (r : List ℕ). t .plan ++ r) (cells-more ss s) ∙ sym (append-assoc (t .plan) (cellsOf ss) (s .plan))
 
+-- one stage more adds its words behind the others
 pub words-more : (ss : List Stage) (s : Stage) → wordsOf (ss ++ (s ∷ [])) ≡ wordsOf ss ++ s .words
 unfolding wordsOf
 words-more [] s = append-nil (s .words)
 words-more (t ∷ ss) s = ap (λ (r : List ℕ). t .words ++ r) (words-more ss s) ∙ sym (append-assoc (t .words) (wordsOf ss) (s .words))
 
+-- one stage more adds the count of its words
 pub counts-more : (ss : List Stage) (s : Stage) → countsOf (ss ++ (s ∷ [])) ≡ countsOf ss ++ (length (s .words) ∷ [])
 unfolding countsOf
 counts-more [] s = refl
 counts-more (t ∷ ss) s = ap (λ (r : List ℕ). length (t .words) ∷ r) (counts-more ss s)
 
+-- a stage behind some stages stands before what follows
 pub before-more : (ss : List Stage) (s : Stage) (a : Answer) → before ss (more s a) ≡ before (ss ++ (s ∷ [])) a
 unfolding before
 before-more [] s a = refl
 before-more (t ∷ ss) s a = ap (λ (r : Answer). more t r) (before-more ss s a)
 
+-- some stages before a whole plan are a whole plan
 pub before-whole : (ss ts : List Stage) → before ss (whole ts) ≡ whole (ss ++ ts)
 unfolding before more
 before-whole [] ts = refl
@@ -48,11 +53,13 @@ before-whole (t ∷ ss) ts = rw (before-whole ss ts)
 -- ---- one more, by what it answers
 
 module _ (rule : WordRule) (K : ℕ) (g : List Node) (k : ℕ) (done waiting : List ℕ) (room : ℕ) where
+  -- where no pin waits the plan is whole
   pub none-waits : (r : ℕ) → waiting ≡ [] → stages rule K g r k done waiting room ≡ whole []
   unfolding stages
   none-waits zero e = rw (e, stages)
   none-waits (suc r) e = rw (e, stages)
 
+  -- where pins wait and no room is left it is refused with 9
   pub no-room : 0 < length waiting → stages rule K g 0 k done waiting room ≡ refusal 9 k
   unfolding stages
   no-room h = elim waiting as (λ ws. 0 < length ws → stages rule K g 0 k done ws room ≡ refusal 9 k) [ [] ↦ λ z. absurd (omega arith) | w ∷ ws ↦ λ z. refl ] h
@@ -60,10 +67,12 @@ module _ (rule : WordRule) (K : ℕ) (g : List Node) (k : ℕ) (done waiting : L
   nonempty : (P : List ℕ → Type 0) → ((w : ℕ) (ws : List ℕ) → P (w ∷ ws)) → 0 < length waiting → P waiting
   nonempty P f h = elim waiting as (λ xs. 0 < length xs → P xs) [ [] ↦ λ z. absurd (omega arith) | w ∷ ws ↦ λ z. f w ws ] h
 
+  -- a refused stage refuses the build, with its number and place
   pub stage-refused : 0 < length waiting → (r n : ℕ) → oneStage rule K g done waiting room ≡ refused n → stages rule K g (suc r) k done waiting room ≡ refusal n k
   unfolding stages
   stage-refused h r n = nonempty (λ xs. oneStage rule K g done xs room ≡ refused n → stages rule K g (suc r) k done xs room ≡ refusal n k) (λ w ws e. rw (e, stages)) h
 
+  -- a whole one stands before the stages that follow it
   pub stage-more : 0 < length waiting → (r : ℕ) (pl ws re left : List ℕ) → oneStage rule K g done waiting room ≡ stage pl ws re left →
       stages rule K g (suc r) k done waiting room ≡ more (record { plan = pl; words = ws }) (stages rule K g r (suc k) (re ++ done) left (room - length ws))
   unfolding stages
@@ -76,16 +85,20 @@ empty-list : (xs : List ℕ) → length xs ≡ 0 → xs ≡ []
 empty-list [] e = refl
 empty-list (x ∷ xs) e = absurd (omega arith)
 
+-- at most 256 words may be written
 pub limit-small : (K : ℕ) → K ≤ 13 → 2 ^ (K - 5) ≤ 256
 limit-small K h = pow-mono {i = K - 5} {j = 8} (omega arith)
 
 module _ {C : Course} {m K half : ℕ} {asked : Asked} {rooms k at n room : ℕ} {gates pl ws cs w : List ℕ} (A : StagesAt C m K half asked rooms k at n room gates pl ws cs w) where
+  -- while pins wait and a room is left, the next stage may be built
   pub next-at : {b : ℕ} → b ≡ room → 0 < n → k ≢ rooms → OneAt C m K half asked k n at (b - at) gates pl ws cs w
   next-at e h r = record { known = A .known; now = A .now; left = ap (λ (i : ℕ). i - at) (e ∙ A .left); waits = h; more = omega (arith, A .now .few, A .all) }
 
+  -- no more words are spent than may be
   pub spent-within : at ≤ room
   spent-within = omega (arith, A .now .fits, A .left)
 
+  -- the words that may be written are at most 256
   pub room-small : room ≤ 256
   unfolding wordLimit
   room-small = omega (arith, A .left, C .limit, limit-small (C .K) (C .high))
@@ -93,9 +106,11 @@ module _ {C : Course} {m K half : ℕ} {asked : Asked} {rooms k at n room : ℕ}
   words-all : length ws ≡ wordLimit (C .K)
   words-all = rw (A .now .words) (length-padded (wordLimit (C .K)) empty (wordsOf (A .now .ss)) (omega (arith, A .now .spent, A .now .fits, C .limit)))
 
+  -- they fit the lent area
   pub room-within : room ≤ length ws
   room-within = omega (arith, A .left, C .limit, words-all)
 
+  -- pins that wait without a room left mean 9
   pub rooms-nine : 0 < n → k ≡ rooms → answer C ≡ refusal 9 (suc k)
   rooms-nine h e =
       let z : C .rooms - k ≡ 0 = omega (arith, A .all) in
@@ -103,6 +118,7 @@ module _ {C : Course} {m K half : ℕ} {asked : Asked} {rooms k at n room : ℕ}
       let r = rw z at s in
       r ∙ ap (before (A .now .ss)) (no-room (C .rule) (C .K) (C .g) (suc k) (A .now .done) (A .now .waiting) (C .room - at) (omega (arith, A .now .work .waiting .held .count))) ∙ before-refusal (A .now .ss) 9 (suc k)
 
+  -- no pin left means a whole plan
   pub all-whole : n ≡ 0 → answer C ≡ whole (A .now .ss)
   all-whole e =
       A .now .same
@@ -110,22 +126,26 @@ module _ {C : Course} {m K half : ℕ} {asked : Asked} {rooms k at n room : ℕ}
       ∙ before-whole (A .now .ss) []
       ∙ ap whole (append-nil (A .now .ss))
 
+  -- a room is left where not all are used
   pub still-rooms : 0 < n → k ≢ rooms → k < rooms
   still-rooms h r = omega (arith, A .now .few, A .all)
 
+  -- after a whole stage the build goes on with the next
   pub one-on : {number written left : ℕ} {pl′ ws′ cs′ w′ : List ℕ} → One C m k at pl ws cs w number written left pl′ ws′ cs′ w′ → number ≡ 0 → {spent : ℕ} → spent ≡ at + written → StagesAt C m K half asked rooms (k + 1) spent left room gates pl′ ws′ cs′ w′
   one-on O z e = rw (e, add-one k) (record { known = A .known; now = O .on z; all = A .all; short = A .short; left = A .left })
 
 -- what the answers tell
-pub refused-told : (C : Course) (number k : ℕ) → answer C ≡ refusal number (suc k) → told (record { number = number; stages = 0; words = 0; stage = k + 1; pin = 0 }) ≡ reply (answer C)
+pub refused-told : (C : Course) (number k : ℕ) → answer C ≡ refusal number (suc k) → told (record { number = number; stages = 0; words = 0; stage = k + 1; pin = record { 0 = 0 } }) ≡ reply (answer C)
 unfolding told reply refuse
 refused-told C number k e = rw (e, add-one k, reply)
 
 module _ {C : Course} {m K half : ℕ} {asked : Asked} {rooms k at n room : ℕ} {gates pl ws cs w : List ℕ} (A : StagesAt C m K half asked rooms k at n room gates pl ws cs w) (z : n ≡ 0) where
-  pub whole-told : told (record { number = 0; stages = k; words = at; stage = 0; pin = 0 }) ≡ reply (answer C)
+  -- the answer tells the stages and words of the whole plan
+  pub whole-told : told (record { number = 0; stages = k; words = at; stage = 0; pin = record { 0 = 0 } }) ≡ reply (answer C)
   unfolding told reply
   whole-told = rw (all-whole A z, A .now .count, A .now .spent, reply)
 
+  -- the whole plan stands in the areas
   pub whole-stands : Whole C (stagesOf (answer C)) pl ws cs
   unfolding stagesOf
   whole-stands = rw (all-whole A z, stagesOf) (record { plan = A .now .plan; words = A .now .words; counts = A .now .counts })

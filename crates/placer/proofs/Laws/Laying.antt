@@ -10,6 +10,7 @@ use Rattle.rules.specs.Lists.{padded, laidAt}
 use Rattle.rules.proofs.Lists.Lengths.{drop-replicate, take-replicate}
 
 module _ (n x : ℕ) where
+  -- with nothing written the area is marks throughout
   pub padded-none : padded n x [] ≡ replicate n x
   unfolding padded
   padded-none = let e : n - 0 ≡ n = omega arith in rw e

@@ -7,8 +7,10 @@ use native.Mathlib.Omega.{arith}
 use lib.Pow.{pow-mono}
 use lib.ListN.{length, set, take, drop, length-append, length-replicate, length-set}
 use lib.Seq.{drop-drop}
+use Rattle.stage_runs.proofs.Laws.Half.{half-is}
+use Rattle.cells.specs.Answers.{orZero}
 use Rattle.rules.specs.Lists.{padded, laidAt}
-use Rattle.rules.specs.Cells.{empty, wordLimit, rowAt, stageSize}
+use Rattle.rules.specs.Cells.{empty, wordLimit, rowAt, stageSize, isHeight, levelOneSize}
 use Rattle.rules.specs.Placing.{tree}
 use Rattle.rules.specs.Traversal.{setting}
 use Rattle.rules.specs.Ending.{refused, stage, oneStage}
@@ -52,18 +54,23 @@ module _ {C : Course} {m K half : ℕ} {asked : Asked} {k n at room : ℕ} {gate
   abbrev U : Underway C m k at n pl ws cs w
   U = A .now
 
+  -- the context of the next stage
   abbrev pub ctx : Context
   ctx = context (C .rule) (C .K) (C .g) (rank (C .g)) (graph (C .g) (C .valid)) (C .low) (C .high) (C .small) (U .done) (U .waiting) (U .ready)
 
+  -- a stage is four times as long as level 1's row
   pub stage-size : 4 * half ≡ stageSize (C .K)
   stage-size = rw (← A .known .height) (size-is K half (rw (A .known .height) (C .low)) (A .known .row))
 
+  -- a stage has at most 16,384 numbers
   pub size-small : stageSize (C .K) ≤ 16384
   size-small = pow-mono {i = C .K + 1} {j = 14} (omega (arith, C .high))
 
+  -- the plan area has one stage's length for each room
   pub plan-length : length pl ≡ C .rooms * stageSize (C .K)
   plan-length = rw (U .plan) (length-padded (C .rooms * stageSize (C .K)) empty (rules.cellsOf (U .ss)) (omega (arith, U .cells, part-inside k (C .rooms) (stageSize (C .K)) (A .more))))
 
+  -- the counts have one number for each room
   pub counts-length : length cs ≡ C .rooms
   counts-length = rw (U .counts) (length-padded (C .rooms) 0 (rules.countsOf (U .ss)) (omega (arith, U .counted, U .few)))
 
@@ -74,6 +81,19 @@ module _ {C : Course} {m K half : ℕ} {asked : Asked} {k n at room : ℕ} {gate
   words-length : length ws ≡ wordLimit (C .K)
   words-length = rw (U .words) (length-padded (wordLimit (C .K)) empty (rules.wordsOf (U .ss)) (omega (arith, U .spent, U .fits, C .limit)))
 
+  -- the size of level 1, as the height tells it
+  pub one-half : {h : ℕ} → h ≡ orZero (isHeight K) (levelOneSize K) → h ≡ half
+  one-half e = half-is (omega (arith, A .known .height, C .low)) (omega (arith, A .known .height, C .high)) e ∙ sym (A .known .row)
+
+  -- where the stage's part begins
+  pub from-half : {h : ℕ} → h ≡ half → k * (4 * h) ≡ k * (4 * half)
+  from-half e = rw e refl
+
+  -- and where it ends
+  pub to-half : {h : ℕ} → h ≡ half → k * (4 * h) + 4 * h ≡ k * (4 * h) + 4 * half
+  to-half {h} e = ap (λ (x : ℕ). k * (4 * h) + 4 * x) e
+
+  -- the next stage's part lies in the plan
   pub part-inside-plan : k * (4 * half) + 4 * half ≤ length pl
   part-inside-plan = rw (stage-size, plan-length) (part-inside k (C .rooms) (stageSize (C .K)) (A .more))
 
@@ -91,6 +111,7 @@ module _ {C : Course} {m K half : ℕ} {asked : Asked} {k n at room : ℕ} {gate
     unfolding blank context setting
     part-blank = ap (λ (i : ℕ). take i (drop a pl)) part-size ∙ ap (λ (x : List ℕ). take (stageSize (C .K)) (drop a x)) (U .plan) ∙ blank-part (C .rooms * stageSize (C .K)) empty a (stageSize (C .K)) (rules.cellsOf (U .ss)) (U .cells ∙ sym start) (omega (arith, start, part-inside k (C .rooms) (stageSize (C .K)) (A .more)))
 
+    -- the next stage's part is empty, and the stage may be built there
     pub stage-at : StageAt ctx m K half n asked at room gates (take (e - a) (drop a pl)) w ws
     unfolding context setting
     stage-at = record {
@@ -138,6 +159,7 @@ module _ {C : Course} {m K half : ℕ} {asked : Asked} {k n at room : ℕ} {gate
       abbrev whole-plan : List ℕ
       whole-plan = take a pl ++ (ys ++ drop (e - a) (drop a pl))
 
+      -- a refused stage refuses the build
       pub refused-part : 0 < s .number → One C m k at pl ws cs w (s .number) (s .words) (s .waiting) whole-plan ws′ cs w′
       refused-part h = rw laid (one-refused h)
 
@@ -152,6 +174,7 @@ module _ {C : Course} {m K half : ℕ} {asked : Asked} {k n at room : ℕ} {gate
         unfolding built context setting
         one = W .is
 
+        -- the count of its words fits a number
         pub words-few : s .words < 4294967296
         words-few = omega (arith, W .count, W .fit, A .left, C .limit, word-limit)
 
@@ -193,5 +216,6 @@ module _ {C : Course} {m K half : ℕ} {asked : Asked} {k n at room : ℕ} {gate
                 let h = laid-more k cs [] (s .words) (omega (arith, counts-length, A .more)) in
                 rw (laid-none k cs, n) at h
 
+        -- a whole one, with its count stored, is one stage more
         pub on-part : {cs′ : List ℕ} → cs′ ≡ set cs k (s .words) → One C m k at pl ws cs w (s .number) (s .words) (s .waiting) whole-plan ws′ cs′ w′
         on-part e′ = rw laid (one-on-stage e′)

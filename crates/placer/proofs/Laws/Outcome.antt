@@ -1,15 +1,16 @@
 -- The whole call: what the checks say, and the parts of the areas that count. Assumes nothing.
-use Prim.Native.Nat.{ℕ, zero, suc, _+_, _-_, _*_, _/_, _%_, _≤_}
+use Prim.Native.Nat.{ℕ, zero, suc, _+_, _-_, _*_, _≤_}
 use mathlib.Core.Bool.{Bool, true, _&&_}
 use mathlib.Core.List.{List, _++_}
 use mathlib.Core.Logic.{_≢_}
 use mathlib.Core.Path.{_≡_, refl, sym, ap, _∙_}
-use native.Mathlib.Nat.{div-add-mod'}
 use native.Mathlib.Omega.{arith}
 use lib.Dec.{leb}
 use lib.ListN.{length, take, drop, replicate}
 use lib.Seq.{length-take-le}
 use borrow.Author.Tests.{leb-true, eqb-true}
+use Rattle.graph.specs.declared.Pin.{Pin}
+use Rattle.rules.proofs.Lists.Parts.{part-laid, divides}
 use Rattle.rules.specs.Lists.{padded, laidOver}
 use Rattle.rules.specs.Cells.{empty, wordLimit, stageSize, rooms, isHeight}
 use Rattle.rules.specs.Graph.{pinCount}
@@ -27,17 +28,10 @@ use Rattle.placer.specs.declared.Answer.{Answer}
 use Rattle.placer.specs.Answers.{told, areas, outcome}
 use Rattle.placer.specs.Build.{PlaceAt, Placed}
 
+-- the size at which the work area counts, as the code adds it up
 pub need-is : (gates records : List ℕ) (m : ℕ) → m ≡ pinCount gates → 16 * m + 8 * length records + 512 ≡ workSize gates records
 unfolding workSize
 need-is gates records m e = rw e refl
-
--- what was lent of an area's front stands over the rest
-part-laid : (n : ℕ) (xs ys : List ℕ) → n ≤ length xs → length ys ≡ length (take n xs) → ys ++ drop n xs ≡ laidOver ys xs
-unfolding laidOver
-part-laid n xs ys h e = let d : length ys ≡ n = e ∙ length-take-le n xs h in rw d refl
-
-divides : (n s : ℕ) → n % s ≡ 0 → n ≡ n / s * s
-divides n s e = omega (arith, div-add-mod' n s)
 
 module _ (rule : WordRule) (K : ℕ) (gates given records pl ws cs w : List ℕ) where
   abbrev sized : Bool
@@ -46,11 +40,12 @@ module _ (rule : WordRule) (K : ℕ) (gates given records pl ws cs w : List ℕ)
   abbrev at-entry : rules.Areas
   at-entry = areas pl ws cs w
 
-  refused-at : (n : ℕ) → n ≡ refusalOf K sized gates given records → n ≢ 0 → (p : ℕ) → p ≡ pinShown n gates → outcome (record { number = n; stages = 0; words = 0; stage = 0; pin = p }) pl ws cs w ≡ rules.placer rule K gates given records at-entry
+  refused-at : (n : ℕ) → n ≡ refusalOf K sized gates given records → n ≢ 0 → (p : Pin) → p .0 ≡ pinShown n gates → outcome (record { number = n; stages = 0; words = 0; stage = 0; pin = p }) pl ws cs w ≡ rules.placer rule K gates given records at-entry
   unfolding outcome told areas rules.placer rules.sizesRight rules.refuseChecked
   refused-at zero e h p d = absurd (h refl)
   refused-at (suc n) e h p d = rw (← e, rules.placer, d)
 
+  -- what the checks refuse changes nothing
   pub outcome-refused : (v : Verdict) → Says (refusalOf K sized gates given records) gates v → v .number ≢ 0 → outcome (record { number = v .number; stages = 0; words = 0; stage = 0; pin = v .pin }) pl ws cs w ≡ rules.placer rule K gates given records at-entry
   outcome-refused v S h = refused-at (v .number) (S .number) h (v .pin) (S .pin ∙ ap (λ (n : ℕ). pinShown n gates) (sym (S .number)))
 
@@ -58,6 +53,7 @@ module _ (rule : WordRule) (K : ℕ) (gates given records pl ws cs w : List ℕ)
 pub record Checked (K : ℕ) (gates given records : List ℕ) (plan words counts work : ℕ) : Type 0 where
   pub none : refusalOf K (areasSized K (workSize gates records) plan words counts work) gates given records ≡ 0
 
+-- a verdict of 0 means that no check refuses
 pub checked : {K : ℕ} {gates given records : List ℕ} {plan words counts work : ℕ} {v : Verdict} → Says (refusalOf K (areasSized K (workSize gates records) plan words counts work) gates given records) gates v → v .number ≡ 0 → Checked K gates given records plan words counts work
 checked S z = record { none = sym (S .number) ∙ z }
 
@@ -65,9 +61,11 @@ module _ {K : ℕ} {gates given records : List ℕ} {plan words counts work : �
   passes : Passed K (areasSized K (workSize gates records) plan words counts work) gates given records
   passes = passed K (areasSized K (workSize gates records) plan words counts work) gates given records (H .none)
 
+  -- where no check refuses there are at most 65,536 pins
   pub pins-few : pinCount gates ≤ 65536
   pins-few = passes .few
 
+  -- and at most 65,536 record numbers
   pub records-few : length records ≤ 65536
   records-few = passes .short
 
@@ -90,17 +88,21 @@ module _ {K : ℕ} {gates given records : List ℕ} {plan words counts work : �
     rooms-is : rms ≡ rooms K plan
     rooms-is = er ∙ rw (passes .height, orZero-true (rooms K plan)) refl
 
+    -- the words that count lie in their area
     pub words-inside : limit ≤ words
     words-inside = omega (arith, limit-is, parts .1)
 
+    -- the counts that count lie in their area
     pub counts-inside : rms ≤ counts
     counts-inside = omega (arith, rooms-is, parts .2)
 
+    -- the work numbers that count lie in their area
     pub work-inside : need ≤ work
     work-inside = omega (arith, parts .3)
 
 module _ {K : ℕ} {gates given records : List ℕ} (pl ws cs w : List ℕ) (H : Checked K gates given records (length pl) (length ws) (length cs) (length w)) where
   module _ {limit rms need : ℕ} (el : limit ≡ orZero (isHeight K) (wordLimit K)) (er : rms ≡ orZero (isHeight K) (rooms K (length pl))) (en : need ≡ workSize gates records) where
+    -- in the parts that count the build may run
     pub place-at : PlaceAt K gates given records pl (take (limit - 0) ws) (take (rms - 0) cs) (take (need - 0) w)
     place-at = record {
       sized = _;
@@ -125,6 +127,7 @@ module _ {K : ℕ} {gates given records : List ℕ} (pl ws cs w : List ℕ) (H :
       work-laid : vs ++ drop (need - 0) w ≡ laidOver (replicate (workSize gates records) 0) w
       work-laid = part-laid (need - 0) w vs (omega (arith, work-inside H el er en)) lv ∙ ap (λ (x : List ℕ). laidOver x w) (D .work ∙ ap (λ (i : ℕ). replicate i 0) (place-at .work))
 
+      -- what the build leaves there, with the rest as it was, is the rules' outcome
       pub outcome-built : outcome a pl′ (ys ++ drop (limit - 0) ws) (zs ++ drop (rms - 0) cs) (vs ++ drop (need - 0) w) ≡ rules.placer rule K gates given records (areas pl ws cs w)
       unfolding outcome areas rules.placer rules.sizesRight rules.areasAfter
       outcome-built = rw (H .none, rules.placer, D .reply, D .filled .plan, words-laid, counts-laid, work-laid)

@@ -6,17 +6,19 @@ use Rattle.rules.specs.Build as rules
 use Rattle.placer.specs.declared.Answer.{Answer}
 use Rattle.placer.specs.Answers.{told, areas, outcome}
 
+-- two answers and their areas agree in everything
 pub record Same (a b : Answer) (pl ws cs w pl′ ws′ cs′ w′ : List ℕ) : Type 0 where
   pub number : a .number ≡ b .number
   pub stages : a .stages ≡ b .stages
   pub count : a .words ≡ b .words
   pub stage : a .stage ≡ b .stage
-  pub pin : a .pin ≡ b .pin
+  pub pin : a .pin .0 ≡ b .pin .0
   pub plan : pl ≡ pl′
   pub words : ws ≡ ws′
   pub counts : cs ≡ cs′
   pub work : w ≡ w′
 
+-- two that tell the same outcome of the rules do
 pub one-outcome : (o : rules.Outcome) (a b : Answer) (pl ws cs w pl′ ws′ cs′ w′ : List ℕ) → outcome a pl ws cs w ≡ o → outcome b pl′ ws′ cs′ w′ ≡ o → Same a b pl ws cs w pl′ ws′ cs′ w′
 unfolding outcome told areas
 one-outcome o a b pl ws cs w pl′ ws′ cs′ w′ d e =

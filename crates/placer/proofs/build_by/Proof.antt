@@ -11,7 +11,7 @@ check-requires : tie.Need-check-requires
 check-requires c κs = search needs
 
 returns : tie.Need-returns
-returns c = outcome-refused _ _ _ _ _ _ _ _ _ _ (c .before .before .check .ensures) (c .if1 .taken)
+returns c = outcome-refused _ _ _ _ _ _ _ _ _ _ (c .before .before .before .check .ensures) (c .before .if1 .taken)
 
 word-limit-requires : tie.Need-word-limit-requires
 word-limit-requires c κs = search needs

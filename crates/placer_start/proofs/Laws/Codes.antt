@@ -54,15 +54,18 @@ module _ {m k p code : ℕ} {ys : List Activation} {w : List ℕ} (A : CodeAt m 
   abbrev codes : List ℕ
   codes = codesAt p ys []
 
+  -- the pin's chain may be walked
   pub head-at : (head : ℕ) → head ≡ getD w (RANKED * m + p) 0 → ChainAt m head codes w
   head-at head e = record { room = omega (arith, A .room, A .chains .before p (A .pin)); chain = rw e (A .chains .chain p (A .pin)) }
 
+  -- the pin's chain may get one longer
   pub link-at : (head : ℕ) → head ≡ getD w (RANKED * m + p) 0 → LinkAt m k p head code w
   link-at head e = record { area = A .area; room = A .room; small = A .small; pin = A .pin; before = rw e (A .chains .before p (A .pin)); fits = A .fits }
 
   others : (q : ℕ) → (q ≡ p → ⊥) → codesAt q (ys ++ (a ∷ [])) [] ≡ codesAt q ys []
   others q ne = codes-other a q ys [] (ne-eqb p q (λ e. ne (sym e)))
 
+  -- an activation that the pin has already adds nothing
   pub coded-old : In code codes → Coded m k p code ys w w 0
   coded-old i = record {
     touched = touched-none;
@@ -90,6 +93,7 @@ module _ {m k p code : ℕ} {ys : List Activation} {w : List ℕ} (A : CodeAt m 
         one q h (yes d) = rw (d, codes-same a p ys [] refl, insert-new code codes o) (chain-longer B L (head-at head e .chain))
         one q h (no ne) = rw (others q ne, link-heads B L q h ne) (chain-kept B L (A .chains .chain q h) (A .chains .before q h))
 
+    -- a pin's first activation is no duplicate
     pub coded-first : head ≡ 0 → Coded m k p code ys w w′ 0
     coded-first z = record {
       touched = link-touched B L;
@@ -98,6 +102,7 @@ module _ {m k p code : ℕ} {ys : List Activation} {w : List ℕ} (A : CodeAt m 
       few = omega arith;
     }
 
+    -- each further activation of a pin is a duplicate
     pub coded-more : (head ≡ 0 → ⊥) → Coded m k p code ys w w′ 1
     coded-more ne =
         let i = chain-some (head-at head e .chain) ne in

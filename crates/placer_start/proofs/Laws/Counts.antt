@@ -17,6 +17,7 @@ use Rattle.rules.specs.Lists.{In}
 use Rattle.rules.proofs.Lists.Members.{in-here, in-there}
 use Rattle.rules.specs.Inside.Counts.{repeats}
 use Rattle.rules.proofs.Reservation.Counting.{memories-snoc, duplicates-repeats, activations-append}
+use Rattle.graph.specs.declared.Pin.{Pin}
 use Rattle.records.specs.declared.Kind.{Kind}
 use Rattle.records.specs.declared.Kind.the-variants as kinds
 use Rattle.records.specs.declared.Kind.the-variants.{Output, FlipFlop, StagedPin, Unknown}
@@ -34,15 +35,17 @@ adds-memory : (ls : List ℕ) → AddsGroup (memory ls) Memory
 unfolding activations memories codesOf memoriesOf
 adds-memory ls = record { codes = refl; memory = refl }
 
-adds-staged : (p q : ℕ) → q ≡ p → AddsGroup (stagedPin p) (Code q 2)
+adds-staged : (p : ℕ) (q : Pin) → q .0 ≡ p → AddsGroup (stagedPin p) (Code q 2)
 unfolding activations memories codesOf memoriesOf
 adds-staged p q e = record { codes = rw e; memory = refl }
 
-pub adds-output : (l p i : ℕ) → p ≡ pinOf l → i ≡ inversionOf l → AddsGroup (output l) (Code p (2 + i))
+-- an output adds 2 and its inversion at its pin
+pub adds-output : (l : ℕ) (p : Pin) (i : ℕ) → p .0 ≡ pinOf l → i ≡ inversionOf l → AddsGroup (output l) (Code p (2 + i))
 unfolding activations memories codesOf memoriesOf
 adds-output l p i ep ei = record { codes = rw (ep, ei); memory = refl }
 
-pub adds-flip-flop : (a d p e i : ℕ) → p ≡ pinOf d → e ≡ a → i ≡ inversionOf d → AddsGroup (flipFlop a d) (Code p (2 * e + i))
+-- a flip-flop adds twice its enable literal and the data inversion at its data pin
+pub adds-flip-flop : (a d : ℕ) (p : Pin) (e i : ℕ) → p .0 ≡ pinOf d → e ≡ a → i ≡ inversionOf d → AddsGroup (flipFlop a d) (Code p (2 * e + i))
 unfolding activations memories codesOf memoriesOf
 adds-flip-flop a d p e i ep ee ei = record { codes = rw (ep, ee, ei); memory = refl }
 
@@ -66,6 +69,7 @@ module _ {at : ℕ} {xs : List ℕ} (A : WholeAt at xs) where
     kind-is : (l : Kind) → k ≡ l → getD xs at 0 ≡ numberOf l
     kind-is l e = sym (ap numberOf (sym e) ∙ en ∙ known-is (getD xs at 0) (omega (arith, S .some, S .size)))
 
+    -- a flip-flop's second number is there
     pub flip-inside : k ≡ FlipFlop → at + 2 < length xs
     unfolding sizeOf numberOf
     flip-inside e = let s : sizeAt xs at ≡ 2 = S .size ∙ ap sizeOf (kind-is FlipFlop e) in omega (arith, S .inside)
@@ -75,19 +79,23 @@ module _ {at : ℕ} {xs : List ℕ} (A : WholeAt at xs) where
     unfolding sizeOf numberOf
     record-known e = absurd (let s : sizeAt xs at ≡ 0 = S .size ∙ ap sizeOf (kind-is Unknown e) in omega (arith, S .some))
 
+    -- a memory adds no activation, and counts as one memory
     pub record-memory : k ≡ kinds.Memory → AddsGroup (groupAt (drop at xs)) Memory
     unfolding groupAt numberOf
     record-memory e = rw (front 3 (kind-is kinds.Memory e)) (adds-memory _)
 
+    -- an output record adds what an output does
     pub record-output : k ≡ Output → {r : Added} → AddsGroup (output (getD xs (at + 1) 0)) r → AddsGroup (groupAt (drop at xs)) r
     unfolding groupAt numberOf
     record-output e B = rw (front 1 (kind-is Output e), number 0 (at + 1) (omega arith)) B
 
+    -- a flip-flop record what a flip-flop does
     pub record-flip : k ≡ FlipFlop → {r : Added} → AddsGroup (flipFlop (getD xs (at + 1) 0) (getD xs (at + 2) 0)) r → AddsGroup (groupAt (drop at xs)) r
     unfolding groupAt numberOf
     record-flip e B = rw (front 2 (kind-is FlipFlop e), number 0 (at + 1) (omega arith), number 1 (at + 2) (omega arith)) B
 
-    pub record-staged : k ≡ StagedPin → (p : ℕ) → p ≡ getD xs (at + 1) 0 → AddsGroup (groupAt (drop at xs)) (Code p 2)
+    -- a staged pin adds 2 at its pin
+    pub record-staged : k ≡ StagedPin → (p : Pin) → p .0 ≡ getD xs (at + 1) 0 → AddsGroup (groupAt (drop at xs)) (Code p 2)
     unfolding groupAt numberOf
     record-staged e p ep = rw (front 4 (kind-is StagedPin e), number 0 (at + 1) (omega arith)) (adds-staged _ p ep)
 
@@ -126,9 +134,11 @@ module _ {m at k : ℕ} {count : Count} {xs : List Group} {records w : List ℕ}
   abbrev g : Group
   g = groupAt (drop at records)
 
+  -- a whole record stands at the index
   pub count-whole : WholeAt at records
   count-whole = record { whole = A .whole }
 
+  -- a memory counts one more
   pub counted-memory : {r : Added} → AddsGroup g r → r ≡ Memory → Counted m at k xs records w w (record { memories = count .memories + 1; duplicates = count .duplicates })
   unfolding codesOf memoriesOf
   counted-memory B₀ er =
@@ -144,14 +154,15 @@ module _ {m at k : ℕ} {count : Count} {xs : List Group} {records w : List ℕ}
         few = omega (arith, A .few);
       }
 
-  module _ {p c : ℕ} {s : Added} (B₀ : AddsGroup g s) (es : s ≡ Code p c) where
+  module _ {p : Pin} {c : ℕ} {s : Added} (B₀ : AddsGroup g s) (es : s ≡ Code p c) where
     B : AddsGroup g (Code p c)
     B = rw es at B₀
 
-    pub count-code : CodeAt m k p c (activations xs) w
+    -- an activation may be taken in
+    pub count-code : CodeAt m k (p .0) c (activations xs) w
     unfolding codesOf
     count-code =
-        let n = code-named m (A .area .small) p c g (A .named) (B .codes) in
+        let n = code-named m (A .area .small) (p .0) c g (A .named) (B .codes) in
         record {
           area = A .area;
           room = A .room;
@@ -161,10 +172,11 @@ module _ {m at k : ℕ} {count : Count} {xs : List Group} {records w : List ℕ}
           chains = A .chains;
         }
 
-    pub counted-code : {w′ : List ℕ} {r : ℕ} → Coded m k p c (activations xs) w w′ r → Counted m at k xs records w w′ (record { memories = count .memories; duplicates = count .duplicates + r })
+    -- an activation counts one duplicate more, or none
+    pub counted-code : {w′ : List ℕ} {r : ℕ} → Coded m k (p .0) c (activations xs) w w′ r → Counted m at k xs records w w′ (record { memories = count .memories; duplicates = count .duplicates + r })
     unfolding codesOf memoriesOf
     counted-code {w′} {r} C =
-        let e : activations (xs ++ (g ∷ [])) ≡ activations xs ++ (record { pin = p; code = c } ∷ []) = activations-append xs (g ∷ []) ∙ ap (λ (l : List Activation). activations xs ++ l) (B .codes) in
+        let e : activations (xs ++ (g ∷ [])) ≡ activations xs ++ (record { pin = p .0; code = c } ∷ []) = activations-append xs (g ∷ []) ∙ ap (λ (l : List Activation). activations xs ++ l) (B .codes) in
         record {
           touched = C .touched;
           chains = rw e (C .chains);
@@ -177,6 +189,7 @@ module _ {m at k : ℕ} {count : Count} {xs : List Group} {records w : List ℕ}
 
 -- ---- the limits
 
+-- the words set aside: memories, and a 32nd of the duplicates rounded up
 pub aside : (count : Count) (r : ℕ) → r ≡ count .memories + (count .duplicates + 31) / 32 → SetAside count r
 unfolding reserved
 aside count r e = record { is = λ xs C. rw (C .memory, C .double) e }
@@ -185,10 +198,12 @@ not-leb : (a b : ℕ) → ltb a b ≡ not (leb b a)
 not-leb a b = elim (decLt a b) [ yes h ↦ rw (lt-ltb a b h, lt-leb b a h) | no h ↦ let k : b ≤ a = (let n : (a < b → ⊥) = h in omega arith) in rw (le-ltb a b k, le-leb b a k) ]
 
 module _ {count : Count} {limit s : ℕ} (S : SetAside count s) where
+  -- as many as the limit, or more: refused
   pub judged-words : limit ≤ s → Judged count limit true
   unfolding reservable
   judged-words h = record { is = λ K xs e C. rw (le-ltb (reserved xs) (wordLimit K) (omega (arith, S .is xs C)), reservable) }
 
+  -- fewer: four times the memories and the duplicates decide
   pub judged-rest : s < limit → (r : Bool) → r ≡ ltb limit (4 * count .memories + count .duplicates) → Judged count limit r
   unfolding reservable
   judged-rest h r er = record { is = λ K xs e C. er ∙ not-leb limit (4 * count .memories + count .duplicates) ∙ rw (lt-ltb (reserved xs) (wordLimit K) (omega (arith, S .is xs C)), reservable, C .memory, C .double, e) }

@@ -26,6 +26,7 @@ module _ {m : ℕ} {w : List ℕ} (area : Room m w) (zeros : (j : ℕ) → j < 1
   clear-at : (f : ℕ) → f < 16 → Clear f m w
   clear-at f h = record { zero = λ p k. zeros (f * m + p) (omega (arith, inside f m h)) }
 
+  -- an area of zeros is idle
   pub zeros-idle : Idle m w
   zeros-idle = record {
     area = area;
@@ -48,6 +49,7 @@ module _ {m : ℕ} {w : List ℕ} (area : Room m w) (zeros : (j : ℕ) → j < 1
 -- ---- over any groups
 
 module _ {m : ℕ} {given w : List ℕ} (A : Opens m given w) {e : ℕ} {w₁ : List ℕ} (T : Touched m e w w₁) where
+  -- behind the reservation the given pins may be marked
   pub given-at : GivenAt m given w₁
   given-at = record { area = frame-room (T .frame) (A .idle .area); clear = clear-frame (A .idle .done) (T .frame) refl (omega arith); pins = A .given-named }
 
@@ -55,13 +57,16 @@ module _ {m : ℕ} {given w : List ℕ} (A : Opens m given w) {e : ℕ} {w₁ : 
     framed : Frame opened m w w₂
     framed = frame-then (frame-more refl (T .frame)) (frame-more refl (G .frame))
 
+    -- the area is as long as before
     pub opened-room : Room m w₂
     opened-room = frame-room framed (A .idle .area)
 
+    -- no pin has a place in the waiting list yet
     pub opened-places : Clear PLACE m w₂
     opened-places = clear-frame (clear-frame (A .idle .places) (T .frame) refl (omega arith)) (G .frame) refl (omega arith)
 
     module _ {gs : List Group} {w₃ : List ℕ} {n : ℕ} (W : AllWait m gs w₂ w₃ n) where
+      -- the three parts change what a build's opening may
       pub opened-frame : Frame opened m w w₃
       opened-frame = frame-then framed (frame-more refl (W .frame))
 
@@ -69,6 +74,7 @@ module _ {m : ℕ} {given w : List ℕ} (A : Opens m given w) {e : ℕ} {w₁ : 
       pub opened-past : (j : ℕ) → 16 * m ≤ j → getD w₃ j 0 ≡ getD w₁ j 0
       opened-past j h = W .frame .past refl j h ∙ G .frame .past refl j h
 
+      -- behind them stands what the first stage starts from
       pub first-stage : First m n given gs w₃
       first-stage =
           let F = opened-frame in
@@ -90,6 +96,7 @@ module _ {m : ℕ} {given w : List ℕ} (A : Opens m given w) {e : ℕ} {w₁ : 
           }
 
 module _ {m : ℕ} {given w : List ℕ} (A : Opens m given w) {limit e : ℕ} {gs : List Group} {r : Reservation} {w₁ : List ℕ} (R : Reserved m limit e gs w w₁ r) {far : ℕ} (within : 16 * m + RECORDS + 2 * e ≤ far) where
+  -- a refused reservation ends the opening
   pub begins-over : r ≡ reservation.Over → Begins m limit far given gs w Over w₁
   unfolding reservationFor
   begins-over d = record {
@@ -99,6 +106,7 @@ module _ {m : ℕ} {given w : List ℕ} (A : Opens m given w) {limit e : ℕ} {g
     first = λ words n b. absurd (let z : _≡_ {A = ℕ} 0 1 = cc in omega arith);
   }
 
+  -- any other reservation is followed by the marks and the waiting list
   pub begins-ready : {w₂ w₃ : List ℕ} {n : ℕ} → Given m given w₁ w₂ → AllWait m gs w₂ w₃ n → (words : ℕ) → r ≡ reservation.Words words → Begins m limit far given gs w (Ready words n) w₃
   unfolding reservationFor
   begins-ready {w₂} {w₃} {n} G W words d = record {
@@ -111,9 +119,11 @@ module _ {m : ℕ} {given w : List ℕ} (A : Opens m given w) {limit e : ℕ} {g
 -- ---- over all records
 
 module _ {m : ℕ} {given records w : List ℕ} (A : BeginAt m given records w) where
+  -- a cleared area may be opened
   pub begin-opens : Opens m given w
   begin-opens = record { idle = zeros-idle (A .area) (λ j h. A .zeros j (omega arith)); given-named = A .given-named }
 
+  -- the reservation may be computed
   pub reserve-at : ReserveAt m records w
   reserve-at = record { area = A .area; room = A .room; right = A .right; clear = begin-opens .idle .heads }
 

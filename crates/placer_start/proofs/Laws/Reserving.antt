@@ -26,6 +26,7 @@ use Rattle.placer_start.proofs.Laws.Chains.{touched-none, touched-then}
 
 -- ---- what the rules say of more records
 
+-- no records can be reserved for
 pub reservable-none : (K : ℕ) → reservable K [] ≡ true
 unfolding reservable reserved memories duplicates extraAt distinct insertAll activations wordLimit
 reservable-none K = rw (lt-ltb 0 (2 ^ (K - 5)) (pow-pos (K - 5)), le-leb 0 (2 ^ (K - 5)) (omega arith))
@@ -44,10 +45,12 @@ reservable-more K xs ys e = split (reservable K (xs ++ ys))
     (λ f. f)
 
 module _ (K : ℕ) (xs : List Group) where
+  -- what can't be reserved for is over
   pub reservation-over : reservable K xs ≡ false → Over ≡ reservationOf K xs
   unfolding reservationOf
   reservation-over e = rw (e, reservationOf)
 
+  -- what can has its reserved words
   pub reservation-words : (r : ℕ) → reservable K xs ≡ true → r ≡ reserved xs → Words r ≡ reservationOf K xs
   unfolding reservationOf
   reservation-words r e d = rw (e, reservationOf, d)
@@ -69,6 +72,7 @@ pub record Reserving (m limit at : ℕ) (count : Count) (records w w′ : List �
   pub fine : (K : ℕ) → limit ≡ wordLimit K → reservable K xs ≡ true
 
 module _ {m limit : ℕ} {records w : List ℕ} (A : ReserveAt m records w) where
+  -- before the first record nothing is counted
   pub reserving-none : Reserving m limit 0 (record { memories = 0; duplicates = 0 }) records w w
   unfolding activations memories duplicates codesAt extraAt distinct insertAll
   reserving-none = record {
@@ -86,6 +90,7 @@ module _ {m limit : ℕ} {records w : List ℕ} (A : ReserveAt m records w) wher
   }
 
   module _ {at : ℕ} {count : Count} {w₁ : List ℕ} (R : Reserving m limit at count records w w₁) where
+    -- the counts so far are small
     pub reserving-small : Few count
     reserving-small = record { few = omega (arith, R .few, R .upto, A .right .short) }
 
@@ -105,9 +110,11 @@ module _ {m limit : ℕ} {records w : List ℕ} (A : ReserveAt m records w) wher
         few = R .few;
       }
 
+      -- the next record may be counted
       pub reserving-at : Some (λ xs. CountAt m at at count xs records w₁)
       reserving-at = record { it = R .xs; at = count-at }
 
+      -- a whole record stands there
       pub reserving-stands : Stands records at
       reserving-stands = standing records at (next .whole)
 
@@ -121,6 +128,7 @@ module _ {m limit : ℕ} {records w : List ℕ} (A : ReserveAt m records w) wher
         C : Counted m at at (R .xs) records w₁ w₂ c
         C = E .all (R .xs) count-at
 
+        -- the counts with it are small
         pub counted-small : Few c
         counted-small = record { few = omega (arith, C .few, A .right .short) }
 
@@ -135,6 +143,7 @@ module _ {m limit : ℕ} {records w : List ℕ} (A : ReserveAt m records w) wher
             is-false true e = e
             is-false false e = refl
 
+        -- within the limits the next record follows
         pub reserving-more : (r : Bool) → Judged c limit r → r ≡ false → (size : ℕ) → size ≡ sizeAt records at → Reserving m limit (at + (1 + size)) c records w w₂
         reserving-more r J e size es =
             let s = reserving-stands in
@@ -156,6 +165,7 @@ module _ {m limit : ℕ} {records w : List ℕ} (A : ReserveAt m records w) wher
             is-true true e = refl
             is-true false e = e
 
+    -- past the last record the counts are the reservation
     pub reserving-done : length records ≤ at → (r : ℕ) → SetAside count r → Reserved m limit (length records) (groupsOf records) w w₁ (Words r)
     reserving-done h r S =
         let z = read-last records at (R .rest) (R .unread) h in

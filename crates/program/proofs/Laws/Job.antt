@@ -68,10 +68,12 @@ module _ (bs g v c : List ℕ) (B : Bytes bs) (A : ReadAt g v c) (a : Answer) (g
           records-in = omega (arith, read-records bs J B j);
         }
 
+  -- a number other than 0 means that the bytes are no job
   pub read-none : (a .number ≡ 0 → ⊥) → readJob bs ≡ noJob
   unfolding read.outcome read.laid
   read-none h = job-cases (readJob bs) (λ j. j) (λ J j. absurd (h (ap (λ (o : read.Outcome). o .number) (is-laid J j))))
 
+  -- 0 means that a job was read, and it stands in the areas
   pub read-got : a .number ≡ 0 → Got bs a g′ v′ c′
   unfolding read.outcome read.readInto read.refused
   read-got h = job-cases (readJob bs)

@@ -48,6 +48,7 @@ module _ (bs : List ℕ) (J : Job) (B : Bytes bs) (e : readJob bs ≡ job J) whe
       let b = and-true (leb (J .height) mostHeight) (leb (pinCount (J .gates)) (suc mostPins)) (a .0) in
       (b .0, b .1, a .1)
 
+  -- a job that was read is of the program's sizes
   pub read-fits : Fits (J .height) (J .gates) (J .records)
   read-fits = record {
     height = leb-true (J .height) mostHeight (parts .0);
@@ -62,13 +63,16 @@ module _ (bs : List ℕ) (J : Job) (B : Bytes bs) (e : readJob bs ≡ job J) whe
       let b = and-true (eqb (length (J .gates) % 2) 0 && leb 1 (pinCount (J .gates))) (every isMark (take 2 (J .gates))) (a .0) in
       eqb-true _ _ (and-true (eqb (length (J .gates) % 2) 0) (leb 1 (pinCount (J .gates))) (b .0) .0)
 
+  -- the gates of a job that was read fit their area
   pub read-gates : length (J .gates) ≤ 1002
   unfolding pinCount
   read-gates = omega (arith, even, read-fits .pins)
 
+  -- so do its records
   pub read-records : length (J .records) ≤ 512
   read-records = omega (arith, read-fits .numbers)
 
+  -- so do its given pins, since the file has 16 bits for each
   pub read-given : length (J .given) ≤ 4096
   read-given =
       let b : List ℕ = jobBits J (W .gs) in
@@ -76,10 +80,12 @@ module _ (bs : List ℕ) (J : Job) (B : Bytes bs) (e : readJob bs ≡ job J) whe
 
 -- ---- what is printed
 
+-- bytes that are no job print refusal 11
 pub printed-none : (bs out : List ℕ) → readJob bs ≡ noJob → listed.written (refusedLine 11 0 0) out ≡ listed.written (printed neededRuns bs) out
 unfolding printed
 printed-none bs out e = rw (e, printed)
 
+-- bytes that are a job print the job's text
 pub printed-job : (bs out : List ℕ) (J : Job) → readJob bs ≡ job J → listed.written (jobText neededRuns (jobOf (J .height) (J .gates) (J .given) (J .records))) out ≡ listed.written (printed neededRuns bs) out
 unfolding printed jobOf
 printed-job bs out J e = rw (e, printed)

@@ -70,18 +70,20 @@ module _ {K : ℕ} {gates records pl ws cs w : List ℕ} (B : BuildAt K gates re
 
   -- what the build answered and left, listed
   pub text-printed : (given out pl′ ws′ cs′ w′ : List ℕ) (a : Answer) → outcome a pl′ ws′ cs′ w′ ≡ rules.placer neededRuns K gates given records (areas pl ws cs w) →
-      answered K (a .number) (a .stages) (a .stage) (a .pin) pl′ ws′ cs′ out ≡ written (jobText neededRuns (jobOf K gates given records)) out
+      answered K (a .number) (a .stages) (a .stage) (a .pin .0) pl′ ws′ cs′ out ≡ written (jobText neededRuns (jobOf K gates given records)) out
   unfolding outcome told areas
   text-printed given out pl′ ws′ cs′ w′ a e = rw (← e) at (placed-text neededRuns K gates given records (areas pl ws cs w) out all-right four-rooms)
 
 -- the front of the plan area
 module _ {K : ℕ} {gates records pl ws cs w : List ℕ} (A : AreasAt K gates records pl ws cs w) (s : ℕ) (e : s ≡ orZero (isHeight K) (stageSize K)) where
+  -- four rooms of the job's height lie in the plan area
   pub size-in : 4 * s ≤ 8192
   unfolding orZero
   size-in = split (isHeight K)
       (λ t. let d : s ≡ stageSize K = rw (t, orZero) at e in omega (arith, pow-mono {i = K + 1} {j = 11} (omega (arith, A .fits .height))))
       (λ t. let d : s ≡ 0 = rw (t, orZero) at e in omega arith)
 
+  -- with the plan cut to four rooms the job may be built
   pub build-at : BuildAt K gates records (take (4 * s - 0) pl) ws cs w
   build-at = record {
     fits = A .fits;

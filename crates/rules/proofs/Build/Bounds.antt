@@ -21,7 +21,7 @@ use Rattle.rules.proofs.Needed.Needs.{falls-always}
 use Rattle.rules.proofs.Stage.Staged.{remaining-least}
 use Rattle.rules.proofs.Stage.Depth.{still-ready, falls, ends, stage-cases}
 use Rattle.rules.proofs.Written.Writes.{more-whole}
-use Rattle.rules.proofs.Build.Lengths.{sizes}
+use Rattle.rules.proofs.Build.Words.{stages-words}
 
 -- a pin is no deeper than its rank
 pub depth-rank : (g : List Node) (stop : List ℕ) (r : ℕ → ℕ) → Ranked g stop r → (f p : ℕ) → depth f g stop p ≤ r p
@@ -75,9 +75,10 @@ module _ (rule : WordRule) (K : ℕ) (g : List Node) (r : ℕ → ℕ) (G : Grap
     whole-few rooms (refusal n k) e = refused-few n k
     whole-few rooms (whole ss) e = record {
       stages-most = stages-few rooms 1 given waits R (wordLimit K - reserved groups) (length g) (deep waits R) ss e;
-      words-most = omega (arith, sizes rule K g r G tall small rooms 1 given waits R (wordLimit K - reserved groups) ss e .words);
+      words-most = omega (arith, stages-words rule K g rooms 1 given waits (wordLimit K - reserved groups) ss e);
     }
 
+    -- every build answers with no more stages than pins of the graph, pin 0 counted, and at most W words
     pub build-few : (rooms : ℕ) → Few K g (build rule K g given groups rooms)
     unfolding build
     build-few rooms = split (reservable K groups)

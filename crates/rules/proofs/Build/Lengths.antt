@@ -59,6 +59,7 @@ module _ (rule : WordRule) (K : ℕ) (g : List Node) (r : ℕ → ℕ) (G : Grap
         let S : Sound X r (length g) = setting-sound rule K g r G done waiting (R .bounded) in
         final X r (length g) S low (λ pl. Unit {0}) (λ pl h p n l i a. tt) tt plan2 (the-end rule K g r G low small done waiting (R .bounded) room plan2 words realised waiting2 e .rested) .0
 
+    -- and it writes no more words than it may
     pub stage-words : length words ≤ room
     unfolding oneStage
     stage-words = words-fit (setting rule K g done waiting) room (filledPlan (setting rule K g done waiting)) plan2 words realised waiting2 e
@@ -83,6 +84,7 @@ module _ (rule : WordRule) (K : ℕ) (g : List Node) (r : ℕ → ℕ) (G : Grap
     counts = ap suc (z .counts);
   }
 
+  -- the stages of an accepted build have these sizes
   pub sizes : (rooms k : ℕ) (done waiting : List ℕ) → Ready g r waiting → (room : ℕ) (ss : List Stage) → stages rule K g rooms k done waiting room ≡ whole ss → Sizes rooms room ss
   unfolding stages
   sizes zero k done [] R room ss e = none 0 room ss (cc)
@@ -95,6 +97,7 @@ module _ (rule : WordRule) (K : ℕ) (g : List Node) (r : ℕ → ℕ) (G : Grap
       rw (m .2) (one-more rooms room (record { plan = plan2; words = words }) (m .0) (stage-length done (w ∷ ws) R room plan2 words realised waiting2 d) (stage-words done (w ∷ ws) R room plan2 words realised waiting2 d)
       (sizes rooms (suc k) (realised ++ done) waiting2 (still-ready rule K g r G tall small done (w ∷ ws) R room plan2 words realised waiting2 d) (room - length words) (m .0) (m .1))))
 
+  -- and each of them a number a position
   pub all-sized : (rooms k : ℕ) (done waiting : List ℕ) → Ready g r waiting → (room : ℕ) (ss : List Stage) → stages rule K g rooms k done waiting room ≡ whole ss → Sized (2 ^ (K + 1)) ss
   unfolding stages
   all-sized zero k done [] R room ss e = let z : ss ≡ [] = cc in rw z tt
@@ -108,20 +111,24 @@ module _ (rule : WordRule) (K : ℕ) (g : List Node) (r : ℕ → ℕ) (G : Grap
 
 -- ---- the lent areas keep their lengths
 
+-- a list that is no longer than n is filled up to exactly n
 pub length-padded : (n x : ℕ) (xs : List ℕ) → length xs ≤ n → length (padded n x xs) ≡ n
 unfolding padded
 length-padded n x xs h = length-append xs (replicate (n - length xs) x) ∙ omega (arith, length-replicate (n - length xs) x)
 
+-- a list laid over a longer one keeps that one's length
 pub length-laidOver : (xs ys : List ℕ) → length xs ≤ length ys → length (laidOver xs ys) ≡ length ys
 unfolding laidOver
 length-laidOver xs ys h = length-append xs (drop (length xs) ys) ∙ omega (arith, length-drop (length xs) ys)
 
+-- areas that are as long as before
 pub record SameLengths (a b : Areas) : Type 0 where
   pub plan : length (a .plan) ≡ length (b .plan)
   pub words : length (a .words) ≡ length (b .words)
   pub counts : length (a .counts) ≡ length (b .counts)
   pub work : length (a .work) ≡ length (b .work)
 
+-- a build leaves each lent area as long as it was, where its stages fit in the areas
 pub areas-length : (K need : ℕ) (ss : List Stage) (a : Areas) → length (cellsOf ss) ≤ length (a .plan) → length (wordsOf ss) ≤ wordLimit K → wordLimit K ≤ length (a .words) →
     length (countsOf ss) ≤ rooms K (length (a .plan)) → rooms K (length (a .plan)) ≤ length (a .counts) → need ≤ length (a .work) → SameLengths (areasAfter K need ss a) a
 unfolding areasAfter
@@ -134,10 +141,12 @@ areas-length K need ss a c w1 w2 n1 n2 k = record {
 
 -- ---- the fold
 
+-- a stage folds to a bit a position
 pub length-stageBits : (K : ℕ) (g : List Node) (pl : List ℕ) (load : ℕ → Bool) → length (stageBits K g pl load) ≡ 2 ^ (K + 1)
 unfolding stageBits
 length-stageBits K g pl load = length-map (upTo (stageSize K) 0) (λ p. asNumber (bitAt K g pl load p)) ∙ length-upTo (stageSize K) 0
 
+-- and n stages to n times as many
 pub length-fold : (n K : ℕ) (g : List Node) (load : ℕ → Bool) (plan : List ℕ) → length (foldFrom n K g load plan) ≡ n * 2 ^ (K + 1)
 unfolding foldFrom
 length-fold zero K g load plan = omega arith

@@ -22,7 +22,8 @@ use Rattle.rules.proofs.Needed.Needs.{setting-sound}
 use Rattle.rules.proofs.Needed.Lower.{Served}
 use Rattle.rules.proofs.Stage.Staged.{Ended, served, the-end, waits-less, remaining-least, half-height, two-step, length-filledPlan}
 use Rattle.rules.proofs.Stage.Depth.{stage-cases, still-ready, ends}
-use Rattle.rules.proofs.Stage.Under.{same-plan, last-cases, Kept, kept}
+use Rattle.rules.proofs.Stage.Same.{same-plan}
+use Rattle.rules.proofs.Stage.Under.{last-cases, Kept, kept}
 use Rattle.rules.proofs.Written.Writes.{more-whole}
 
 -- whole, with no more stages than ss
@@ -88,6 +89,7 @@ module _ (K : ℕ) (g : List Node) (r : ℕ → ℕ) (G : Graph g r) (tall : 6 �
         | inr q ↦ last (ends neededRuns K g r G tall small done (w ∷ ws) R room2 plan2 (t .words2) realised (t .waiting3) N (q .1))
       ])
 
+  -- a build that the old rule accepts the new one accepts, with no more stages
   pub build-no-more : (given : List ℕ) (groups : List Group) → Ready g r (waitingOf groups []) → (rooms : ℕ) (ss : List Stage) → build everyRun K g given groups rooms ≡ whole ss → NoMore (build neededRuns K g given groups rooms) ss
   unfolding build
   build-no-more given groups R rooms ss e = split (reservable K groups)

@@ -25,6 +25,7 @@ logFrom-good (suc f) j p a b = split (ltb p (2 ^ suc j))
     (λ t. rw (t, logFrom) (record { low = a; high = omega (arith, ltb-true p (2 ^ suc j) t) }))
     (λ t. rw (t, logFrom) (logFrom-good f (suc j) p (ltb-false p (2 ^ suc j) t) (let e : suc j + f ≡ j + suc f = omega arith in rw e b)))
 
+-- every position has such a j: its logarithm
 pub log-good : (p : ℕ) → 1 ≤ p → Log (log2 p) p
 unfolding log2
 log-good p a = logFrom-good p 0 p (omega arith) (let e : 0 + p ≡ p = omega arith in rw e (below-power p))
@@ -33,6 +34,7 @@ log-good p a = logFrom-good p 0 p (omega arith) (let e : 0 + p ≡ p = omega ari
 below : (i j p : ℕ) → Log i p → Log j p → i < j → ⊥
 below i j p a b h = omega (arith, a .high, b .low, pow-mono h)
 
+-- a position has only one such j
 pub log-one : (i j p : ℕ) → Log i p → Log j p → i ≡ j
 log-one i j p a b = split (ltb i j) (λ t. absurd (below i j p a b (ltb-true i j t)))
     (λ t. split (ltb j i) (λ u. absurd (below j i p b a (ltb-true j i u))) (λ u. omega (arith, ltb-false i j t, ltb-false j i u)))

@@ -56,6 +56,7 @@ lower-at K p (suc h) low high e t =
       inside = omega (arith, two-step K, t .row, t .end);
     }
 
+-- a position above level 0 has both its lower cells one level down, inside the stage
 pub lower-cells : (K p : ℕ) → 1 ≤ p → p < 2 ^ K → Lower K p
 lower-cells K p low high = lower-at K p (levelOf K p) low high refl (position-placed K p low (omega (arith, two-step K)))
 
@@ -72,6 +73,7 @@ module _ (K : ℕ) (g : List Node) (pl : List ℕ) (load : ℕ → Bool) where
   cell-empty zero w p e = rw (e, cellBit)
   cell-empty (suc h) w p e = rw (e, cellBit)
 
+  -- an empty cell folds to 0
   pub bit-empty : (p : ℕ) → filled (getD pl p empty) ≡ false → bitAt K g pl load p ≡ false
   unfolding bitAt
   bit-empty zero e = refl
@@ -97,15 +99,18 @@ module _ (K : ℕ) (g : List Node) (pl : List ℕ) (load : ℕ → Bool) where
     cell-second l = bit-cell (secondLower p) (omega (arith, l .above, l .next)) ∙ rw (l .second-level, l .second-row)
 
     module _ (k : filled (getD pl p empty) ≡ true) where
+      -- a filled cell whose first lower cell holds the same pin copies that cell's bit
       pub bit-copies : eqb (getD pl (firstLower p) empty) (getD pl p empty) ≡ true → bitAt K g pl load p ≡ bitAt K g pl load (firstLower p)
       unfolding cellBit firstLower
       bit-copies e = let l = lower-cells K p low high in cell-above l ∙ rw (k, e, cellBit) (sym (cell-first l))
 
       module _ (e : eqb (getD pl (firstLower p) empty) (getD pl p empty) ≡ false) where
+        -- one that doesn't copy folds to 0 where a lower cell is empty
         pub bit-lacks : filled (getD pl (firstLower p) empty) && filled (getD pl (secondLower p) empty) ≡ false → bitAt K g pl load p ≡ false
         unfolding cellBit firstLower secondLower
         bit-lacks b = let l = lower-cells K p low high in cell-above l ∙ rw (k, e, b, cellBit)
 
+        -- and else to the AND of both lower cells, inverted as its pin's gate says
         pub bit-splits : filled (getD pl (firstLower p) empty) && filled (getD pl (secondLower p) empty) ≡ true →
             bitAt K g pl load p ≡ gateBit (bitAt K g pl load (firstLower p)) (bitAt K g pl load (secondLower p)) (getD g (getD pl p empty) leaf)
         unfolding cellBit firstLower secondLower
@@ -130,6 +135,7 @@ module _ (K : ℕ) (g : List Node) (pl : List ℕ) (load : ℕ → Bool) where
         (λ f. rw (k, e, f, cellBit))))
         (λ k. rw (k, cellBit))
 
+    -- a cell that holds no pin of the graph folds to 0, if nothing past the graph is loaded
     pub bit-past : (p : ℕ) → length g ≤ getD pl p empty → bitAt K g pl load p ≡ false
     unfolding bitAt
     bit-past zero b = refl
@@ -137,11 +143,13 @@ module _ (K : ℕ) (g : List Node) (pl : List ℕ) (load : ℕ → Bool) where
 
 -- ---- where a pin stands first
 
+-- pin n stands at position p, above level 0
 pub record Stands (K : ℕ) (pl : List ℕ) (n p : ℕ) : Type 0 where
   pub low : 1 ≤ p
   pub high : p < 2 ^ K
   pub pin : getD pl p empty ≡ n
 
+-- the lowest position that is found for a pin is above level 0 and holds it
 pub lowest-stands : (K : ℕ) (pl : List ℕ) (n p : ℕ) → lowest K pl n ≡ found p → Stands K pl n p
 unfolding lowest
 lowest-stands K pl n p e =
@@ -154,14 +162,17 @@ lowest-stands K pl n p e =
     }
 
 module _ (K : ℕ) (g : List Node) (pl : List ℕ) (load : ℕ → Bool) where
+  -- a pin that is found nowhere is loaded as 0
   pub load-none : (n : ℕ) → lowest K pl n ≡ nothing → loadFrom K g pl load n ≡ false
   unfolding loadFrom
   load-none n e = rw (e, loadFrom)
 
+  -- a pin that is found is loaded with the bit of that position
   pub load-found : (n p : ℕ) → lowest K pl n ≡ found p → loadFrom K g pl load n ≡ bitAt K g pl load p
   unfolding loadFrom
   load-found n p e = rw (e, loadFrom)
 
+  -- a stage that loads nothing past the graph hands nothing past it to the next
   pub load-past : ((n : ℕ) → length g ≤ n → load n ≡ false) → (n : ℕ) → length g ≤ n → loadFrom K g pl load n ≡ false
   load-past none n b = cell (lowest K pl n) (λ e. load-none n e)
       (λ p e. load-found n p e ∙ bit-past K g pl load none p (omega (arith, lowest-stands K pl n p e .pin)))
@@ -174,6 +185,7 @@ getD-upTo zero i k d h = absurd (omega arith)
 getD-upTo (suc n) i zero d h = omega arith
 getD-upTo (suc n) i (suc k) d h = getD-upTo n (suc i) k d (omega arith) ∙ omega arith
 
+-- a stage's bits stand at their positions
 pub getD-stageBits : (K : ℕ) (g : List Node) (pl : List ℕ) (load : ℕ → Bool) (p : ℕ) → p < 2 ^ (K + 1) → getD (stageBits K g pl load) p 0 ≡ asNumber (bitAt K g pl load p)
 unfolding stageBits bitAt asNumber
 getD-stageBits K g pl load p h =
@@ -185,6 +197,7 @@ unfoldable pub folded : ℕ → List Node → (ℕ → Bool) → List ℕ → Li
 folded K g load plan = foldFrom (rooms K (length plan)) K g load plan
 
 module _ (K : ℕ) (g : List Node) (load : ℕ → Bool) where
+  -- the fold of a plan: the bits of its first stage, then the fold of the rest, loaded from that stage
   pub folded-step : (plan : List ℕ) → 2 ^ (K + 1) ≤ length plan →
       folded K g load plan ≡ stageBits K g (take (2 ^ (K + 1)) plan) load ++ folded K g (loadFrom K g (take (2 ^ (K + 1)) plan) load) (drop (2 ^ (K + 1)) plan)
   unfolding folded rooms foldFrom
@@ -192,6 +205,7 @@ module _ (K : ℕ) (g : List Node) (load : ℕ → Bool) where
       let e : length plan / 2 ^ (K + 1) ≡ suc ((length plan - 2 ^ (K + 1)) / 2 ^ (K + 1)) = div-eq-sub-div (pow-pos (K + 1)) h ∙ add-one ((length plan - 2 ^ (K + 1)) / 2 ^ (K + 1)) in
       rw (e, length-drop (2 ^ (K + 1)) plan)
 
+  -- a plan of no stages folds to nothing
   pub folded-none : folded K g load [] ≡ []
   unfolding folded rooms foldFrom
   folded-none = rw zero-div

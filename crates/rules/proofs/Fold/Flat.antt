@@ -27,6 +27,7 @@ unfolding ownBit
 own-take n bits zero h = refl
 own-take n bits (suc p) h = rw (getD-take n bits (suc p) 0 h)
 
+-- bits past those of the graph's pins change no graph value
 pub value-take : (g : List Node) → Valid g → (given bits : List ℕ) (n : ℕ) → length g ≤ n → (f p : ℕ) → p < n → value f g given (take n bits) p ≡ value f g given bits p
 unfolding value
 value-take g ok given bits n w zero p h = refl
@@ -49,6 +50,7 @@ module _ (K : ℕ) (g : List Node) (given bits : List ℕ) where
         let d : drop (2 ^ (K + 1)) (s .plan ++ more) ≡ more = ap (λ (k : ℕ). drop k (s .plan ++ more)) (sym l) ∙ drop-append-seam (s .plan) more in
         rw (t, d)
 
+  -- in the fold of a right plan, the bit of every filled cell is its pin's graph value
   pub folded-bit : (load : ℕ → Bool) (held : ℕ → Type 0) (ss : List Stage) → Right K g given bits load held ss → (n : ℕ) → length ss ≤ n → (more : List ℕ) (i p : ℕ) → i < length ss → 1 ≤ p → p < 2 ^ (K + 1) →
       filled (getD (stageOf ss i .plan) p empty) ≡ true → getD (foldFrom n K g load (cellsOf ss ++ more)) (i * 2 ^ (K + 1) + p) 0 ≡ asNumber (value (length g) g given bits (getD (stageOf ss i .plan) p empty))
   unfolding stageOf cellsOf
@@ -65,12 +67,14 @@ module _ (K : ℕ) (g : List Node) (given bits : List ℕ) where
 
   -- ---- a stage by its number
 
+  -- every filled cell of stage i holds a pin of the graph
   pub named-at : (load : ℕ → Bool) (held : ℕ → Type 0) (ss : List Stage) → Right K g given bits load held ss → (i : ℕ) → i < length ss → (q : ℕ) → filled (getD (stageOf ss i .plan) q empty) ≡ true → getD (stageOf ss i .plan) q empty < length g
   unfolding stageOf
   named-at load held [] R i b = absurd (omega arith)
   named-at load held (s ∷ ss) R zero b = R .0 .names
   named-at load held (s ∷ ss) R (suc i) b = named-at _ _ ss (R .1) i (omega arith)
 
+  -- position 0 of stage i is empty
   pub zeroth-at : (load : ℕ → Bool) (held : ℕ → Type 0) (ss : List Stage) → Right K g given bits load held ss → (i : ℕ) → i < length ss → filled (getD (stageOf ss i .plan) 0 empty) ≡ false
   unfolding stageOf
   zeroth-at load held [] R i b = absurd (omega arith)
@@ -83,6 +87,7 @@ module _ (K : ℕ) (g : List Node) (given bits : List ℕ) where
   first-loaded load held [] R b = absurd (omega arith)
   first-loaded load held (s ∷ ss) R b = R .0 .loads
 
+  -- each pin that a later stage loads stands above level 0 in the stage before it
   pub later-loaded : (load : ℕ → Bool) (held : ℕ → Type 0) (ss : List Stage) → Right K g given bits load held ss → (i : ℕ) → suc i < length ss → (q : ℕ) → 2 ^ K ≤ q →
       filled (getD (stageOf ss (suc i) .plan) q empty) ≡ true → In (getD (stageOf ss (suc i) .plan) q empty) (tree K (stageOf ss i .plan))
   unfolding stageOf

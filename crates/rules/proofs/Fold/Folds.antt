@@ -26,6 +26,7 @@ use Rattle.rules.proofs.Tree.Held.{node}
 
 -- ---- where a pin stands first
 
+-- the place that is found for a pin is in the list and holds it
 pub firstAt-found : (n i : ℕ) (cs : List ℕ) (c : ℕ) → firstAt n i cs ≡ found c → (k : ℕ) × (c ≡ i + k) × (k < length cs) × (getD cs k empty ≡ n)
 unfolding firstAt
 firstAt-found n i [] c e = absurd (let z : _≡_ {A = ℕ} 0 1 = cc in omega arith)
@@ -65,6 +66,7 @@ module _ (g : List Node) (r : ℕ → ℕ) (G : Graph g r) (given bits : List �
   value-gate (suc f) p x y a o e = let h = falls-first p x y e in
       rw (o, e, value-fuel (suc f) f (pinOf x) (omega (arith, h .0)) (omega (arith, h .0)), value-fuel (suc f) f (pinOf y) (omega (arith, h .1)) (omega (arith, h .1)), value)
 
+  -- the graph value of a given pin or a leaf is its own bit
   pub value-own : (f p : ℕ) → 0 < f → In p given ⊎ (getD g p leaf ≡ leaf) → value f g given bits p ≡ ownBit bits p
   unfolding value
   value-own zero p a e = absurd (omega arith)
@@ -98,6 +100,7 @@ module _ (X : Setting) (r : ℕ → ℕ) (f : ℕ) (S : Sound X r f) (G : Graph 
       let b2 : cellBit (X .g) pl load h (2 * w) (p + 2 * w) ≡ value f (X .g) given bits (pinOf y) = ih (2 * w) (p + 2 * w) (omega arith) (omega arith) (omega arith) k2 ∙ ap (value f (X .g) given bits) v in
       cell-split h w p k apart k1 k2 ∙ (λ i. gateBit (b1 i) (b2 i) (c i)) ∙ sym (value-gate (X .g) r G given bits f n x y (S .fuel n (fine p k .0)) (out-sub given (X .done) some n o) c)
 
+  -- every filled cell of level h folds to its pin's graph value
   pub fold-good : (h : ℕ) → Good h
   unfolding cellBit
   fold-good zero w p e a b k = let i = fine p k in rw (k, cellBit) (right (getD pl p empty) (i .0) (i .1 (omega arith)))

@@ -30,6 +30,7 @@ use Rattle.rules.proofs.Tree.Loads.{Fine, fine-kept, fine-first, level-
 use Rattle.rules.proofs.Tree.Sane.{sane-kept, sane-first, frame}
 use Rattle.rules.proofs.Fold.Folds.{position-good, load-good}
 
+-- no operand is the empty mark, in a graph of no more pins than that number
 pub mark : (g : List Node) (r : ℕ → ℕ) → Graph g r → length g ≤ empty → (n a b : ℕ) → getD g n leaf ≡ gate a b → (filled (pinOf a) ≡ true) × (filled (pinOf b) ≡ true)
 unfolding operands mem filled
 mark g r G small n a b e =
@@ -51,6 +52,7 @@ pub zero-kept : (X : Setting) (pl : List ℕ) (h p n : ℕ) → length pl ≡ 2 
 unfolding rowAt
 zero-kept X pl h p n l k a = rw (frame X h (rowAt (X .K) h) p n pl 0 (λ i e. omega (arith, a .row, one-le-pow (X .K - h) 2 (omega arith)))) k
 
+-- where position 0 is empty, a pin that stands somewhere stands above it
 pub above-zero : (pl : List ℕ) (i n : ℕ) → filled (getD pl 0 empty) ≡ false → getD pl i empty ≡ n → filled n ≡ true → 1 ≤ i
 above-zero pl zero n z e k = true-false k (rw e at z)
 above-zero pl (suc i) n z e k = omega arith
@@ -67,6 +69,7 @@ module _ (rule : WordRule) (K : ℕ) (g : List Node) (r : ℕ → ℕ) (G : Grap
     pub cells : (p : ℕ) → 1 ≤ p → p < 2 ^ (K + 1) → filled (getD plan2 p empty) ≡ true → bitAt K g plan2 load p ≡ graphValue (getD plan2 p empty)
     pub next : (n : ℕ) → In n realised → loadFrom K g plan2 load n ≡ graphValue n
 
+  -- a completed stage folds right, and hands right values on, if what it loads at level 0 is right
   pub folded : (done waiting : List ℕ) → Ready g r waiting → Sub given done → (room : ℕ) (plan2 words realised waiting2 : List ℕ) → oneStage rule K g done waiting room ≡ stage plan2 words realised waiting2 →
       (load : ℕ → Bool) → ((n : ℕ) → In n (setting rule K g done waiting .seen) → levelAt (setting rule K g done waiting) n ≡ 0 → load n ≡ graphValue n) → Folded plan2 realised load
   unfolding setting

@@ -39,6 +39,7 @@ pin-got a b rest e = split (eqb a empty && eqb b empty)
     rw (t, nodeOf) (leaf-got rest ∙ cc))
     (λ t. rw (t, nodeOf) (gate-got a b rest (rw (t, nodeOf) at e)))
 
+-- a pin took exactly the bits of a leaf or of a gate whose literals fit, and bits are left
 pub record PinTaken (bs xs rest : List ℕ) : Type 0 where
   pub a : ℕ
   pub b : ℕ
@@ -84,6 +85,7 @@ pin-only bs {xs} {rest} B e =
 
 -- ---- pins in a row
 
+-- pins whose literals fit are read back from their bits
 pub pins-got : (xs rest : List ℕ) → length xs % 2 ≡ 0 → nodesFit (graphOf xs) ≡ true → readPins (length xs / 2) (pinsBits (graphOf xs) ++ rest) ≡ got xs rest
 unfolding readPins pinsBits graphOf nodesFit next
 pins-got [] rest p e = refl
@@ -93,6 +95,7 @@ pins-got (a ∷ b ∷ xs) rest p e =
     let n : suc (suc (length xs)) / 2 ≡ suc (length xs / 2) = omega arith in
     rw (n, readPins, append-assoc (pinBits (nodeOf a b)) (pinsBits (graphOf xs)) rest, pin-got a b (pinsBits (graphOf xs) ++ rest) (h .0), next, pins-got xs rest (omega arith) (h .1))
 
+-- n pins took exactly their bits, all literals fit, and bits are left
 pub record PinsTaken (n : ℕ) (bs xs rest : List ℕ) : Type 0 where
   pub is : bs ≡ pinsBits (graphOf xs) ++ rest
   pub count : length xs ≡ 2 * n
@@ -109,6 +112,7 @@ more-pins P {n} {ys} {rest} Q =
       bits = Q .bits;
     })
 
+-- pins that are read took exactly their bits, and their literals fit
 pub pins-only : (n : ℕ) (bs : List ℕ) {xs rest : List ℕ} → Bits bs → readPins n bs ≡ got xs rest → PinsTaken n bs xs rest
 unfolding readPins pinsBits graphOf nodesFit
 pins-only zero bs B e = same-got (PinsTaken zero bs) e (record { is = refl; count = refl; below = refl; bits = B })

@@ -64,6 +64,7 @@ plain k xs W =
     (λ e. rw e (plain-three xs))
     (λ e. rw e (plain-four xs (omega (arith, ap sizeOf e))))
 
+-- every whole record is written as its kind and its numbers
 pub plain-at : (k : ℕ) (xs : List ℕ) → wholeAt (k ∷ xs) ≡ true → Plain k xs
 plain-at k xs t = plain k xs (whole (k ∷ xs) t)
 
@@ -144,14 +145,17 @@ from-length (suc f) (k ∷ xs) gs e = split (wholeAt (k ∷ xs))
     rw (T .all) (omega (arith, from-length f (drop (sizeOf k) xs) (T .rest) (T .read), length-drop (sizeOf k) xs)))
     (λ t. not-groups (rw (t, readFrom) at e))
 
+-- there are no more records than numbers
 pub read-length : (xs : List ℕ) (gs : List Group) → read xs ≡ groups gs → length gs ≤ length xs
 unfolding read
 read-length xs gs e = from-length (length xs) xs gs e
 
+-- records whose numbers fit are read back from their bits
 pub records-got : (xs : List ℕ) (gs : List Group) (rest : List ℕ) → read xs ≡ groups gs → groupsFit gs ≡ true → readRecords (length gs) (groupsBits gs ++ rest) ≡ got xs rest
 unfolding read
 records-got xs gs rest e h = from-got (length xs) xs gs rest e h
 
+-- n records took exactly their bits, all numbers fit, and bits are left
 pub record RecordsTaken (n : ℕ) (bs xs rest : List ℕ) : Type 0 where
   pub all : List Group
   pub count : length all ≡ n
@@ -196,6 +200,7 @@ more-records R {n} {zs} {rest} Q =
       bits = Q .bits;
     })
 
+-- records that are read took exactly their bits, and their numbers fit
 pub records-only : (n : ℕ) (bs : List ℕ) {xs rest : List ℕ} → Bits bs → readRecords n bs ≡ got xs rest → RecordsTaken n bs xs rest
 unfolding readRecords groupsBits groupsFit
 records-only zero bs B e = same-got (RecordsTaken zero bs) e (record { all = []; count = refl; read = λ f h. none-read f; is = refl; below = refl; bits = B })

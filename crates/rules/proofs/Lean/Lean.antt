@@ -56,6 +56,7 @@ module _ (W : Work) where
   unfolding roomy roomFor
   same-room k = rw (same-needed W k)
 
+  -- a plan for which no number is found has no room
   pub recount-none : {h : ℕ} {pl : List ℕ} → Fair X h pl → (b : ℕ) → recount X b pl ≡ nothing → roomy X pl ≡ false
   unfolding recount
   recount-none {h} {pl} k b e = split (roomFor X b pl)
@@ -64,6 +65,7 @@ module _ (W : Work) where
       (λ c. absurd (let a : found (length (wanted X pl)) ≡ nothing = rw (d, c, recount) at e in let z : _≡_ {A = ℕ} 0 1 = cc in omega arith))
       (λ c. same-room k ∙ c))
 
+  -- a plan for which one is found has room, and no more needed pins than that
   pub recount-found : {h : ℕ} {pl : List ℕ} → Fair X h pl → (b c : ℕ) → length (wanted X pl) ≤ b → recount X b pl ≡ found c → (roomy X pl ≡ true) × (length (wanted X pl) ≤ c)
   unfolding recount
   recount-found {h} {pl} k b c m e = split (roomFor X b pl)
@@ -76,12 +78,14 @@ module _ (W : Work) where
   abbrev pub ends : ℕ → List ℕ → List ℕ
   ends h pl = fill X (turns X r f S small h pl) h pl
 
+  -- fuel for the turns that are left always comes to that plan
   pub any-fuel : (t h : ℕ) (pl : List ℕ) → h ≤ X .K → length pl ≡ 2 ^ (X .K + 1) → turns X r f S small h pl ≤ t → fill X t h pl ≡ ends h pl
   any-fuel t h pl b l m =
       let n : ℕ = turns X r f S small h pl in
       let z : t ≡ (t - n) + n = omega arith in
       subst (λ (x : ℕ). fill X x h pl ≡ ends h pl) (sym z) (fill-any X r f S small (t - n) n h pl b l (omega arith))
 
+  -- at level 1 and 0 nothing more is placed
   pub ends-low : (h : ℕ) (pl : List ℕ) → h ≤ 1 → ends h pl ≡ pl
   unfolding fill
   ends-low h pl b = low (turns X r f S small h pl) h b
@@ -107,18 +111,22 @@ module _ (W : Work) where
     unfolding fill
     turn-no-pin d = one-more ∙ cell (cellAt X h pl) (λ e. rw (e, fill) next) (λ p e. rw (e, d, fill) next)
 
+    -- no empty cell: one level down
     pub turn-no-cell : cellAt X h pl ≡ nothing → ends h pl ≡ ends (suc l) pl
     unfolding fill
     turn-no-cell e = one-more ∙ rw (e, fill) next
 
+    -- no room with the pin placed: one level down, without it
     pub turn-no-room : (p n : ℕ) → cellAt X h pl ≡ found p → pinAt X h pl ≡ found n → roomy X (placed X h p n pl) ≡ false → ends h pl ≡ ends (suc l) pl
     unfolding fill
     turn-no-room p n e d q = one-more ∙ rw (e, d, q, fill) next
 
+    -- a listed pin of the level may be placed at the level's lowest empty cell
     pub at-cell : (p n : ℕ) → cellAt X h pl ≡ found p → In n (X .seen) → levelAt X n ≡ h → Placeable X pl h p n
     unfolding cellAt
     at-cell p n e i v = let c = row-empty (X .K) h pl p e in record { low = omega arith; high = high; row = c .0; end = c .1; free = c .2; listed = i; level = omega arith }
 
+    -- room left: the pin stays placed, and the level goes on
     pub turn-placed : (p n : ℕ) → cellAt X h pl ≡ found p → pinAt X h pl ≡ found n → In n (X .seen) → levelAt X n ≡ h → roomy X (placed X h p n pl) ≡ true → ends h pl ≡ ends h (placed X h p n pl)
     unfolding fill placed
     turn-placed p n e d i v q =
@@ -126,9 +134,11 @@ module _ (W : Work) where
         let o = one-filled X r f S small h p n pl high (F .len) (a .row) (a .end) (a .free) (listed-filled W n i) in
         one-more ∙ rw (e, d, q, fill) (any-fuel (turns X r f S small h pl) h (placed X h p n pl) high (fair-kept W h p n F a .len) (omega (arith, o)))
 
+  -- when a level begins, all its candidates are still to try
   pub going-first : (h b : ℕ) (pl : List ℕ) → Fair X h pl → length (wanted X pl) ≤ b → Going X h (candidates X h) b pl
   going-first h b pl F m = record { fair = F; before = []; whole = refl; gone = λ q e. in-nil q e; enough = m }
 
+  -- rule 4 takes the first unplaced of the candidates that are still to try
   pub choice : {h b : ℕ} {ns pl : List ℕ} → Going X h ns b pl → 1 ≤ h → pinAt X h pl ≡ firstFree (treeOf X pl) ns
   choice {h} {b} {ns} {pl} G low = pin-first W (G .fair) h low ∙ rw (G .whole) (free-past (treeOf X pl) (G .before) ns (G .gone))
 
@@ -168,6 +178,7 @@ module _ (W : Work) where
   stops : (l b : ℕ) (ns pl : List ℕ) → Going X (suc (suc l)) ns b pl → ends (suc (suc l)) pl ≡ ends (suc l) pl → Swept l pl (record { most = b; plan = pl })
   stops l b ns pl G e = record { same = e; fair = fair-down W (suc l) (G .fair); enough = G .enough }
 
+  -- one level's candidates come to what the rules' turns at that level come to
   pub swept : (l : ℕ) → suc (suc l) ≤ X .K → (ns : List ℕ) (b : ℕ) (pl : List ℕ) → Going X (suc (suc l)) ns b pl → Swept l pl (sweep X (suc (suc l)) ns b pl)
   unfolding sweep firstFree
   swept l high [] b pl G = stops l b [] pl G (turn-no-pin l high pl (G .fair) (choice G (omega arith)))
@@ -210,10 +221,12 @@ module _ (W : Work) where
       e ∙ sym (any-fuel (2 ^ (X .K) + X .K) top (blank X) (omega arith) (F .len)
       (omega (arith, count-length vacant (row (X .K) top (blank X)), row-length X r f S small top (blank X) (omega arith) (F .len), rows (X .K) top (omega arith), mul-le-mul-left (rowAt (X .K) top) (one-le-pow top 2 (omega arith)))))
 
+  -- what holds of a plan while it is filled holds of the lean plan
   pub lean-fair : Fair X 0 (leanPlan X)
   unfolding leanPlan
   lean-fair = lean-ends top (omega arith) (length (wanted X (blank X))) (blank X) (fair-first W top) (omega arith) .1
 
+  -- and of the plan of rules 2 to 7
   pub filled-fair : Fair X 0 (filledPlan X)
   filled-fair = rw lean-plan at lean-fair
 
@@ -231,6 +244,7 @@ module _ (W : Work) where
   lean-any zero high b m = fair-first W 1
   lean-any (suc h) high b m = lean-one (suc h) (omega arith) high b (blank X) (fair-first W (suc h)) m
 
+  -- under an empty cell of level 1 the lean plan is empty too
   pub lean-tidy : Fair X 1 (leanPlan X)
   unfolding leanPlan
   lean-tidy = lean-any top (omega arith) (length (wanted X (blank X))) (omega arith)
@@ -239,8 +253,10 @@ module _ (W : Work) where
   pub lean-needed : neededOf X (filledPlan X) ≡ wanted X (leanPlan X)
   lean-needed = rw lean-plan (same-needed W filled-fair)
 
+  -- the needed waiting pins are the unplaced ones of level 0 and 1
   pub lean-inNeed : inNeed X (filledPlan X) ≡ lowWaiting X (leanPlan X)
   lean-inNeed = rw lean-plan (same-inNeed W filled-fair)
 
+  -- the untouched ones are those of level 2 and above
   pub lean-untouched : untouched X (filledPlan X) ≡ highWaiting X (leanPlan X)
   lean-untouched = rw lean-plan (same-untouched W filled-fair)

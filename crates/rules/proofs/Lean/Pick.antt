@@ -61,11 +61,13 @@ module _ (rl : List ℕ) where
       (λ d. rw (d, rankIn) (more {x = x} (λ y e. elim (rankIn-in p xs y e) [ inl c ↦ rw c (omega (arith, ltb-true (getD rl p 0) (getD rl x 0) d)) | inr c ↦ h y c ]) (rankIn-falling p t)))
       (λ d. rw (d, rankIn) (more {x = p} (λ y e. elim (in-cons y x xs e) [ inl c ↦ rw c (ltb-false (getD rl p 0) (getD rl x 0) d) | inr c ↦ omega (arith, h y c, ltb-false (getD rl p 0) (getD rl x 0) d) ]) (more h t)))
 
+  -- a ranked list falls
   pub rank-falling : (ps : List ℕ) → Falling rl (rank rl ps)
   unfolding rank
   rank-falling [] = none
   rank-falling (p ∷ ps) = rankIn-falling p (rank-falling ps)
 
+  -- ranking adds no pin
   pub rank-in : (ps : List ℕ) (y : ℕ) → In y (rank rl ps) → In y ps
   unfolding rank
   rank-in [] y e = e
@@ -79,6 +81,7 @@ free-in tr (x ∷ xs) q e = split (mem x tr)
     (λ d. let k = free-in tr xs q (rw (d, firstFree) at e) in (in-there q x xs (k .0), k .1))
     (λ d. let c : found x ≡ found q = rw (d, firstFree) at e in let b : x ≡ q = cc in rw (← b) (in-here x xs, d))
 
+-- pins that are all placed are passed over
 pub free-past : (tr xs ys : List ℕ) → ((x : ℕ) → In x xs → In x tr) → firstFree tr (xs ++ ys) ≡ firstFree tr ys
 unfolding firstFree
 free-past tr [] ys h = refl
@@ -155,10 +158,12 @@ module _ (W : Work) where
   abbrev small : length (X .g) ≤ empty
   small = W .small
 
+  -- the pins of a level's list are listed pins of that level
   pub level-in : (h q : ℕ) → In q (levelList X h) → In q (X .seen) × (levelAt X q ≡ h)
   unfolding levelList
   level-in h q e = let k = keep-in _ q (X .order) e in (S .listed q (k .0), eqb-true (levelAt X q) h (k .1))
 
+  -- and so are the level's candidates
   pub candidate : (h q : ℕ) → In q (candidates X h) → In q (X .seen) × (levelAt X q ≡ h)
   unfolding candidates
   candidate h q e = level-in h q (rank-in (startLevels X) (levelList X h) q e)

@@ -58,6 +58,7 @@ module _ (X : Setting) (r : ℕ → ℕ) (f : ℕ) (S : Sound X r f) where
   abbrev pub Closed : List ℕ → Type 0
   Closed tr = (p x : ℕ) → In p (X .seen) → In x (below (X .g) (X .done) p) → 2 ≤ levelAt X p → In p tr → In x tr
 
+  -- an unplaced gate keeps its first reverse level, if placed pins of level 2 or more have placed operands
   pub steady : (tr : List ℕ) → Closed tr → (x : ℕ) → 1 ≤ levelAt X x → Out x tr → getD (reverseLevels X tr) x 0 ≡ getD (startLevels X) x 0
   unfolding startLevels reverseLevels
   steady tr k x l o = lifts-same (X .g) (X .done) (tr ++ X .done) (λ y. (1 ≤ levelAt X y) × Out y tr) (λ q e. in-append-right q tr (X .done) e) (X .seen)

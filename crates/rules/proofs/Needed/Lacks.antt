@@ -25,11 +25,13 @@ use Rattle.rules.proofs.Written.Words.{once-insertAll}
 use Rattle.rules.proofs.Tree.Cone.{unplaced}
 use Rattle.rules.specs.Inside.Plans.{Fair}
 
+-- what is gathered depends only on what each entry gives
 pub gather-ext : (f g : ℕ → List ℕ) (xs : List ℕ) → ((x : ℕ) → In x xs → f x ≡ g x) → gather f xs ≡ gather g xs
 unfolding gather
 gather-ext f g [] h = refl
 gather-ext f g (x ∷ xs) h = rw (h x (in-here x xs), gather-ext f g xs (λ y i. h y (in-there y x xs i)))
 
+-- what is kept depends only on how each entry tests
 pub keep-ext : (f g : ℕ → Bool) (xs : List ℕ) → ((x : ℕ) → In x xs → f x ≡ g x) → keep f xs ≡ keep g xs
 unfolding keep
 keep-ext f g [] h = refl
@@ -38,20 +40,25 @@ keep-ext f g (x ∷ xs) h =
     let e : f x ≡ g x = h x (in-here x xs) in
     split (g x) (λ d. let c : f x ≡ true = e ∙ d in rw (c, d, keep, t)) (λ d. let c : f x ≡ false = e ∙ d in rw (c, d, keep, t))
 
+-- two tests that pass in the same cases are the same
 pub same-truth : (a b : Bool) → (a ≡ true → b ≡ true) → (b ≡ true → a ≡ true) → a ≡ b
 same-truth true b h k = sym (h refl)
 same-truth false true h k = k refl
 same-truth false false h k = refl
 
+-- what tests at most is at most
 pub leb-true : (m n : ℕ) → leb m n ≡ true → m ≤ n
 leb-true m n e = leb→le m n (true→T e)
 
+-- and what is at most tests so
 pub true-leb : (m n : ℕ) → m ≤ n → leb m n ≡ true
 true-leb m n h = T→true _ (le→leb m n h)
 
+-- what is below tests below
 pub true-ltb : (m n : ℕ) → m < n → ltb m n ≡ true
 true-ltb m n h = T→true _ (lt→ltb m n h)
 
+-- and what isn't doesn't
 pub false-ltb : (m n : ℕ) → n ≤ m → ltb m n ≡ false
 false-ltb m n h = split (ltb m n) (λ e. absurd (omega (arith, ltb-true m n e))) (λ e. e)
 
@@ -77,6 +84,7 @@ module _ (X : Setting) where
       let k = gather-in (lacks X (treeOf X pl)) x (X .order) (distinct-in x (gather (lacks X (treeOf X pl)) (X .order)) e) in
       split (mem (k .0) (treeOf X pl)) (λ d. in-nil x (rw (d, lacks) at (k .2))) (λ d. (k .0, k .1, d, rw (d, lacks) at (k .2)))
 
+  -- and what an unplaced pin asks for is needed
   pub in-wanted : (pl : List ℕ) (x p : ℕ) → In p (X .order) → Out p (treeOf X pl) → In x (asked X (treeOf X pl) p (levelAt X p)) → In x (wanted X pl)
   unfolding wanted lacks
   in-wanted pl x p i o e = in-distinct x (gather (lacks X (treeOf X pl)) (X .order)) (in-gather (lacks X (treeOf X pl)) x p (X .order) i (rw (o, lacks) e))
@@ -87,10 +95,12 @@ module _ (X : Setting) where
       let k = wanted-in pl2 x e in
       in-wanted pl x (k .0) (k .1) (out-sub (treeOf X pl) (treeOf X pl2) h (k .0) (k .2)) (asked-falls (treeOf X pl) (treeOf X pl2) h (k .0) (levelAt X (k .0)) x (k .3))
 
+  -- so there are no more of them
   pub fewer : (pl pl2 : List ℕ) → Sub (treeOf X pl) (treeOf X pl2) → length (wanted X pl2) ≤ length (wanted X pl)
   unfolding wanted distinct
   fewer pl pl2 h = once-length (once-insertAll (gather (lacks X (treeOf X pl2)) (X .order)) nobody) (wanted X pl) (wanted-falls pl pl2 h)
 
+  -- needed pins are of level 0 or 1
   pub wanted-low : (pl : List ℕ) (x : ℕ) → In x (wanted X pl) → levelAt X x ≤ 1
   wanted-low pl x e = let k = wanted-in pl x e in asked-low X (treeOf X pl) (k .0) (levelAt X (k .0)) x refl (k .3)
 
@@ -154,10 +164,12 @@ module _ (W : Work) where
   by-level pl p i o = same-truth (mem p (wanted X pl)) (leb (levelAt X p) 1) (λ e. true-leb (levelAt X p) 1 (wanted-low X pl p e))
       (λ e. in-wanted X pl p p (S .ordered p (S .visited .has p i)) o (asks-itself X (treeOf X pl) p (levelAt X p) i (leb-true (levelAt X p) 1 e)))
 
+  -- S4: the needed waiting pins are the unplaced ones of level 0 and 1
   pub same-inNeed : {h : ℕ} {pl : List ℕ} → Fair X h pl → inNeed X pl ≡ lowWaiting X pl
   unfolding inNeed lowWaiting
   same-inNeed {h} {pl} k = rw (same-needed k) (keep-ext _ _ (X .waiting) (λ p i. split (mem p (treeOf X pl)) (λ e. rw e) (λ e. rw (e, by-level pl p i e))))
 
+  -- and the untouched ones those of level 2 and above
   pub same-untouched : {h : ℕ} {pl : List ℕ} → Fair X h pl → untouched X pl ≡ highWaiting X pl
   unfolding untouched highWaiting
   same-untouched {h} {pl} k = rw (same-needed k) (keep-ext _ _ (X .waiting) (λ p i. split (mem p (treeOf X pl)) (λ e. rw e) (λ e. rw (e, by-level pl p i e, above-one (levelAt X p)))))

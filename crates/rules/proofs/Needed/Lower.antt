@@ -69,6 +69,7 @@ module _ (X : Setting) (r : ℕ → ℕ) (f : ℕ) (S : Sound X r f) (pl pl2 : L
         (λ e. rw (depth-at (X .g) stop r stops f q (S .fuel q (listed fr)))
         (low q fr e (λ x d. lowers-to n x (omega (arith, stops q x d)) (step fr d)) (depth f (X .g) (X .done) q) refl (above q fr)))
 
+    -- every pin that is still reached from what waits is one less deep, if it had any depth
     pub lowers : (q : ℕ) → From (X .g) stop ws q → depth f (X .g) stop q ≤ pred (depth f (X .g) (X .done) q)
     lowers q fr = lowers-to f q (S .fuel q (listed fr)) fr
 
@@ -98,5 +99,6 @@ module _ (X : Setting) (r : ℕ → ℕ) (f : ℕ) (S : Sound X r f) (pl pl2 : L
     hold x (start e) z o = given x (start e) o 0 z x (in-keep _ x (x ∷ []) (in-here x []) (less x e))
     hold x (step {q = q} fr d) z o = held x (step fr d) z o (depth f (X .g) (X .done) q) q fr refl d
 
+    -- a pin of depth 0 that is still reached is in the tree
     pub holds : (x : ℕ) → From (X .g) stop ws x → depth f (X .g) stop x ≡ 0 → In x (treeOf X pl2)
     holds x fr z = split (mem x (treeOf X pl2)) (λ e. e) (λ o. hold x fr (flat x fr z o) o)

@@ -22,6 +22,7 @@ use native.Mathlib.Omega.{arith}
 nothing-in : (ys : List ℕ) → Sub [] ys
 nothing-in ys q e = in-nil q e
 
+-- ranks that fall along operands fall whichever pins stop
 pub falls-always : (g : List Node) (r : ℕ → ℕ) → Graph g r → (stop : List ℕ) → Ranked g stop r
 falls-always g r G stop p x e = G .falls p x (below-sub g [] stop (nothing-in stop) p x e)
 
@@ -29,6 +30,7 @@ from-inside : (g : List Node) (r : ℕ → ℕ) → Graph g r → (stop ps : Lis
 from-inside g r G stop ps h (start {q = q} e) = h q e
 from-inside g r G stop ps h (step {q = q} {x = x} f e) = G .inside q x (below-sub g [] stop (nothing-in stop) q x e)
 
+-- what a stage starts from is sound: its traversal, order and levels
 pub setting-sound : (rule : WordRule) (K : ℕ) (g : List Node) (r : ℕ → ℕ) → Graph g r → (done waiting : List ℕ) → ((x : ℕ) → In x waiting → (x < length g) × (r x < length g)) → Sound (setting rule K g done waiting) r (length g)
 unfolding setting levelAt
 setting-sound rule K g r G done waiting h =
@@ -66,6 +68,7 @@ module _ (X : Setting) (r : ℕ → ℕ) (f : ℕ) (S : Sound X r f) where
   asked-listed tr p (suc zero) x i e = elim (in-cons x p [] e) [ inl d ↦ rw d i | inr d ↦ in-nil x d ]
   asked-listed tr p (suc (suc l)) x i e = topo-closed (X .g) (X .done) (S .visited .topo) p x i (keep-in _ x (below (X .g) (X .done) p) e .0)
 
+  -- so every needed pin is listed
   pub need-listed : (pl : List ℕ) (x : ℕ) → In x (neededOf X pl) → In x (X .seen)
   unfolding neededOf needed asks
   need-listed pl x e =

@@ -16,11 +16,13 @@ use Rattle.rules.proofs.Written.Words.{once-insertAll}
 
 -- ---- lists
 
+-- of several numbers put behind a list the last comes last
 pub insertAll-snoc : (xs : List ℕ) (x : ℕ) (ys : List ℕ) → insertAll (xs ++ (x ∷ [])) ys ≡ insert x (insertAll xs ys)
 unfolding insertAll
 insertAll-snoc [] x ys = refl
 insertAll-snoc (y ∷ xs) x ys = insertAll-snoc xs x (insert y ys)
 
+-- one more entry behind a list gives one more behind what it gives
 pub map-snoc : {A B : Type 0} (f : A → B) (xs : List A) (x : A) → map f (xs ++ (x ∷ [])) ≡ map f xs ++ (f x ∷ [])
 map-snoc f [] x = refl
 map-snoc f (y ∷ xs) x = ap (λ (l : List _). f y ∷ l) (map-snoc f xs x)
@@ -28,11 +30,13 @@ map-snoc f (y ∷ xs) x = ap (λ (l : List _). f y ∷ l) (map-snoc f xs x)
 -- ---- the numbers at a pin
 
 module _ (a : Activation) where
+  -- one more activation puts its number behind those at its own pin
   pub codes-same : (p : ℕ) (ys : List Activation) (cs : List ℕ) → a .pin ≡ p → codesAt p (ys ++ (a ∷ [])) cs ≡ insert (a .code) (codesAt p ys cs)
   unfolding codesAt
   codes-same p [] cs e = rw (e, eqb-same p, codesAt) refl
   codes-same p (y ∷ ys) cs e = split (eqb (y .pin) p) (λ b. rw (b, codesAt) (codes-same p ys (insert (y .code) cs) e)) (λ b. rw (b, codesAt) (codes-same p ys cs e))
 
+  -- and leaves those at another pin
   pub codes-other : (p : ℕ) (ys : List Activation) (cs : List ℕ) → eqb (a .pin) p ≡ false → codesAt p (ys ++ (a ∷ [])) cs ≡ codesAt p ys cs
   unfolding codesAt
   codes-other p [] cs e = rw (e, codesAt) refl
@@ -124,6 +128,7 @@ module _ (a : Activation) (ys : List Activation) where
 
 -- ---- one record more
 
+-- one more record adds one if it is a memory
 pub memories-snoc : (xs : List Group) (x : Group) → memories (xs ++ (x ∷ [])) ≡ memories xs + memories (x ∷ [])
 unfolding memories
 memories-snoc [] x = omega arith
@@ -132,6 +137,7 @@ memories-snoc (flipFlop e d ∷ xs) x = memories-snoc xs x
 memories-snoc (memory ls ∷ xs) x = omega (arith, memories-snoc xs x)
 memories-snoc (stagedPin p ∷ xs) x = memories-snoc xs x
 
+-- the duplicates of records are those of their activations
 pub duplicates-repeats : (xs : List Group) → duplicates xs ≡ repeats (activations xs)
 unfolding duplicates
 duplicates-repeats xs = refl
@@ -141,6 +147,7 @@ grow : (ys zs : List Activation) → repeats ys ≤ repeats (ys ++ zs)
 grow ys [] = rw (append-nil ys) (omega arith)
 grow ys (z ∷ zs) = let e : ys ++ (z ∷ zs) ≡ (ys ++ (z ∷ [])) ++ zs = sym (append-assoc ys (z ∷ []) zs) in rw e (omega (arith, repeats-grow z ys, grow (ys ++ (z ∷ [])) zs))
 
+-- records behind records: activations behind activations
 pub activations-append : (xs ys : List Group) → activations (xs ++ ys) ≡ activations xs ++ activations ys
 unfolding activations
 activations-append [] ys = refl
@@ -149,9 +156,11 @@ activations-append (flipFlop e d ∷ xs) ys = rw (activations-append xs ys)
 activations-append (memory ls ∷ xs) ys = activations-append xs ys
 activations-append (stagedPin p ∷ xs) ys = rw (activations-append xs ys)
 
+-- more records have no fewer duplicates
 pub duplicates-grow : (xs ys : List Group) → duplicates xs ≤ duplicates (xs ++ ys)
 duplicates-grow xs ys = rw (duplicates-repeats xs, duplicates-repeats (xs ++ ys), activations-append xs ys) (grow (activations xs) (activations ys))
 
+-- and no fewer memories
 pub memories-grow : (xs ys : List Group) → memories xs ≤ memories (xs ++ ys)
 unfolding memories
 memories-grow [] ys = omega arith
@@ -160,6 +169,7 @@ memories-grow (flipFlop e d ∷ xs) ys = memories-grow xs ys
 memories-grow (memory ls ∷ xs) ys = omega (arith, memories-grow xs ys)
 memories-grow (stagedPin p ∷ xs) ys = memories-grow xs ys
 
+-- one more record puts its pins behind the waiting list, pin 0 and those present left out
 pub waitingOf-snoc : (xs : List Group) (x : Group) (ws : List ℕ) → waitingOf (xs ++ (x ∷ [])) ws ≡ insertAll (keep (ltb 0) (endpointsOf x)) (waitingOf xs ws)
 unfolding waitingOf
 waitingOf-snoc [] x ws = refl

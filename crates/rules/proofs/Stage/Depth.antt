@@ -23,14 +23,17 @@ use Rattle.rules.proofs.Stage.Over.{stage-over, seven-or-eight}
 use Rattle.rules.proofs.Stage.Last.{once-swapOutAll}
 use Rattle.rules.proofs.Stage.Flat.{none-wait}
 
+-- a stage is refused, or completed
 pub stage-cases : {P : Type 0} (x : Stage?) → ((n : ℕ) → x ≡ refused n → P) → ((plan2 words realised waiting2 : List ℕ) → x ≡ stage plan2 words realised waiting2 → P) → P
 stage-cases (refused n) f h = f n refl
 stage-cases (stage a b c d) f h = h a b c d refl
 
+-- level 1 is whole runs of 32 cells
 pub multiple : (K : ℕ) → 6 ≤ K → rowAt K 1 ≡ 32 * (rowAt K 1 / 32)
 unfolding rowAt
 multiple K h = let e : K - 1 ≡ suc (suc (suc (suc (suc (K - 6))))) = omega arith in rw e (omega arith)
 
+-- a refusal with a stage in front is that of what follows
 pub more-refused : (s : Stage) (a : Answer) (n k : ℕ) → more s a ≡ refusal n k → a ≡ refusal n k
 unfolding more
 more-refused s (refusal m j) n k e = e
@@ -41,6 +44,7 @@ module _ (rule : WordRule) (K : ℕ) (g : List Node) (r : ℕ → ℕ) (G : Grap
     low : 1 ≤ K
     low = omega arith
 
+    -- after a completed stage each waiting pin stands once and is a pin of the graph
     pub still-ready : Ready g r waiting2
     unfolding setting
     still-ready = record {
@@ -48,9 +52,11 @@ module _ (rule : WordRule) (K : ℕ) (g : List Node) (r : ℕ → ℕ) (G : Grap
       bounded = λ x i. R .bounded x (waits-less rule K g r G low small done waiting (R .bounded) room plan2 words realised waiting2 e x i);
     }
 
+    -- after a completed stage what is left is one less deep
     pub falls : remaining (length g) g (realised ++ done) waiting2 ≤ pred (remaining (length g) g done waiting)
     falls = remaining-falls rule K g r G low small done waiting (R .bounded) room plan2 words realised waiting2 e
 
+    -- and where no depth was left nothing waits
     pub ends : remaining (length g) g done waiting ≡ 0 → waiting2 ≡ []
     unfolding setting
     ends z = none-wait (setting rule K g done waiting) r (length g) (setting-sound rule K g r G done waiting (R .bounded)) (half-height K low) small (multiple K tall) (R .once)
@@ -79,6 +85,7 @@ module _ (rule : WordRule) (K : ℕ) (g : List Node) (r : ℕ → ℕ) (G : Grap
   none-after (suc s) done [] room z e = absurd (let y : _≡_ {A = ℕ} 0 1 = cc in omega arith)
   none-after (suc s) done (w ∷ ws) room z e = absurd (let y : _≡_ {A = ℕ} 0 1 = cc in omega arith)
 
+  -- every state that completed stages leave is so
   pub shallow : (s : ℕ) (done waiting : List ℕ) → Ready g r waiting → (room : ℕ) {done2 waiting2 : List ℕ} {room2 : ℕ} → afterFrom rule K g s done waiting room ≡ state done2 waiting2 room2 → Shallow s done waiting done2 waiting2
   unfolding afterFrom
   shallow zero done waiting R room {done2} {waiting2} e =

@@ -23,7 +23,8 @@ use Rattle.rules.proofs.Needed.Needs.{need}
 use Rattle.rules.proofs.Tree.Held.{tree-in, firstEmpty-found, length-place1, place1-other}
 use Rattle.rules.proofs.Stage.Puts.{cell, Keeps, runs-fit, lowest}
 use Rattle.rules.proofs.Stage.Staged.{Ended, written-keeps, need-filled, two-step}
-use Rattle.rules.proofs.Stage.Last.{all-out, Counts, runs-count, Solid, runs-solid, Blank, blank-take, blank-drop, starts, runsFrom-start}
+use Rattle.rules.proofs.Stage.Last.{all-out}
+use Rattle.rules.proofs.Stage.Runs.{Counts, runs-count, Solid, runs-solid, Blank, blank-take, blank-drop, starts, runsFrom-start}
 
 greatest-zero : (h : ℕ → ℕ) (xs : List ℕ) → ((x : ℕ) → In x xs → h x ≡ 0) → greatest (map h xs) 0 ≡ 0
 unfolding greatest
@@ -35,6 +36,7 @@ unfolding fill
 fill-zero X zero pl = refl
 fill-zero X (suc f) pl = refl
 
+-- a plan of empty marks has no filled cell
 pub blank-replicate : (n : ℕ) → Blank (replicate n empty)
 unfolding filled empty
 blank-replicate zero i = refl
@@ -125,6 +127,7 @@ module _ (X : Setting) (r : ℕ → ℕ) (f : ℕ) (S : Sound X r f) (half : 2 ^
       let full2 : filled (getD pl2 (rowAt (X .K) 1 + k) empty) ≡ true = rest-stays X half (neededOf X pl0) (written X pl0 .real) (written X pl0 .plan) pl2 (omega (arith, wk .len, long)) e (rowAt (X .K) 1 + k) (omega arith) full1 in
       true-false full2 (rw (getD-take (rowAt (X .K) 1) (drop (rowAt (X .K) 1) pl2) k empty j, getD-drop) at (t .3))
 
+  -- where all waiting pins have depth 0, a stage that is not refused leaves none to wait
   pub none-wait : (pl2 realised waiting2 : List ℕ) → Ended X (filledPlan X) pl2 realised waiting2 → waiting2 ≡ []
   none-wait pl2 realised waiting2 e =
       let d : Ended X pl0 pl2 realised waiting2 = rw the-plan at e in

@@ -21,6 +21,7 @@ use Rattle.rules.proofs.Tree.Loads.{rows, wide}
 use Rattle.rules.proofs.Tree.Sane.{frame, head}
 use Rattle.rules.proofs.Tree.Invariant.{row-empty, choose-good}
 
+-- no more entries are counted than there are
 pub count-length : (f : ℕ → Bool) (xs : List ℕ) → count f xs ≤ length xs
 unfolding count
 count-length f [] = omega arith
@@ -37,6 +38,7 @@ count-falls f d (x ∷ xs) (y ∷ ys) (suc k) l b h a c =
     let t : suc (count f ys) ≡ count f xs = count-falls f d xs ys k (omega arith) (omega arith) (λ i g n. h (suc i) (omega arith) (λ e. n (omega arith))) a c in
     split (f x) (λ e. let e2 : f y ≡ true = rw s e in rw (e, e2, count) (ap suc t)) (λ e. let e2 : f y ≡ false = rw s e in rw (e, e2, count) t)
 
+-- is a cell empty
 abbrev pub vacant : ℕ → Bool
 vacant c = not (filled c)
 
@@ -45,14 +47,17 @@ module _ (X : Setting) (r : ℕ → ℕ) (f : ℕ) (S : Sound X r f) (small : le
   abbrev pub vacancies : ℕ → List ℕ → ℕ
   vacancies h pl = count vacant (row (X .K) h pl)
 
+  -- a row has the cells of its level
   pub row-length : (h : ℕ) (pl : List ℕ) → h ≤ X .K → length pl ≡ 2 ^ (X .K + 1) → length (row (X .K) h pl) ≡ rowAt (X .K) h
   unfolding row
   row-length h pl b l = simp (length-take, length-drop) (omega (arith, two-step (X .K), rows (X .K) h b, mul-le-mul-left (rowAt (X .K) h) (one-le-pow h 2 (omega arith))))
 
+  -- a row's cells are those of the plan from the row's start on
   pub row-at : (h : ℕ) (pl : List ℕ) (i : ℕ) → i < rowAt (X .K) h → getD (row (X .K) h pl) i empty ≡ getD pl (rowAt (X .K) h + i) empty
   unfolding row
   row-at h pl i b = getD-take (rowAt (X .K) h) (drop (rowAt (X .K) h) pl) i empty b ∙ getD-drop (rowAt (X .K) h) pl i empty
 
+  -- placing a pin leaves one empty cell less in the row
   pub one-filled : (h p n : ℕ) (pl : List ℕ) → h ≤ X .K → length pl ≡ 2 ^ (X .K + 1) → rowAt (X .K) h ≤ p → p < rowAt (X .K) h + rowAt (X .K) h → filled (getD pl p empty) ≡ false → filled n ≡ true →
       suc (vacancies h (place X h (rowAt (X .K) h) p n pl)) ≡ vacancies h pl
   one-filled h p n pl b l lo hi e g =
@@ -82,9 +87,11 @@ module _ (X : Setting) (r : ℕ → ℕ) (f : ℕ) (S : Sound X r f) (small : le
   abbrev pub turns : ℕ → List ℕ → ℕ
   turns h pl = h + vacancies h pl + (2 ^ (X .K) - 2 * rowAt (X .K) h)
 
+  -- fewer turns are left one level down
   pub down : (h : ℕ) (pl : List ℕ) → suc (suc h) ≤ X .K → length pl ≡ 2 ^ (X .K + 1) → turns (suc h) pl < turns (suc (suc h)) pl
   down h pl b l = omega (arith, row-twice (suc h) b .0, row-twice h (omega arith) .1, count-length vacant (row (X .K) (suc h) pl), row-length (suc h) pl (omega arith) l)
 
+  -- with fuel for the turns that are left, one more gives the same plan
   pub fill-more : (t h : ℕ) (pl : List ℕ) → h ≤ X .K → length pl ≡ 2 ^ (X .K + 1) → turns h pl ≤ t → fill X (suc t) h pl ≡ fill X t h pl
   unfolding fill placed cellAt pinAt
   fill-more zero zero pl b l m = refl
@@ -103,6 +110,7 @@ module _ (X : Setting) (r : ℕ → ℕ) (f : ℕ) (S : Sound X r f) (small : le
       rw (e, d, q, fill) (fill-more t (suc (suc h)) (place X (suc (suc h)) (rowAt (X .K) (suc (suc h))) p n pl) b (len-place X (suc (suc h)) (rowAt (X .K) (suc (suc h))) p n pl ∙ l) (omega arith)))
       (λ q. rw (e, d, q, fill) (fill-more t (suc h) pl (omega arith) l (omega (arith, down h pl b l))))))
 
+  -- and so does any more fuel
   pub fill-any : (k t h : ℕ) (pl : List ℕ) → h ≤ X .K → length pl ≡ 2 ^ (X .K + 1) → turns h pl ≤ t → fill X (k + t) h pl ≡ fill X t h pl
   fill-any zero t h pl b l m = let z : 0 + t ≡ t = omega arith in rw z
   fill-any (suc k) t h pl b l m = let z : suc k + t ≡ suc (k + t) = omega arith in rw z (fill-more (k + t) h pl b l (omega arith) ∙ fill-any k t h pl b l m)

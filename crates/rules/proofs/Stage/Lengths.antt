@@ -11,6 +11,7 @@ use Rattle.rules.specs.Traversal.{Setting, levelAt}
 use Rattle.rules.specs.Placing.{place, fill, cellAt, pinAt, roomy, placed}
 use Rattle.rules.specs.Ending.{refused, finish, written}
 
+-- placing at level h keeps a plan's length
 abbrev pub LenAt : Setting → ℕ → Type 0
 LenAt X h = (w p n : ℕ) (plan : List ℕ) → length (place X h w p n plan) ≡ length plan
 
@@ -20,11 +21,13 @@ step X h ih w p n plan true e x d = rw (e, place) (ih (2 * w) (p + w) n (set pla
 step X h ih w p n plan false e leaf d = rw (e, d, place) (length-set plan p n)
 step X h ih w p n plan false e (gate a b) d = rw (e, d, place) (ih (2 * w) (p + 2 * w) (pinOf b) _ ∙ ih (2 * w) (p + w) (pinOf a) _ ∙ length-set plan p n)
 
+-- placing keeps a plan's length at every level
 pub len-place : (X : Setting) (h : ℕ) → LenAt X h
 unfolding place
 len-place X zero w p n plan = length-set plan p n
 len-place X (suc h) w p n plan = step X h (len-place X h) w p n plan (ltb (levelAt X n) (suc h)) refl (getD (X .g) n leaf) refl
 
+-- the loop with so much fuel keeps a plan's length
 abbrev pub FillAt : Setting → ℕ → Type 0
 FillAt X f = (h : ℕ) (pl : List ℕ) → length (fill X f h pl) ≡ length pl
 
@@ -42,6 +45,7 @@ unfolding fill placed
 tried X f ih l pl p n true r e d = rw (e, d, r, fill) (ih (suc (suc l)) (placed X (suc (suc l)) p n pl) ∙ len-place X (suc (suc l)) _ p n pl)
 tried X f ih l pl p n false r e d = rw (e, d, r, fill) (ih (suc l) pl)
 
+-- the loop of rules 2 to 7 keeps it with any fuel
 pub len-fill : (X : Setting) (f : ℕ) → FillAt X f
 unfolding fill
 len-fill X zero h pl = refl

@@ -47,6 +47,7 @@ module _ (X : Setting) (room : ℕ) (pl : List ℕ) where
   over-refused (eight l (no-cell r)) = rw (fits l, r, finish)
   over-refused (eight l (none-empty pl2 r c)) = rw (fits l, r, c, finish)
 
+  -- a stage is over by 7 or by 8
   pub seven-or-eight : {n : ℕ} → StageOver X room pl n → (n ≡ 7) ⊎ (n ≡ 8)
   seven-or-eight (seven h) = inl refl
   seven-or-eight (eight h f) = inr refl

@@ -17,10 +17,12 @@ use Rattle.rules.specs.Ending.{Put, meet, fillIn, putCell, putCells, Spa
 use Rattle.rules.proofs.Lists.Members.{split, in-here, in-there, in-cons, in-nil, keep-in, insert-in, insertAll-in, or-true}
 use Rattle.rules.proofs.Tree.Held.{in-tree, tree-grows, length-place1, place1-other, firstEmpty-found}
 
+-- a list is empty or has a head
 pub list : {P : Type 0} (xs : List ℕ) → (xs ≡ [] → P) → ((y : ℕ) (ys : List ℕ) → xs ≡ y ∷ ys → P) → P
 list [] n c = n refl
 list (y ∷ ys) n c = c y ys refl
 
+-- a search finds nothing or a cell
 pub cell : {P : Type 0} (x : Found) → (x ≡ nothing → P) → ((c : ℕ) → x ≡ found c → P) → P
 cell nothing n f = n refl
 cell (found c) n f = f c refl
@@ -38,6 +40,7 @@ runsFrom-fits m (suc n) start cells h {rs} k = split (ltb (count filled (take 32
     (λ e. rw (e, sparseFrom) (runsFrom-fits m n (start + 32) (drop 32 cells) (omega arith) (addRun-fits m (record { filled = count filled (take 32 cells); start = start }) (omega arith) k)))
     (λ e. rw (e, sparseFrom) (runsFrom-fits m n (start + 32) (drop 32 cells) (omega arith) k))
 
+-- the sparse runs lie inside level 1
 pub runs-fit : (K : ℕ) (pl : List ℕ) → Runs (rowAt K 1) (sparseRuns K pl)
 unfolding sparseRuns rowAt
 runs-fit K pl = runsFrom-fits (2 ^ (K - 1)) (2 ^ (K - 1) / 32) 0 (row K 1 pl) (omega arith) none
@@ -64,6 +67,7 @@ module _ (X : Setting) (half : 2 ^ (X .K) ≡ rowAt (X .K) 1 + rowAt (X .K) 1) w
     pub fine : (x : ℕ) → In x (s .left) → filled x ≡ true
 
   module _ (pl : List ℕ) (l : 2 ^ (X .K) ≤ length pl) where
+    -- a cell's turn keeps all that
     pub cell-keeps : (p : ℕ) (s : Put) → rowAt (X .K) 1 ≤ p → p < 2 ^ (X .K) → Keeps pl s → Keeps pl (putCell X p s)
     unfolding putCell meet fillIn
     cell-keeps p s lo hi k = list (s .left) (λ e. rw (e, putCell) k)
@@ -89,11 +93,13 @@ module _ (X : Setting) (half : 2 ^ (X .K) ≡ rowAt (X .K) 1 + rowAt (X .K) 1) w
           fine = λ q d. k .fine q (rw e (in-there q y ys d));
         })))
 
+    -- and so do the turns of several
     pub cells-keep : (n p : ℕ) (s : Put) → rowAt (X .K) 1 ≤ p → p + n ≤ 2 ^ (X .K) → Keeps pl s → Keeps pl (putCells X n p s)
     unfolding putCells
     cells-keep zero p s lo hi k = k
     cells-keep (suc n) p s lo hi k = cells-keep n (suc p) (putCell X p s) (omega arith) (omega arith) (cell-keeps p s lo (omega arith) k)
 
+    -- and so do all runs that are written
     pub runs-keep : (last : Bool) {rs : List Sparse} → Runs (rowAt (X .K) 1) rs → (s : Put) → Keeps pl s → Keeps pl (putRuns X last rs s)
     unfolding putRuns putRun
     runs-keep last none s k = k

@@ -30,12 +30,14 @@ pub record SoFar (rule : WordRule) (K : ℕ) (g : List Node) (rooms k s : ℕ) (
   pub count : length ss ≡ s
   pub same : a ≡ before ss (stages rule K g (rooms - s) (k + s) done waiting room)
 
+-- a refusal stays the same with stages in front
 pub before-refusal : (ss : List Stage) (n k : ℕ) → before ss (refusal n k) ≡ refusal n k
 unfolding before more
 before-refusal [] n k = refl
 before-refusal (s ∷ ss) n k = rw (before-refusal ss n k)
 
 module _ (rule : WordRule) (K : ℕ) (g : List Node) where
+  -- completed stages stand in front of what is made of the state that they left
   pub stages-so-far : (s rooms k : ℕ) (done waiting : List ℕ) (room : ℕ) {done2 waiting2 : List ℕ} {room2 : ℕ} → s ≤ rooms → afterFrom rule K g s done waiting room ≡ state done2 waiting2 room2 →
       SoFar rule K g rooms k s done2 waiting2 room2 (stages rule K g rooms k done waiting room)
   unfolding afterFrom stages before
@@ -58,6 +60,7 @@ module _ (rule : WordRule) (K : ℕ) (g : List Node) where
 
   -- ---- what stops them
 
+  -- what stops the stages from k on: a state that they reach while pins wait, and why no stage follows
   pub record StopsFrom (rooms k : ℕ) (done waiting : List ℕ) (room n j : ℕ) : Type 0 where
     pub s : ℕ
     pub done2 : List ℕ
@@ -83,6 +86,7 @@ module _ (rule : WordRule) (K : ℕ) (g : List Node) where
   from-zero (nine e) = nine (omega arith)
   from-zero (over h c) = over (omega arith) c
 
+  -- a refusal comes from such a stop
   pub stops-where : (rooms k : ℕ) (done waiting : List ℕ) (room n j : ℕ) → stages rule K g rooms k done waiting room ≡ refusal n j → StopsFrom rooms k done waiting room n j
   unfolding stages afterFrom oneStage
   stops-where zero k done [] room n j e = absurd (let z : _≡_ {A = ℕ} 0 1 = cc in omega arith)
@@ -119,6 +123,7 @@ module _ (rule : WordRule) (K : ℕ) (g : List Node) where
   stop (suc rooms) k done (w ∷ ws) room n h (nine e) = absurd (omega arith)
   stop (suc rooms) k done (w ∷ ws) room n h (over l c) = rw (over-refused (setting rule K g done (w ∷ ws)) room (filledPlan (setting rule K g done (w ∷ ws))) c, stages)
 
+  -- where there is such a stop the stages are refused
   pub stops-there : (rooms k : ℕ) (done waiting : List ℕ) (room n j : ℕ) → StopsFrom rooms k done waiting room n j → stages rule K g rooms k done waiting room ≡ refusal n j
   stops-there rooms k done waiting room n j t =
       let f = stages-so-far (t .s) rooms k done waiting room (within (t .stops)) (t .completed) in
@@ -126,12 +131,14 @@ module _ (rule : WordRule) (K : ℕ) (g : List Node) where
 
 -- ---- the build
 
+-- what is not reservable is over
 pub reservation-over : (K : ℕ) (groups : List Group) → reservable K groups ≡ false → ReservationOver K groups
 unfolding reservable
 reservation-over K groups e = split (ltb (reserved groups) (wordLimit K))
     (λ a. split (leb (4 * memories groups + duplicates groups) (wordLimit K)) (λ b. true-false (rw (a, b, reservable)) e) (λ b. over-limit (leb-false (4 * memories groups + duplicates groups) (wordLimit K) b)))
     (λ a. no-word-left (ltb-false (reserved groups) (wordLimit K) a))
 
+-- and what is over is not reservable
 pub over-reservation : (K : ℕ) (groups : List Group) → ReservationOver K groups → reservable K groups ≡ false
 unfolding reservable
 over-reservation K groups (no-word-left h) = split (ltb (reserved groups) (wordLimit K)) (λ a. absurd (omega (arith, ltb-true (reserved groups) (wordLimit K) a))) (λ a. rw (a, reservable))
@@ -157,10 +164,12 @@ module _ (rule : WordRule) (K : ℕ) (g : List Node) (given : List ℕ) (groups 
   pub refused-some : (n k : ℕ) → build rule K g given groups rooms ≡ refusal n k → n ≢ 0
   refused-some n k e = elim (build-refused n k e) [ inl a ↦ λ z. omega (arith, a .0) | inr a ↦ stops-some (a .stops) ]
 
+  -- where the reservation is over the build is refused with 6
   pub six-build : ReservationOver K groups → build rule K g given groups rooms ≡ refusal 6 0
   unfolding build
   six-build h = rw (over-reservation K groups h, build)
 
+  -- where a stage stops the build, it is refused with that stage and number
   pub refused-build : (n k : ℕ) → Refused rule K g given groups rooms n k → build rule K g given groups rooms ≡ refusal n k
   unfolding build after
   refused-build n k t = split (reservable K groups)

@@ -24,6 +24,7 @@ use Rattle.rules.specs.Inside.Plans.{Placeable, Fair, Under}
 use Rattle.rules.proofs.Tree.Fair.{apart, bare, listed-filled}
 use Rattle.rules.proofs.Tree.Held.{node}
 
+-- a cell that isn't filled holds the empty mark
 pub not-filled : (c : ℕ) → filled c ≡ false → c ≡ empty
 unfolding filled
 not-filled c e = split (eqb c empty) (λ d. eqb-true c empty d) (λ d. true-false (let z : not (eqb c empty) ≡ true = rw d in z) e)

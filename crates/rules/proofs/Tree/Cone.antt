@@ -1,4 +1,4 @@
--- The tree holds all operands of a pin of level 2 or more, so an unplaced pin above level 0 has a reverse level. Assumes nothing.
+-- The tree holds all operands of a pin of level 2 or more, so an unplaced pin above level 0 is reached past no placed pin. Assumes nothing.
 use Prim.Native.Nat.{ℕ, zero, suc, _+_, _*_, _^_, _≤_, _<_}
 use mathlib.Core.Path.{_≡_, sym, _∙_}
 use mathlib.Core.Logic.{inl, inr}
@@ -12,22 +12,20 @@ use borrow.Author.Tests.{ltb-true, ltb-false}
 use Rattle.rules.specs.Lists.{mem, In, Out}
 use Rattle.rules.specs.Cells.{filled, empty, rowAt}
 use Rattle.rules.specs.Graph.{leaf, gate, pinOf, operands, below}
-use Rattle.rules.specs.Traversal.{Setting, levelAt, reverseLevels}
-use Rattle.rules.specs.Placing.{place, tree, treeOf, filledPlan}
+use Rattle.rules.specs.Traversal.{Setting, levelAt}
+use Rattle.rules.specs.Placing.{place, tree}
 use Rattle.rules.specs.Depth.{depth}
 use Rattle.rules.proofs.Lists.Members.{split, true-false, in-cons, in-nil, out-append}
 use Rattle.rules.specs.Loops.{From, start, step}
-use Rattle.rules.proofs.Walk.Reverse.{below-in, in-below, from-in, topo-closed, reached}
+use Rattle.rules.proofs.Walk.Reverse.{below-in, in-below, from-in, topo-closed}
 use Rattle.rules.proofs.Walk.Levels.{over-above}
-use Rattle.rules.proofs.Fold.Whole.{zero-kept, above-zero}
+use Rattle.rules.proofs.Fold.Whole.{above-zero}
 use Rattle.rules.specs.Inside.Walks.{Sound, Marked}
 use Rattle.rules.proofs.Tree.Held.{tree-in, in-tree, node}
-use Rattle.rules.proofs.Stage.Flat.{blank-replicate}
 use Rattle.rules.proofs.Stage.Staged.{two-step}
 use Rattle.rules.specs.Inside.Plans.{Placeable, Step, copies, splits, Sane, Tall}
-use Rattle.rules.proofs.Tree.Invariant.{filled-inv}
 use Rattle.rules.proofs.Tree.Loads.{wide, rows, set-either, first, second, level-is}
-use Rattle.rules.proofs.Tree.Sane.{same-row, sane-kept, sane-first}
+use Rattle.rules.proofs.Tree.Sane.{same-row}
 
 double : (w m k : ℕ) → w * (2 * m) ≡ k → (2 * w) * m ≡ k
 double w m k e = omega arith
@@ -45,6 +43,7 @@ row-of-from m (suc n) (suc h) w i e a b c =
 row-of : (K i : ℕ) → 1 ≤ i → i < 2 ^ K → (j : ℕ) × (v : ℕ) × (v * 2 ^ j ≡ 2 ^ K) × (v ≤ i) × (i < v + v)
 row-of K i a b = row-of-from (2 ^ K) K K 1 i (omega arith) a (omega arith) (omega arith)
 
+-- what is followed from a listed pin is of a lower level
 pub over-level : (X : Setting) (r : ℕ → ℕ) (f : ℕ) (S : Sound X r f) (q x : ℕ) → In q (X .seen) → In x (below (X .g) (X .done) q) → levelAt X x < levelAt X q
 over-level X r f S q x s i =
     let j : In x (X .seen) = topo-closed (X .g) (X .done) (S .visited .topo) q x s i in
@@ -74,6 +73,7 @@ module _ (X : Setting) (r : ℕ → ℕ) (f : ℕ) (S : Sound X r f) where
       rw (d, c, place) (place-tall h (2 * w) (p + 2 * w) (pinOf y) (place X h (2 * w) (p + w) (pinOf x) (set pl p n)) e2 (omega arith) (omega arith) (m2 .0) (omega (arith, m2 .1))
       (place-tall h (2 * w) (p + w) (pinOf x) (set pl p n) e2 (omega arith) (omega arith) (m1 .0) (omega (arith, m1 .1)) k2))))
 
+  -- placing keeps every cell's pin listed, and of no higher level than the cell
   pub tall-kept : (pl : List ℕ) (h p n : ℕ) → length pl ≡ 2 ^ (X .K + 1) → Tall X pl → Placeable X pl h p n → Tall X (place X h (rowAt (X .K) h) p n pl)
   tall-kept pl h p n l k a = place-tall h (rowAt (X .K) h) p n pl (rows (X .K) h (a .high)) (a .row) (a .end) (a .listed) (a .level) k
 
@@ -119,14 +119,3 @@ module _ (X : Setting) (r : ℕ → ℕ) (f : ℕ) (S : Sound X r f) where
         let up : levelAt X x < levelAt X q = over-level X r f S q x s i in
         let oq : Out q (tree (X .K) pl) = split (mem q (tree (X .K) pl)) (λ c. true-false (cone q c no-zero (omega arith) x (b .1)) o) (λ c. c) in
         step (unplaced no-zero fr (omega arith) oq) (in-below (X .g) (tree (X .K) pl ++ X .done) q x (out-append q (tree (X .K) pl) (X .done) oq (b .0)) (b .1))
-
--- after rules 2 to 7
-module _ (X : Setting) (r : ℕ → ℕ) (f : ℕ) (S : Sound X r f) (M : Marked X) (height : 1 ≤ X .K) where
-  pub has-reverse : (p : ℕ) → In p (X .seen) → 1 ≤ levelAt X p → Out p (treeOf X (filledPlan X)) → 0 < getD (reverseLevels X (treeOf X (filledPlan X))) p 0
-  unfolding treeOf
-  has-reverse p i l o =
-      let a = filled-inv X r f S height (Sane X (λ q. ⊥)) (sane-kept X r f S M) (sane-first X r f S M (2 ^ (X .K + 1))) in
-      let b = filled-inv X r f S height (Tall X) (tall-kept X r f S) (λ h w q e c d g. true-false g (blank-replicate (2 ^ (X .K + 1)) q)) in
-      let z = filled-inv X r f S height (λ pl. filled (getD pl 0 empty) ≡ false) (zero-kept X) (blank-replicate (2 ^ (X .K + 1)) 0) in
-      reached X (S .visited .topo) (S .bound) (S .visited .has) (tree (X .K) (filledPlan X))
-      (unplaced X r f S M (filledPlan X) (a .0) (a .1) (b .1) (z .1) (elim (S .visited .new p i) [ inl c ↦ in-nil p c | inr c ↦ c ]) l o)

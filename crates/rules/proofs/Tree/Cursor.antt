@@ -29,6 +29,7 @@ unfolding firstEmpty
 first-none i [] h = refl
 first-none i (c ∷ cs) h = rw (h 0 (omega arith), firstEmpty) (first-none (suc i) cs (λ j d. h (suc j) (omega arith)))
 
+-- at the start of a row there is no cell behind the cursor
 pub behind-first : (X : Setting) (h : ℕ) (pl : List ℕ) → Behind X h (rowAt (X .K) h) pl
 behind-first X h pl q a b = absurd (omega arith)
 

@@ -88,6 +88,7 @@ module _ (W : Work) where
   abbrev small : length (X .g) ≤ empty
   small = W .small
 
+  -- listed pins are no empty marks
   pub listed-filled : (n : ℕ) → In n (X .seen) → filled n ≡ true
   listed-filled n i = small-filled n (omega (arith, S .bound n i))
 
@@ -116,6 +117,7 @@ module _ (W : Work) where
       mend-tidy X (suc h) w p pl (place X (suc h) w p n pl) e a b k (λ j c. low j (omega arith)) (frame X (suc h) w p n pl)
       (rw (head X (suc h) w p n pl (omega arith) (omega (arith, two-step (X .K), wide w h))) (listed-filled n i))
 
+  -- the empty plan is fair, at every level
   pub fair-first : (h : ℕ) → Fair X h (blank X)
   unfolding blank
   fair-first h = record {
@@ -126,6 +128,7 @@ module _ (W : Work) where
     tidy = λ j b v q e a c g i. blank-replicate (2 ^ (X .K + 1)) (q + i * v);
   }
 
+  -- a plan that is fair at a level is fair one level down
   pub fair-down : (h : ℕ) {pl : List ℕ} → Fair X (suc h) pl → Fair X h pl
   fair-down h k = record { len = k .len; sane = k .sane; tall = k .tall; zeroth = k .zeroth; tidy = λ j b. k .tidy j (omega arith) }
 
@@ -133,6 +136,7 @@ module _ (W : Work) where
   pub bare : (h p n : ℕ) {pl : List ℕ} → Fair X h pl → Placeable X pl h p n → Under (rowAt (X .K) h) p pl
   bare h p n k a = k .tidy h (omega arith) (rowAt (X .K) h) p (rows (X .K) h (a .high)) (a .row) (a .end) (a .free)
 
+  -- placing keeps a plan fair
   pub fair-kept : (h p n : ℕ) {pl : List ℕ} → Fair X h pl → Placeable X pl h p n → Fair X h (placed X h p n pl)
   unfolding placed
   fair-kept h p n {pl} k a = record {

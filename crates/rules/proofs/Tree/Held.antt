@@ -15,11 +15,13 @@ use Rattle.rules.specs.Traversal.{Setting, levelAt}
 use Rattle.rules.specs.Placing.{place, tree}
 use Rattle.rules.proofs.Lists.Members.{split, true-false, in-keep, keep-in, in-distinct, distinct-in, in-getD, getD-in}
 
+-- a pin that stands above level 0 is in the tree
 pub in-tree : (K : ℕ) (pl : List ℕ) (i q : ℕ) → i < 2 ^ K → i < length pl → getD pl i empty ≡ q → filled q ≡ true → In q (tree K pl)
 unfolding tree
 in-tree K pl i q h l e b = in-distinct q (keep filled (take (2 ^ K) pl)) (in-keep filled q (take (2 ^ K) pl)
     (subst (λ (x : ℕ). In x (take (2 ^ K) pl)) (getD-take (2 ^ K) pl i empty h ∙ e) (in-getD (take (2 ^ K) pl) i empty (rw length-take (omega arith)))) b)
 
+-- and a pin in the tree stands at some position above level 0
 pub tree-in : (K : ℕ) (pl : List ℕ) (q : ℕ) → In q (tree K pl) → (i : ℕ) × (i < 2 ^ K) × (i < length pl) × (getD pl i empty ≡ q) × (filled q ≡ true)
 unfolding tree
 tree-in K pl q e =
@@ -35,17 +37,20 @@ tree-grows K pl pl2 c l b h q e =
     let n : t .0 ≢ c = λ d. true-false (t .4) (subst (λ (x : ℕ). filled x ≡ false) (ap (λ (i : ℕ). getD pl i empty) (sym d) ∙ t .3) b) in
     in-tree K pl2 (t .0) q (t .1) (rw l (t .2)) (h (t .0) (t .1) n ∙ t .3) (t .4)
 
+-- a pin is a leaf or a gate
 pub node : {P : Type 0} (x : Node) → (x ≡ leaf → P) → ((a b : ℕ) → x ≡ gate a b → P) → P
 node leaf l k = l refl
 node (gate a b) l k = k a b refl
 
 -- placing at level 1: above level 0 only the cell itself changes
 module _ (X : Setting) (w p n : ℕ) (pl : List ℕ) where
+  -- placing at level 1 keeps a plan's length
   pub length-place1 : length (place X 1 w p n pl) ≡ length pl
   unfolding place
   length-place1 = split (ltb (levelAt X n) 1) (λ e. rw (e, place) (simp length-set))
       (λ e. node (getD (X .g) n leaf) (λ d. rw (e, d, place) (simp length-set)) (λ a b d. rw (e, d, place) (simp length-set)))
 
+  -- placing at level 1 changes one cell above level 0
   pub place1-other : w ≤ p → (i : ℕ) → i < w + w → getD (place X 1 w p n pl) i empty ≡ getD (set pl p n) i empty
   unfolding place
   place1-other h i b = split (ltb (levelAt X n) 1) (λ e. rw (e, place) (getD-set-other (set pl p n) (p + w) i n empty (omega arith)))

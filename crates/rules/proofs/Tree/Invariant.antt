@@ -67,6 +67,7 @@ module _ (X : Setting) (r : ℕ → ℕ) (f : ℕ) (S : Sound X r f) (tall : 1 �
       (step pl (suc (suc l)) p n k (record { low = omega arith; high = b; row = c .0; end = c .1; free = c .2; listed = S .listed n (m .0); level = omega (arith, m .1) }))))
       (λ q. rw (e, d, q, fill) (fill-inv t (suc l) (omega arith) pl k))))
 
+  -- if the empty plan has the property, so has the plan of rules 2 to 7
   pub filled-inv : I (replicate (2 ^ (X .K + 1)) empty) → Inv (filledPlan X)
   unfolding filledPlan
   filled-inv i = fill-inv _ _ (omega arith) _ (length-replicate (2 ^ (X .K + 1)) empty, i)
@@ -122,6 +123,7 @@ module _ (X : Setting) (r : ℕ → ℕ) (f : ℕ) (S : Sound X r f) (tall : 1 �
       let at = row-empty (X .K) 1 pl c n in
       rest-inv ps real (place X 1 (rowAt (X .K) 1) c p pl) pl2 (λ x i. w x (in-there x p ps i)) (rw (b, n, putRest) at e) (step pl 1 c p k (at-level-1 pl c p (at .0) (at .1) (at .2) (w p (in-here p ps))))))
 
+  -- if the empty plan has the property, so has the plan after rule 9
   pub final : I (replicate (2 ^ (X .K + 1)) empty) → (pl2 : List ℕ) → rest X (filledPlan X) ≡ plan pl2 → (length pl2 ≡ 2 ^ (X .K + 1)) × I pl2
   unfolding rest
   final i pl2 e = rest-inv (neededOf X (filledPlan X)) (written X (filledPlan X) .real) (written X (filledPlan X) .plan) pl2

@@ -29,6 +29,7 @@ use Rattle.rules.specs.Inside.Plans.{Placeable}
 use Rattle.rules.proofs.Tree.Invariant.{final}
 use Rattle.rules.proofs.Tree.Held.{node}
 
+-- a row above level 0 has at most half the cells of level 0
 pub wide : (w h : ℕ) → w + w ≤ w * (2 * 2 ^ h)
 wide w h = omega (arith, mul-le-mul-left w (one-le-pow h 2 (omega arith)))
 
@@ -37,6 +38,7 @@ pub row-size : (h k : ℕ) → 2 ^ k * 2 ^ h ≡ 2 ^ (k + h)
 row-size zero k = rw add-zero (omega arith)
 row-size (suc h) k = rw (add-suc, pow-succ' 2 h, pow-succ' 2 (k + h), ← row-size h k) (omega arith)
 
+-- a row of level h, doubled h times, has the cells of level 0
 pub rows : (K h : ℕ) → h ≤ K → rowAt K h * 2 ^ h ≡ 2 ^ K
 unfolding rowAt
 rows K h b = row-size h (K - h) ∙ (let e : K - h + h ≡ K = omega arith in rw e)
@@ -50,27 +52,33 @@ set-either (x ∷ l) (suc p) n zero d = inr refl
 set-either (x ∷ l) (suc p) n (suc q) d = elim (set-either l p n q d) [ inl e ↦ inl (ap suc (e .0), e .1) | inr e ↦ inr e ]
 
 module _ (X : Setting) (r : ℕ → ℕ) (f : ℕ) (S : Sound X r f) where
+  -- a listed pin's level is one above the deepest pin that is followed from it, 0 if none is
   pub level-is : (n : ℕ) → In n (X .seen) → levelAt X n ≡ over (depth f (X .g) (X .done)) (below (X .g) (X .done) n)
   level-is n i = S .level n i ∙ depth-at (X .g) (X .done) r (S .ranked) f n (S .fuel n i)
 
+  -- a listed pin above level 0 is neither given nor realised
   pub not-done : (n : ℕ) → In n (X .seen) → 1 ≤ levelAt X n → Out n (X .done)
   unfolding below over
   not-done n i h = split (mem n (X .done)) (λ e. absurd (let z = rw (e, below) at (level-is n i) in omega arith)) (λ e. e)
 
+  -- a listed leaf is of level 0
   pub leaf-level : (n : ℕ) → In n (X .seen) → getD (X .g) n leaf ≡ leaf → levelAt X n ≡ 0
   unfolding below over operands
   leaf-level n i e = split (mem n (X .done)) (λ d. let z = rw (d, below) at (level-is n i) in z) (λ d. let z = rw (d, below, e) at (level-is n i) in z)
 
+  -- the operands of a listed pin above level 0 are listed, and of lower levels
   pub operand : (n x : ℕ) → In n (X .seen) → 1 ≤ levelAt X n → In x (operands (getD (X .g) n leaf)) → In x (X .seen) × (levelAt X x < levelAt X n)
   operand n x i h o =
       let b : In x (below (X .g) (X .done) n) = in-below (X .g) (X .done) n x (not-done n i h) o in
       let j : In x (X .seen) = topo-closed (X .g) (X .done) (S .visited .topo) n x i b in
       (j, omega (arith, S .level x j, level-is n i, over-above (depth f (X .g) (X .done)) (below (X .g) (X .done) n) x b))
 
+  -- so is the first pin of its gate
   pub first : (n a b : ℕ) → In n (X .seen) → 1 ≤ levelAt X n → getD (X .g) n leaf ≡ gate a b → In (pinOf a) (X .seen) × (levelAt X (pinOf a) < levelAt X n)
   unfolding operands
   first n a b i h e = operand n (pinOf a) i h (rw e (in-here (pinOf a) (pinOf b ∷ [])))
 
+  -- and the second
   pub second : (n a b : ℕ) → In n (X .seen) → 1 ≤ levelAt X n → getD (X .g) n leaf ≡ gate a b → In (pinOf b) (X .seen) × (levelAt X (pinOf b) < levelAt X n)
   unfolding operands
   second n a b i h e = operand n (pinOf b) i h (rw e (in-there (pinOf b) (pinOf a) (pinOf b ∷ []) (in-here (pinOf b) [])))
@@ -102,9 +110,11 @@ module _ (X : Setting) (r : ℕ → ℕ) (f : ℕ) (S : Sound X r f) where
       rw (d, c, place) (place-fine h (2 * w) (p + 2 * w) (pinOf y) (place X h (2 * w) (p + w) (pinOf x) (set pl p n)) e2 (omega arith) (z .0) (omega (arith, z .1))
       (place-fine h (2 * w) (p + w) (pinOf x) (set pl p n) e2 (omega arith) (a .0) (omega (arith, a .1)) k2))))
 
+  -- placing keeps every filled cell so
   pub fine-kept : (pl : List ℕ) (h p n : ℕ) → length pl ≡ 2 ^ (X .K + 1) → Fine pl → Placeable X pl h p n → Fine (place X h (rowAt (X .K) h) p n pl)
   fine-kept pl h p n l k a = place-fine h (rowAt (X .K) h) p n pl (rows (X .K) h (a .high)) (a .end) (a .listed) (a .level) k
 
+  -- and the empty plan is so
   pub fine-first : (m : ℕ) → Fine (replicate m empty)
   fine-first m q e = true-false e (blank-replicate m q)
 
@@ -124,6 +134,7 @@ module _ (rule : WordRule) (K : ℕ) (g : List Node) (r : ℕ → ℕ) (G : Grap
   S2 : Sound W2 r (length g)
   S2 = setting-sound rule K g r G (realised ++ done) waiting2 (R2 .bounded)
 
+  -- all that the next stage loads was realised by this one
   pub loads : (q : ℕ) → 2 ^ K ≤ q → filled (getD plan3 q empty) ≡ true → In (getD plan3 q empty) realised
   unfolding setting
   loads q b h =

@@ -139,11 +139,14 @@ module _ (X : Setting) (r : ℕ → ℕ) (f : ℕ) (S : Sound X r f) (M : Marked
       let two : getD pl2 (p + 2 * w) empty ≡ pinOf y = head X h (2 * w) (p + 2 * w) (pinOf y) pl1 (omega arith) (omega arith) in
       rw (d, c, place) (mend E pl2 h w p e a b k2 (splits {a = x} {b = y} (rw top (not-done X r f S n i (omega arith))) (rw top c) one two))))
 
+  -- every filled cell above level 0, none exempt
   abbrev pub Always : List ℕ → Type 0
   Always pl = Sane X (λ q. ⊥) pl
 
+  -- placing keeps every filled cell so
   pub sane-kept : (pl : List ℕ) (h p n : ℕ) → length pl ≡ 2 ^ (X .K + 1) → Always pl → Placeable X pl h p n → Always (place X h (rowAt (X .K) h) p n pl)
   sane-kept pl h p n l k a = place-sane h (rowAt (X .K) h) p n pl (λ q. ⊥) (rows (X .K) h (a .high)) (a .row) (a .end) l (a .listed) (a .level) k (inl (a .free))
 
+  -- and the empty plan is so
   pub sane-first : (m : ℕ) → Always (replicate m empty)
   sane-first m h w q e a b x g = true-false g (blank-replicate m q)

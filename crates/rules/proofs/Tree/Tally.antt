@@ -20,6 +20,7 @@ use Rattle.rules.proofs.Written.Words.{once-insertAll}
 use Rattle.rules.proofs.Tree.Loads.{set-either}
 use Rattle.rules.proofs.Needed.Lacks.{same-truth, true-ltb}
 
+-- 1 for what is counted, else 0
 abbrev pub bit : Bool → ℕ
 bit true = 1
 bit false = 0
@@ -40,6 +41,7 @@ pub cells-set : (K : ℕ) (pl : List ℕ) (p n x : ℕ) → p < 2 ^ K → p < le
 unfolding cellsHolding
 cells-set K pl p n x b l = rw (take-set-lt (2 ^ K) pl p n b, ← getD-take (2 ^ K) pl p empty b) (count-set (λ c. eqb c x) (take (2 ^ K) pl) p n empty (rw length-take (omega arith)))
 
+-- a cell of level 0 is not counted
 pub cells-set-low : (K : ℕ) (pl : List ℕ) (p n x : ℕ) → 2 ^ K ≤ p → cellsHolding K (set pl p n) x ≡ cellsHolding K pl x
 unfolding cellsHolding
 cells-set-low K pl p n x b = rw (take-set-le (2 ^ K) pl p n b)
@@ -71,27 +73,32 @@ module _ (K : ℕ) (pl : List ℕ) (p n : ℕ) (high : p < 2 ^ K) (inside : p < 
   long : p < length (set pl p n)
   long = rw length-set inside
 
+  -- a pin set into an empty cell above level 0 is in the tree
   pub set-has : In n (tree K (set pl p n))
   set-has = in-tree K (set pl p n) p n high long (getD-set-same pl p n empty inside) full
 
+  -- no pin leaves the tree by it
   pub set-grows : Sub (tree K pl) (tree K (set pl p n))
   set-grows q e =
       let t = tree-in K pl q e in
       let o : t .0 ≢ p = λ d. true-false (t .4) (subst (λ (x : ℕ). filled x ≡ false) (ap (λ (i : ℕ). getD pl i empty) (sym d) ∙ t .3) free) in
       in-tree K (set pl p n) (t .0) q (t .1) (rw length-set (t .2)) (getD-set-other pl p (t .0) n empty o ∙ t .3) (t .4)
 
+  -- and no other comes in
   pub set-only : (q : ℕ) → In q (tree K (set pl p n)) → (q ≡ n) ⊎ In q (tree K pl)
   set-only q e =
       let t = tree-in K (set pl p n) q e in
       let l : t .0 < length pl = rw length-set at (t .2) in
       elim (set-either pl p n (t .0) empty) [ inl d ↦ inl (sym (t .3) ∙ d .1) | inr d ↦ inr (in-tree K pl (t .0) q (t .1) l (sym d ∙ t .3) (t .4)) ]
 
+  -- the tree has one pin more where it did not hold that pin
   pub size-new : Out n (tree K pl) → length (tree K (set pl p n)) ≡ suc (length (tree K pl))
   size-new o =
       let a : suc (length (tree K pl)) ≤ length (tree K (set pl p n)) = once-length (one o (once-tree K pl)) (tree K (set pl p n)) (λ q e. elim (in-cons q n (tree K pl) e) [ inl d ↦ rw d set-has | inr d ↦ set-grows q d ]) in
       let b : length (tree K (set pl p n)) ≤ length (n ∷ tree K pl) = once-length (once-tree K (set pl p n)) (n ∷ tree K pl) (λ q e. elim (set-only q e) [ inl d ↦ rw d (in-here n (tree K pl)) | inr d ↦ in-there q n (tree K pl) d ]) in
       omega arith
 
+  -- and as many where it did
   pub size-old : In n (tree K pl) → length (tree K (set pl p n)) ≡ length (tree K pl)
   size-old i =
       let a : length (tree K pl) ≤ length (tree K (set pl p n)) = once-length (once-tree K pl) (tree K (set pl p n)) set-grows in
@@ -114,10 +121,12 @@ row-set K h pl p n a b l =
     let g : getD (take w (drop w pl)) (p - w) empty ≡ getD pl p empty = getD-take w (drop w pl) (p - w) empty (omega arith) ∙ getD-drop w pl (p - w) empty ∙ ap (λ (i : ℕ). getD pl i empty) (sym z) in
     rw (s, ← g) (count-set filled (take w (drop w pl)) (p - w) n empty (simp (length-take, length-drop) (omega arith)))
 
+-- a cell of a higher level leaves a row as it is
 pub row-set-above : (K h : ℕ) (pl : List ℕ) (p n : ℕ) → p < rowAt K h → row K h (set pl p n) ≡ row K h pl
 unfolding row
 row-set-above K h pl p n a = rw (drop-set-lt (rowAt K h) pl p n a)
 
+-- and so does a cell of a lower one
 pub row-set-below : (K h : ℕ) (pl : List ℕ) (p n : ℕ) → rowAt K h + rowAt K h ≤ p → row K h (set pl p n) ≡ row K h pl
 unfolding row
 row-set-below K h pl p n a =

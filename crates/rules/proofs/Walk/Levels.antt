@@ -13,38 +13,45 @@ use Rattle.rules.specs.Lists.{In}
 use Rattle.rules.proofs.Lists.Members.{in-here, in-there, in-cons, in-nil, in-out}
 use Rattle.rules.specs.Inside.Walks.{Topo, none, more, Ranked}
 
+-- one more than the greatest depends only on the pins' numbers
 pub over-ext : (m n : ℕ → ℕ) (xs : List ℕ) → ((x : ℕ) → In x xs → m x ≡ n x) → over m xs ≡ over n xs
 unfolding over
 over-ext m n [] h = refl
 over-ext m n (x ∷ xs) h = rw (h x (in-here x xs), over-ext m n xs (λ y e. h y (in-there y x xs e)))
 
+-- it is above every pin's number
 pub over-above : (n : ℕ → ℕ) (xs : List ℕ) (x : ℕ) → In x xs → n x < over n xs
 unfolding over
 over-above n [] x e = in-nil x e
 over-above n (y ∷ ys) x e = elim (in-cons x y ys e) [ inl d ↦ rw d (omega arith) | inr d ↦ omega (arith, over-above n ys x d) ]
 
+-- and no greater than any other number that is
 pub over-least : (n : ℕ → ℕ) (xs : List ℕ) (m : ℕ) → ((x : ℕ) → In x xs → n x < m) → over n xs ≤ m
 unfolding over
 over-least n [] m h = zero-le
 over-least n (x ∷ xs) m h = omega (arith, h x (in-here x xs), over-least n xs m (λ y e. h y (in-there y x xs e)))
 
 module _ (g : List Node) (done : List ℕ) (r : ℕ → ℕ) (k : Ranked g done r) where
+  -- any fuel above a pin's rank gives the same depth
   pub depth-fuel : (f e p : ℕ) → r p < f → r p < e → depth f g done p ≡ depth e g done p
   unfolding depth
   depth-fuel zero e p h i = absurd (omega arith)
   depth-fuel (suc f) zero p h i = absurd (omega arith)
   depth-fuel (suc f) (suc e) p h i = over-ext (depth f g done) (depth e g done) (below g done p) (λ x d. depth-fuel f e x (omega (arith, k p x d)) (omega (arith, k p x d)))
 
+  -- a pin's depth is one above the deepest pin that is followed from it, 0 if none is
   pub depth-at : (f p : ℕ) → r p < f → depth f g done p ≡ over (depth f g done) (below g done p)
   unfolding depth
   depth-at zero p h = absurd (omega arith)
   depth-at (suc f) p h = over-ext (depth f g done) (depth (suc f) g done) (below g done p) (λ x d. depth-fuel f (suc f) x (omega (arith, k p x d)) (omega (arith, k p x d)))
 
+  -- the level table has a number a pin
   pub length-levels : (s : List ℕ) → length (levels g done s) ≡ length g
   unfolding levels
   length-levels [] = length-replicate (length g) 0
   length-levels (p ∷ s) = length-set (levels g done s) p _ ∙ length-levels s
 
+  -- in the table of a traversal a listed pin's level is its depth
   pub levels-good : {s : List ℕ} → Topo g done s → ((p : ℕ) → In p s → p < length g) → (f q : ℕ) → In q s → r q < f → getD (levels g done s) q 0 ≡ depth f g done q
   unfolding levels
   levels-good none b f q e h = in-nil q e

@@ -10,10 +10,12 @@ use Rattle.rules.specs.Graph.{Node, below}
 use Rattle.rules.specs.Traversal.{thread, visit, traverse}
 use Rattle.rules.proofs.Lists.Members.{split, true-false, in-here, in-there, in-cons, in-nil}
 
+-- what is reached from reached pins is reached
 pub from-mono : (g : List Node) (done ps qs : List ℕ) → ((x : ℕ) → In x ps → From g done qs x) → {q : ℕ} → From g done ps q → From g done qs q
 from-mono g done ps qs h (start {q = q} e) = h q e
 from-mono g done ps qs h (step f e) = step (from-mono g done ps qs h f) e
 
+-- all that is reached stays below a bound on the ranks of the pins at the start
 pub from-rank : (g : List Node) (done ps : List ℕ) (r : ℕ → ℕ) → Ranked g done r → (n : ℕ) → ((x : ℕ) → In x ps → r x < n) → {q : ℕ} → From g done ps q → r q < n
 from-rank g done ps r k n h (start {q = q} e) = h q e
 from-rank g done ps r k n h (step {q = q} {x = x} f e) = let i : r q < n = from-rank g done ps r k n h f in omega (arith, k q x e)
@@ -38,6 +40,7 @@ thread-good g done v (p ∷ ps) h s t =
     }
 
 module _ (g : List Node) (done : List ℕ) (r : ℕ → ℕ) (k : Ranked g done r) where
+  -- a visit adds the pin and all that is reached from it, each once and after what it follows
   pub visit-good : (f p : ℕ) → r p < f → (s : List ℕ) → Topo g done s → Visited g done (p ∷ []) s (visit f g done p s)
   unfolding visit
   visit-good zero p h s t = absurd (omega arith)

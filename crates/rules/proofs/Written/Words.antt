@@ -31,10 +31,12 @@ once-behind p (one {x = x} {xs = xs} q k) o = one
     (out-append x xs (p ∷ []) q (split (mem x (p ∷ [])) (λ e. elim (in-cons x p [] e) [ inl d ↦ absurd (out-head p x xs o (sym d)) | inr d ↦ in-nil x d ]) (λ e. e)))
     (once-behind p k (out-tail p x xs o))
 
+-- putting one number behind keeps each once
 pub once-insert : (p : ℕ) {xs : List ℕ} → Once xs → Once (insert p xs)
 unfolding insert
 once-insert p {xs} k = split (mem p xs) (λ e. rw (e, insert) k) (λ e. rw (e, insert) (once-behind p k e))
 
+-- and so does putting several
 pub once-insertAll : (ps : List ℕ) {xs : List ℕ} → Once xs → Once (insertAll ps xs)
 unfolding insertAll
 once-insertAll [] k = k
@@ -60,6 +62,7 @@ swap-same p z q n = split (eqb q p) (λ e. absurd (n (eqb-true q p e))) (λ e. r
 swap-last : (p z : ℕ) → swapped p z p ≡ z
 swap-last p z = rw (eqb-same p, swapped)
 
+-- taking a pin out leaves the others
 pub swap-keeps : (p q : ℕ) (xs : List ℕ) → In p xs → In q xs → q ≢ p → In q (swapOut p xs)
 unfolding swapOut lastOf
 swap-keeps p q [] i j n = in-nil q j
@@ -71,6 +74,7 @@ swap-keeps p q (x ∷ xs) i j n = elim (init-or-last q x (x ∷ xs) j) [
   ]
 ]
 
+-- and so does taking out several
 pub left-out : {ps : List ℕ} → Once ps → (xs : List ℕ) → Sub ps xs → (q : ℕ) → In q xs → Out q ps → In q (swapOutAll ps xs)
 unfolding swapOutAll
 left-out nobody xs h q i o = i
@@ -96,6 +100,7 @@ runsFrom-aligned (suc n) start cells h k = split (ltb (count filled (take 32 cel
     (λ e. rw (e, sparseFrom) (runsFrom-aligned n (start + 32) (drop 32 cells) (omega arith) (addRun-aligned (record { filled = count filled (take 32 cells); start = start }) h k)))
     (λ e. rw (e, sparseFrom) (runsFrom-aligned n (start + 32) (drop 32 cells) (omega arith) k))
 
+-- all sparse runs begin at whole words
 pub runs-aligned : (K : ℕ) (pl : List ℕ) → Aligned (sparseRuns K pl)
 unfolding sparseRuns
 runs-aligned K pl = runsFrom-aligned (2 ^ (K - 1) / 32) 0 (row K 1 pl) refl no-run
@@ -104,6 +109,7 @@ runs-aligned K pl = runsFrom-aligned (2 ^ (K - 1) / 32) 0 (row K 1 pl) refl no-r
 abbrev pub Stands : ℕ → List ℕ → List ℕ → ℕ → Type 0
 Stands K pl ws x = (p : ℕ) × (p < 2 ^ K) × (getD pl p empty ≡ x) × (filled x ≡ true) × In (p / 32) ws
 
+-- the realised pins wait, each once, and stand in one of the words; the pins left wait too
 pub record Shows (X : Setting) (ws : List ℕ) (s : Put) : Type 0 where
   pub shown : (x : ℕ) → In x (s .real) → Stands (X .K) (s .plan) ws x
   pub once : Once (s .real)
@@ -177,6 +183,7 @@ module _ (X : Setting) (half : 2 ^ (X .K) ≡ rowAt (X .K) 1 + rowAt (X .K) 1) (
       let sw : Shows X (putCells X 32 p s .words ++ (wd ∷ [])) (putCells X 32 p s) = subst (λ (v : List ℕ). Shows X (v ++ (wd ∷ [])) (putCells X 32 p s)) (sym (cells-words 32 p s)) sc in
       record { shown = sw .shown; once = sw .once; real = sw .real; left = sw .left }
 
+  -- writing runs keeps every realised pin in a written word
   pub runs-show : rowAt (X .K) 1 % 32 ≡ 0 → (last : Bool) {rs : List Sparse} → Runs (rowAt (X .K) 1) rs → Aligned rs → (s : Put) → Keeps X half pl s → Shows X (s .words) s → Shows X (putRuns X last rs s .words) (putRuns X last rs s)
   unfolding putRuns
   runs-show z last none no-run s k c = c
@@ -215,6 +222,7 @@ unfolding wordsUp
 wordsUp-old K zero h ps pl ws v i = i
 wordsUp-old K (suc n) h ps pl ws v i = wordsUp-old K n (suc h) ps pl _ v (wordsIn-old ps (rowAt K h) (row K h pl) ws v i)
 
+-- rule 10 collects the word of every cell above level 0 that holds one of the pins
 pub wordsUp-has : (K n h : ℕ) (ps pl ws : List ℕ) → h + n ≡ suc K → length pl ≡ 2 ^ (K + 1) → (i : ℕ) → 1 ≤ i → i < 2 ^ (suc K - h) → In (getD pl i empty) ps → In (i / 32) (wordsUp K n h ps pl ws)
 unfolding wordsUp row rowAt
 wordsUp-has K zero h ps pl ws e l i a b m = absurd (let d : suc K - h ≡ 0 = omega arith in let c : i < 2 ^ 0 = rw d at b in omega arith)
@@ -249,5 +257,6 @@ ended-words X room pl pl2 plan2 words realised waiting2 r e = split (lastStage X
     (λ b. let d : close X pl2 (written X pl .words) (written X pl .real) ≡ stage plan2 words realised waiting2 = rw (b, ending) at e in
     (cc, record { rested = r; either = inr (cc, cc) }))
 
+-- every completed stage has one of these two ends
 pub finished-words : (X : Setting) (room : ℕ) (pl plan2 words realised waiting2 : List ℕ) → finish X room pl ≡ stage plan2 words realised waiting2 → Finished X pl plan2 words waiting2
 finished-words X room pl plan2 words realised waiting2 e = not-refused X room pl e (λ pl2 b r f d. let h = ended-words X room pl pl2 plan2 words realised waiting2 r d in rw (h .0) (h .1))

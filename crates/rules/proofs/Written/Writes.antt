@@ -79,17 +79,20 @@ module _ (rule : WordRule) (K : ℕ) (g : List Node) (r : ℕ → ℕ) (G : Grap
   low : 1 ≤ K
   low = omega arith
 
+  -- a pin that leaves the waiting list in a stage of a build stands in one of its written words
   pub stage-leaves : (done waiting : List ℕ) → Ready g r waiting → (room : ℕ) (plan2 words realised waiting2 : List ℕ) → oneStage rule K g done waiting room ≡ stage plan2 words realised waiting2 → (q : ℕ) → In q waiting → Out q waiting2 → Stands K plan2 words q
   unfolding oneStage setting
   stage-leaves done waiting R room plan2 words realised waiting2 e q i o =
       let n : Finished (setting rule K g done waiting) (filledPlan (setting rule K g done waiting)) plan2 words waiting2 = finished-words (setting rule K g done waiting) room (filledPlan (setting rule K g done waiting)) plan2 words realised waiting2 e in
       leaves (setting rule K g done waiting) r (length g) (setting-sound rule K g r G done waiting (R .bounded)) low (half-height K low) (omega (arith, multiple K tall)) small plan2 (n .rested) words waiting2 n q i o
 
+  -- a whole plan with a stage in front is that stage and the whole plan behind it
   pub more-whole : (s : Stage) (a : Answer) (ss : List Stage) → more s a ≡ whole ss → (ts : List Stage) × (a ≡ whole ts) × (ss ≡ s ∷ ts)
   unfolding more
   more-whole s (refusal m j) ss e = absurd (let z : _≡_ {A = ℕ} 0 1 = cc in omega arith)
   more-whole s (whole ts) ss e = (ts, refl, cc)
 
+  -- in a whole plan every pin that waited stands in a written word
   pub all-written : (rooms k : ℕ) (done waiting : List ℕ) → Ready g r waiting → (room : ℕ) (ss : List Stage) → stages rule K g rooms k done waiting room ≡ whole ss → (q : ℕ) → In q waiting → Written K q ss
   unfolding stages
   all-written zero k done [] R room ss e q i = in-nil q i

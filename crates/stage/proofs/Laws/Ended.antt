@@ -35,6 +35,7 @@ module _ {C : Context} {pl : List ℕ} {m K half o n at room : ℕ} {s : Spent} 
   waiting-is : list WAITING m n w1 ≡ C .X .waiting
   waiting-is = placed-frame (M .waiting) (L .frame) refl refl (omega arith) (omega arith) .held .is
 
+  -- after rule 10 the stage may be closed
   pub close-at : CloseAt m o n (k .real) w1
   close-at = record {
     area = frame-room (L .frame) (M .area);
@@ -74,6 +75,7 @@ module _ {C : Context} {pl : List ℕ} {m K half o n at room : ℕ} {s : Spent} 
       behind = λ i h. rw (L .wrote) (laid-past at words (L .ws) laid i (omega (arith, L .fit)));
     }
 
+    -- closed, it is the stage that the rules give
     pub ended : Ends C pl m at room s pl2 w words (record { number = 0; words = k .words; waiting = e }) pl2 w2 words1
     unfolding close
     ended = record {

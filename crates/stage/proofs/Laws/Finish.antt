@@ -9,6 +9,7 @@ use lib.Dec.{ltb}
 use lib.ListN.{length, take, length-take}
 use lib.Seq.{take-all}
 use Rattle.stage_walk.proofs.Contexts.{work}
+use Rattle.rules.specs.Cells.{isHeight, levelOneSize}
 use Rattle.rules.specs.Placing.{neededOf}
 use Rattle.rules.specs.Ending.{putRest, written, rest, finish}
 use Rattle.rules.specs.Lists.{In, laidAt}
@@ -26,12 +27,15 @@ use Rattle.stage_walk.specs.Stands.{Context}
 use Rattle.stage_runs.specs.declared.Spent.{Spent}
 use Rattle.stage_runs.specs.Laid.{noted}
 use Rattle.stage_runs.specs.Ran.{EndAt, Ran}
+use Rattle.cells.specs.Answers.{orZero}
+use Rattle.stage_runs.proofs.Laws.Half.{half-is}
 use Rattle.stage_runs.proofs.Laws.Laid.{laid-length, laid-below, laid-past, laid-over}
 use Rattle.stage_ending.specs.Rest.{RestAt, Filled}
 use Rattle.stage.specs.declared.finish.Outcome.{Outcome}
 use Rattle.stage.specs.Finish.{FinishAt, Changed, touched, Finished, Midway, RestingAt, LastingAt, Ends}
 use Rattle.rules.specs.Traversal.{levelAt}
 
+-- two changes that a stage may make are one
 pub changed-then : {fs : List ℕ} {m at room : ℕ} {pl w words pl1 w1 words1 pl2 w2 words2 : List ℕ} → Changed fs m at room pl w words pl1 w1 words1 → Changed fs m at room pl1 w1 words1 pl2 w2 words2 → Changed fs m at room pl w words pl2 w2 words2
 changed-then a b = record {
   frame = frame-then (a .frame) (b .frame);
@@ -48,8 +52,9 @@ module _ {C : Context} {pl : List ℕ} {m K half o n q at room : ℕ} {s : Spent
   abbrev M : Midway C pl m K half o n at room s pl1 w words
   M = A .mid
 
-  pub rest-at : RestAt C m half q gates pl1 w
-  rest-at = record { stands = A .stands; row = M .row ∙ rw (M .height) refl; needed = holds-self (A .list); pins = rw (A .list .is) (A .pins) }
+  -- after rule 8 the remaining needed pins may be placed
+  pub rest-at : {r : ℕ} → r ≡ orZero (isHeight K) (levelOneSize K) → RestAt C m r q gates pl1 w
+  rest-at e = record { stands = A .stands; row = half-is (omega (arith, M .height, C .low)) (omega (arith, M .height, C .high)) e ∙ rw (M .height) refl; needed = holds-self (A .list); pins = rw (A .list .is) (A .pins) }
 
   module _ {b : Bool} {pl2 w1 : List ℕ} (F : Filled C m q gates pl1 w b pl2 w1) where
     rest-is : putRest (C .X) (list NEEDED m q w) (written (C .X) pl .real) pl1 ≡ rest (C .X) pl
@@ -69,6 +74,7 @@ module _ {C : Context} {pl : List ℕ} {m K half o n q at room : ℕ} {s : Spent
     fits : ltb room (length (written (C .X) pl .words)) ≡ false
     fits = false-ltb room (length (written (C .X) pl .words)) (omega (arith, M .fit, M .count))
 
+    -- where test 8 fails the stage is refused with 8
     pub ends-eight : b ≡ false → Ends C pl m at room s pl1 w words (record { number = 8; words = 0; waiting = 0 }) pl2 w1 words
     ends-eight e = record {
       finished = record {
@@ -82,6 +88,7 @@ module _ {C : Context} {pl : List ℕ} {m K half o n q at room : ℕ} {s : Spent
       longer = λ h. absurd (omega arith);
     }
 
+    -- where it passes rule 10 may follow
     pub lasting-at : b ≡ true → LastingAt C pl m K half o n at room s pl2 w1 words
     lasting-at e =
         let fr = F .kept .frame in
@@ -111,6 +118,7 @@ module _ {C : Context} {pl : List ℕ} {m K half o n q at room : ℕ} {s : Spent
           free = F .yes e .1;
         }
 
+    -- what follows rule 9 ends what began before it
     pub ends-rest : {e : Outcome} {pl3 w2 words1 : List ℕ} → Ends C pl m at room s pl2 w1 words e pl3 w2 words1 → Ends C pl m at room s pl1 w words e pl3 w2 words1
     ends-rest E = record { finished = record { changed = changed-then filling (E .finished .changed); refuses = E .finished .refuses; whole = E .finished .whole }; longer = E .longer }
 
@@ -121,6 +129,7 @@ module _ {C : Context} {m K half o n q : ℕ} {asked : Asked} {at room : ℕ} {g
   pub room-as : {r : ℕ} → r ≡ room → FinishAt C m K half o n q asked at r gates pl w words
   room-as e = rw e A
 
+  -- after the loop rule 8 may follow
   pub end-at : EndAt C m K half n asked at room gates pl w words
   end-at = record { stands = A .stands; begun = A .set .begun; height = A .height; row = A .row; ruled = A .ruled; marks = A .marks .zero; spare = A .spare .zero; fits = A .fits }
 
@@ -151,6 +160,7 @@ module _ {C : Context} {m K half o n q : ℕ} {asked : Asked} {at room : ℕ} {g
       behind = λ i h. rw wrote-is (laid-past at words some few i (omega (arith, length-take room early)));
     }
 
+    -- more words than may be written: the stage is refused with 7
     pub finished-seven : room < s .words → Finished C m at room (finish (C .X) room pl) pl w words (record { number = 7; words = 0; waiting = 0 }) pl1 w1 words1
     finished-seven h = record { changed = running; refuses = λ d. finish-seven (C .X) room pl (true-ltb room (length early) (omega (arith, R .count))); whole = λ d. absurd (omega arith) }
 
@@ -161,6 +171,7 @@ module _ {C : Context} {m K half o n q : ℕ} {asked : Asked} {at room : ℕ} {g
       stay : words1 ≡ laidAt at early words1
       stay = all-are ∙ sym (ap (laidAt at early) all-are ∙ laid-over at words early early (omega (arith, A .fits, R .count)) (omega arith))
 
+      -- no more: rule 9 may follow
       pub resting-at : RestingAt C pl m K half o n q at room s gates pl1 w1 words1
       resting-at =
           let fr = R .touched .frame in
@@ -192,6 +203,7 @@ module _ {C : Context} {m K half o n q : ℕ} {asked : Asked} {at room : ℕ} {g
             pins = low-needed;
           }
 
+      -- what follows rule 8 ends the stage
       pub finished : {e : Outcome} {pl2 w2 words2 : List ℕ} → Ends C pl m at room s pl1 w1 words1 e pl2 w2 words2 → Finished C m at room (finish (C .X) room pl) pl w words e pl2 w2 words2
       finished E = record {
         changed = changed-then running (E .finished .changed);
@@ -213,8 +225,10 @@ module _ {C : Context} {m K half o n q : ℕ} {asked : Asked} {at room : ℕ} {g
             };
       }
 
+-- the stage is the same where the room has another name
 pub finished-as : {C : Context} {m at room r : ℕ} {pl w words : List ℕ} {e : Outcome} {pl′ w′ words′ : List ℕ} → r ≡ room → Finished C m at r (finish (C .X) r pl) pl w words e pl′ w′ words′ → Finished C m at room (finish (C .X) room pl) pl w words e pl′ w′ words′
 finished-as e F = rw (sym e) F
 
+-- what fits the room fits it by its other name
 pub fits-as : {n room r : ℕ} → r ≡ room → n ≤ room → n ≤ r
 fits-as e h = omega (arith, e, h)

@@ -40,6 +40,7 @@ module _ {C : Context} {pl : List ℕ} {m K half o n at room : ℕ} {s : Spent} 
   fits : ltb room (length early) ≡ false
   fits = false-ltb room (length early) (omega (arith, M .fit, M .count))
 
+  -- where nothing is untouched rule 10 may be tried
   pub last-at : LastAt m K half n at room (record { real = s .real; words = s .words }) pl2 w words
   last-at = record {
     up = record { area = M .area; pins = cells-pins C (M .fair) (M .graph); clear = M .tail; size = rw (M .height) (M .fair .len); low = omega (arith, M .height, C .low); high = omega (arith, M .height, C .high); row = M .row };
@@ -68,6 +69,7 @@ module _ {C : Context} {pl : List ℕ} {m K half o n at room : ℕ} {s : Spent} 
       past = P;
     }
 
+  -- where something is, no more words are written
   pub lasting-not : s .last ≡ false → Lasting C pl m at room s pl2 w words (record { real = s .real; words = s .words }) w words
   lasting-not e = same (rw (← M .is-last, e) refl) refl refl (marked-self (M .realised)) frame-none (λ j h. refl)
 
@@ -85,6 +87,7 @@ module _ {C : Context} {pl : List ℕ} {m K half o n at room : ℕ} {s : Spent} 
     unfolding inTree
     all-wait x i = elim (insertAll-in x (inTree (C .X) pl) real i) [ inl d ↦ keep-in _ x (C .X .waiting) d .0 | inr d ↦ M .waits x d ]
 
+    -- tried, it writes all its words or none
     pub lasting-last : Lasting C pl m at room s pl2 w words k w1 words1
     lasting-last = split (leb (length early + length more) room)
         (λ t.

@@ -19,7 +19,7 @@ use Rattle.stage.specs.declared.finish.Outcome.{Outcome}
 use Rattle.stage_loop.specs.Filling.{FillAt, FilledTree}
 use Rattle.stage.specs.Finish.{FinishAt, Changed, Whole, Finished}
 use Rattle.stage.specs.Stage.{StageAt, columns, built, Staged}
-use Rattle.stage_loop.proofs.Laws.Loop.{set-kept}
+use Rattle.stage_loop.proofs.Laws.Tries.{set-kept}
 
 -- the stage of a context is what rules 8 to 11 make of rules 2 to 7's plan
 built-is : (C : Context) (room : ℕ) → finish (C .X) room (filledPlan (C .X)) ≡ built C room
@@ -27,6 +27,7 @@ unfolding built oneStage
 built-is C room = ap (λ (X : Setting). finish X room (filledPlan X)) (C .is)
 
 module _ {C : Context} {m K half n : ℕ} {asked : Asked} {at room : ℕ} {gates pl w words : List ℕ} (A : StageAt C m K half n asked at room gates pl w words) where
+  -- at a stage's start the walks may be made
   pub stage-prepare : PrepareAt C m n gates w
   stage-prepare = record { begun = A .begun; fresh = A .fresh }
 
@@ -34,7 +35,8 @@ module _ {C : Context} {m K half n : ℕ} {asked : Asked} {at room : ℕ} {gates
     tail-prepared : (j : ℕ) → getD w₁ (16 * m + j) 0 ≡ getD w (16 * m + j) 0
     tail-prepared j = P .frame .past refl (16 * m + j) (omega arith)
 
-    pub stage-fill : FillAt C m n k top K half gates pl w₁
+    -- behind the walks the loop of rules 2 to 7 may run
+    pub stage-fill : FillAt C m n k top K gates pl w₁
     stage-fill = record {
       set = P .set;
       clear = clear-frame (A .marks) (P .frame) refl (omega arith);
@@ -44,10 +46,10 @@ module _ {C : Context} {m K half n : ℕ} {asked : Asked} {at room : ℕ} {gates
       pins = tail-prepared 257 ∙ A .tail 257 (omega arith);
       most = P .most;
       height = A .height;
-      row = A .row;
     }
 
     module _ {q : ℕ} {pl₁ w₂ : List ℕ} (F : FilledTree C m gates pl w₁ q pl₁ w₂) where
+      -- behind the loop rules 8 to 11 may run
       pub stage-finish : FinishAt C m K half k n q asked at room gates pl₁ w₂ words
       stage-finish = record {
         stands = F .stands;
@@ -64,6 +66,7 @@ module _ {C : Context} {m K half n : ℕ} {asked : Asked} {at room : ℕ} {gates
       }
 
       module _ {e : Outcome} {pl₂ w₃ words₁ : List ℕ} (E : Finished C m at room (finish (C .X) room pl₁) pl₁ w₂ words e pl₂ w₃ words₁) where
+        -- behind these the walks may be forgotten
         pub stage-forget : ForgetAt m k w₃
         stage-forget = forget-frame (forget-frame (forget-at (P .set) (P .reversed) (P .marks) (P .beyond)) (F .kept .frame) refl refl refl refl refl refl) (E .changed .frame) refl refl refl refl refl refl
 
@@ -99,6 +102,7 @@ module _ {C : Context} {m K half n : ℕ} {asked : Asked} {at room : ℕ} {gates
                 tail = λ j h. G .frame .past refl (16 * m + j) (omega arith) ∙ W .tail j h;
               }
 
+          -- together they are one stage, and the next one finds what this one found
           pub staged : Staged C m at room pl w words e pl₂ w₄ words₁
           staged = record {
             changed = changes;

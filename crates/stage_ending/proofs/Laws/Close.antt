@@ -26,11 +26,13 @@ use Rattle.stage_ending.specs.Close.{either, PinAt, Within, Zeroed, Wipe
 
 -- ---- lists
 
+-- a pin is in two lists behind each other if it is in one of them
 pub mem-append : (p : ℕ) (xs ys : List ℕ) → mem p (xs ++ ys) ≡ (mem p xs || mem p ys)
 unfolding mem
 mem-append p [] ys = refl
 mem-append p (x ∷ xs) ys = split (eqb p x) (λ e. rw (e, mem)) (λ e. rw (e, mem) (mem-append p xs ys))
 
+-- a pin is in a list of one if it is that pin
 pub mem-one : (p x : ℕ) → mem p (x ∷ []) ≡ eqb p x
 unfolding mem
 mem-one p x = split (eqb p x) (λ e. rw (e, mem)) (λ e. rw (e, mem))
@@ -84,11 +86,13 @@ zeroed-set {m} {w} f p h l = record {
 zeroed-frame : {f m : ℕ} {fs gs xs t u v w : List ℕ} → Frame fs m t u → Zeroed f m xs u v → Frame gs m v w → among fs f ≡ false → among gs f ≡ false → f < 16 → Zeroed f m xs t w
 zeroed-frame {f} {m} {fs} {gs} {xs} F Z G a b h = record { field = λ p l. G .cell f b h p l ∙ Z .field p l ∙ ap (either (mem p xs) 0) (F .cell f a h p l) }
 
+-- a column that is 0 elsewhere is clear once its pins are wiped
 pub zeroed-clear : {f m : ℕ} {xs w w′ : List ℕ} → Within f m xs w → Zeroed f m xs w w′ → Clear f m w′
 zeroed-clear {f} {m} {xs} {w} A Z = record { zero = λ p h. Z .field p h ∙ split (mem p xs) (λ e. rw e refl) (λ e. rw e (A .zero p h e)) }
 
 -- ---- the pins above level 0 are realised
 
+-- no pin retired changes nothing
 pub retired-none : {m : ℕ} {w : List ℕ} → Retired m [] w w
 unfolding mem
 retired-none = record { frame = frame-none; done = λ p h. refl; cells = zeroed-none; marks = zeroed-none; spare = zeroed-none }
@@ -98,6 +102,7 @@ mixed d c true true = refl
 mixed d c true false = refl
 mixed d c false y = refl
 
+-- some pins retired and some more
 pub retired-then : {m : ℕ} {xs ys u v w : List ℕ} → Retired m xs u v → Retired m ys v w → Retired m (xs ++ ys) u w
 retired-then {m} {xs} {ys} {u} a b = record {
   frame = frame-then (a .frame) (b .frame);
@@ -108,6 +113,7 @@ retired-then {m} {xs} {ys} {u} a b = record {
 }
 
 module _ {m p : ℕ} {w : List ℕ} (a : PinAt m p w) where
+  -- three stores wipe a pin's count and marks
   pub wiped : (w₁ w₂ w₃ : List ℕ) → w₁ ≡ set w (CELLS * m + p) 0 → w₂ ≡ set w₁ (MARK * m + p) 0 → w₃ ≡ set w₂ (SPARE * m + p) 0 → Wiped m (p ∷ []) w w₃
   wiped w₁ w₂ w₃ e₁ e₂ e₃ =
       let F₁ : Frame (CELLS ∷ []) m w w₁ = rw e₁ (frame-set CELLS p 0 (a .pin) (omega arith) refl) in
@@ -120,6 +126,7 @@ module _ {m p : ℕ} {w : List ℕ} (a : PinAt m p w) where
         spare = zeroed-frame (frame-then (frame-more {gs = CELLS ∷ MARK ∷ []} refl F₁) (frame-more refl F₂)) (rw e₃ (zeroed-set SPARE p (a .pin) (omega (arith, a .area .room, F₁ .len, F₂ .len)))) (frame-none {fs = []}) refl refl (omega arith);
       }
 
+  -- a pin without cells is only wiped
   pub retire-none : getD w (CELLS * m + p) 0 ≡ 0 → {w₁ : List ℕ} → Wiped m (p ∷ []) w w₁ → Retired m (p ∷ []) w w₁
   retire-none e W = record {
     frame = frame-more refl (W .frame);
@@ -133,9 +140,11 @@ module _ {m p : ℕ} {w : List ℕ} (a : PinAt m p w) where
     first : Frame (DONE ∷ []) m w w₁
     first = rw e₁ (frame-set DONE p 1 (a .pin) (omega arith) refl)
 
+    -- a pin with cells is marked as realised, and may be wiped
     pub retire-at : PinAt m p w₁
     retire-at = record { area = frame-room first (a .area); pin = a .pin }
 
+    -- a pin with cells, marked and wiped, is retired
     pub retire-one : (getD w (CELLS * m + p) 0 ≡ 0 → ⊥) → {w₂ : List ℕ} → Wiped m (p ∷ []) w₁ w₂ → Retired m (p ∷ []) w w₂
     retire-one ne W = record {
       frame = frame-then (frame-more refl first) (frame-more refl (W .frame));
@@ -152,17 +161,21 @@ module _ {m k i : ℕ} {w w₁ : List ℕ} (a : RetireAt m k w) (R : Retired m (
   order-is : getD w₁ (ORDER * m + i) 0 ≡ getD (list ORDER m k w) i 0
   order-is = R .frame .cell ORDER refl (omega arith) i (omega (arith, a .order .few)) ∙ holds-at (a .order) i h
 
+  -- the next pin of the order is a pin of the area
   pub order-pin : (p : ℕ) → p ≡ getD w₁ (ORDER * m + i) 0 → PinAt m p w₁
   order-pin p e = record { area = frame-room (R .frame) (a .area); pin = rw (e, order-is) (a .order .pins i h) }
 
+  -- one more pin of the order is retired
   pub retired-more : (p : ℕ) → p ≡ getD w₁ (ORDER * m + i) 0 → {w₂ : List ℕ} → Retired m (p ∷ []) w₁ w₂ → Retired m (take (i + 1) (list ORDER m k w)) w w₂
   retired-more p e S = rw (next (list ORDER m k w) i k (a .order .count) h, ← order-is, ← e) (retired-then R S)
 
+-- all pins of the order are retired
 pub retired-done : {m k i : ℕ} {w w₁ : List ℕ} → RetireAt m k w → Retired m (take i (list ORDER m k w)) w w₁ → i ≤ k → k ≤ i → Retired m (list ORDER m k w) w w₁
 retired-done {m} {k} {i} {w} {w₁} a R b c = let t : take i (list ORDER m k w) ≡ list ORDER m k w = take-all i (list ORDER m k w) (omega (arith, a .order .count)) in rw t at R
 
 -- ---- realised endpoints leave
 
+-- at the first realised endpoint none has left
 pub leaving-none : {m n r : ℕ} {w : List ℕ} → LeaveAt m n r w → Leaving m n r 0 w w n
 unfolding swapOutAll
 leaving-none a = record { upto = omega arith; frame = frame-none; now = a .waiting }
@@ -183,15 +196,14 @@ module _ {m n r i : ℕ} {w w₁ : List ℕ} {e : ℕ} (a : LeaveAt m n r w) (L 
       absurd (omega (arith, once-place (a .real .once) (t .0) i (omega arith) (omega arith) (sym (getD-take i rs (t .0) 0 b) ∙ t .2))))
       (λ e. e)
 
-  pub real-pin : getD w₁ (STACK * m + i) 0 < m
-  real-pin = rw real-is (a .real .held .pins i h)
-
+  -- the next realised endpoint waits still, and may leave
   pub leave-at : (p : ℕ) → p ≡ getD w₁ (STACK * m + i) 0 → SwapAt m e p w₁
   leave-at p d =
       let q : p ≡ getD rs i 0 = d ∙ real-is in
       swap-out-at (L .now) (frame-room (L .frame) (a .area))
       (rw q (left-out (once-take i (a .real .once)) (list WAITING m n w) (λ x j. a .waits x (take-in i rs x j)) (getD rs i 0) (a .waits (getD rs i 0) (in-getD rs i 0 (omega (arith, a .real .held .count)))) fresh))
 
+  -- one more realised endpoint has left the waiting list
   pub leaving-more : (p : ℕ) → p ≡ getD w₁ (STACK * m + i) 0 → {w₂ : List ℕ} {e₂ : ℕ} → Swapped m e p w₁ w₂ e₂ → Leaving m n r (i + 1) w w₂ e₂
   leaving-more p d S = record {
     upto = omega arith;
@@ -199,23 +211,28 @@ module _ {m n r i : ℕ} {w w₁ : List ℕ} {e : ℕ} (a : LeaveAt m n r w) (L 
     now = rw (next rs i r (a .real .held .count) h, swapOutAll-append, swap-one, ← real-is, ← d) (swapped (L .now) S);
   }
 
+-- all realised endpoints have left it
 pub leaving-done : {m n r i : ℕ} {w w₁ : List ℕ} {e : ℕ} → LeaveAt m n r w → Leaving m n r i w w₁ e → r ≤ i → Left m n r w w₁ e
 leaving-done {m} {n} {r} {i} {w} a L h = let t : take i (list STACK m r w) ≡ list STACK m r w = take-all i (list STACK m r w) (omega (arith, a .real .held .count)) in record { frame = L .frame; now = rw t at (L .now) }
 
 -- ---- tree endpoints are realised
 
 module _ {m r p : ℕ} {w : List ℕ} (a : OneAt m r p w) where
+  -- a needed waiting pin is no tree endpoint
   pub one-not : (getD w (SPARE * m + p) 0 ≡ 0 → ⊥) → One m r p w w r
   unfolding isTree keep insertAll
   one-not ne = record { frame = frame-none; real = rw (ne-eqb (getD w (SPARE * m + p) 0) 0 ne, keep) (a .real) }
 
+  -- a waiting pin may be listed as realised
   pub one-at : EnlistAt STACK MARK m r p w
   one-at = enlist-at (a .real) (a .area) (a .pin) (omega arith) (omega arith) (λ e. omega arith)
 
+  -- a tree endpoint is listed as realised
   pub one-more : getD w (SPARE * m + p) 0 ≡ 0 → {w′ : List ℕ} {e : ℕ} → Enlisted STACK MARK m r p w w′ e → One m r p w w′ e
   unfolding isTree keep insertAll
   one-more z E = record { frame = E .frame; real = rw (eq-eqb (getD w (SPARE * m + p) 0) 0 z, keep) (E .now) }
 
+-- at the first waiting pin none is added
 pub realising-none : {m n r : ℕ} {w : List ℕ} → RealiseAt m n r w → Realising m n r 0 w w r
 unfolding keep insertAll
 realising-none a = record { upto = omega arith; frame = frame-none; real = a .real }
@@ -227,9 +244,11 @@ module _ {m n r i : ℕ} {w w₁ : List ℕ} {e : ℕ} (a : RealiseAt m n r w) (
   waiting-is : getD w₁ (WAITING * m + i) 0 ≡ getD ws i 0
   waiting-is = R .frame .cell WAITING refl (omega arith) i (omega (arith, a .waiting .few)) ∙ holds-at (a .waiting) i h
 
+  -- the next waiting pin may be looked at
   pub realise-at : (p : ℕ) → p ≡ getD w₁ (WAITING * m + i) 0 → OneAt m e p w₁
   realise-at p d = record { area = frame-room (R .frame) (a .area); pin = rw (d, waiting-is) (a .waiting .pins i h); real = rw (R .real .held .is) (R .real) }
 
+  -- one more waiting pin is looked at
   pub realising-more : (p : ℕ) → p ≡ getD w₁ (WAITING * m + i) 0 → {w₂ : List ℕ} {e₂ : ℕ} → One m e p w₁ w₂ e₂ → Realising m n r (i + 1) w w₂ e₂
   unfolding keep isTree
   realising-more p d O =
@@ -241,5 +260,6 @@ module _ {m n r i : ℕ} {w w₁ : List ℕ} {e : ℕ} (a : RealiseAt m n r w) (
         real = rw (next ws i n (a .waiting .count) h, keep-append, insertAll-append, ← k, ← R .real .held .is) (O .real);
       }
 
+-- all tree endpoints are realised
 pub realising-done : {m n r i : ℕ} {w w₁ : List ℕ} {e : ℕ} → RealiseAt m n r w → Realising m n r i w w₁ e → n ≤ i → Realised m n r w w₁ e
 realising-done {m} {n} {r} {i} {w} a R h = let t : take i (list WAITING m n w) ≡ list WAITING m n w = take-all i (list WAITING m n w) (omega (arith, a .waiting .count)) in record { frame = R .frame; real = rw t at (R .real) }

@@ -19,6 +19,7 @@ use Rattle.columns.proofs.Lists.Clears.{clear-frame}
 use Rattle.stage_ending.specs.Close.{either, Within, Retired, RetireAt, Left, CloseAt, Closed}
 use Rattle.stage_ending.proofs.Laws.Close.{zeroed-clear}
 
+-- a column that is 0 but at some pins stays so where it is not named
 pub within-frame : {fs : List ℕ} {f m : ℕ} {xs w w′ : List ℕ} → Frame fs m w w′ → among fs f ≡ false → f < 16 → Within f m xs w → Within f m xs w′
 within-frame {fs} {f} F a h A = record { zero = λ p b o. F .cell f a h p b ∙ A .zero p b o }
 
@@ -26,6 +27,7 @@ module _ {m o n r : ℕ} {w : List ℕ} (A : CloseAt m o n r w) {w1 : List ℕ} 
   order-is : list ORDER m o w1 ≡ list ORDER m o w
   order-is = frame-list (L .frame) ORDER o refl (omega arith)
 
+  -- with the endpoints gone the pins of the order may retire
   pub retire-at : RetireAt m o w1
   retire-at = record { area = frame-room (L .frame) (A .area); order = rw order-is (holds-frame (A .order) (L .frame) refl (omega arith)) }
 
@@ -52,6 +54,7 @@ module _ {m o n r : ℕ} {w : List ℕ} (A : CloseAt m o n r w) {w1 : List ℕ} 
     done-is : (p : ℕ) → p < m → getD w2 (DONE * m + p) 0 ≡ realised (getD w (CELLS * m + p) 0) (list ORDER m o w) p
     done-is p b = R .done p b ∙ rw (order-is, L .frame .cell CELLS refl (omega arith) p b, L .frame .cell DONE refl (omega arith) p b) refl
 
+    -- both, and the tail cleared, are rule 11
     pub closed : Closed m o n r w w3 e
     closed = record {
       frame = frame-then (frame-more refl (L .frame)) (frame-more refl later);

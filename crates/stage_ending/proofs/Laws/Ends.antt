@@ -26,6 +26,7 @@ module _ (f : ℕ → Bool) (ps : List ℕ) {m : ℕ} (tests : (c : ℕ) → c <
       (λ e. let o : Out c ps = rw (not-filled c e) pins in rw (e, wordsAt, words-out ps p c cs ws o) (more ws))
 
   module _ (K : ℕ) {pl : List ℕ} (P : Pins m pl) where
+    -- the words found by the columns' test are rule 10's, level after level
     pub words-up : (n h : ℕ) (ws : List ℕ) → wordsFrom f K n h pl ws ≡ wordsUp K n h ps pl ws
     unfolding wordsFrom wordsUp
     words-up zero h ws = refl

@@ -31,17 +31,21 @@ found-any i j [] c e = absurd (let z : _≡_ {A = ℕ} 0 1 = cc in omega arith)
 found-any i j (x ∷ cs) c e = split (filled x) (λ f. rw (f, firstEmpty) (found-any (suc i) (suc j) cs c (rw (f, firstEmpty) at e))) (λ f. (j, rw (f, firstEmpty) refl))
 
 module _ {C : Context} {m half q : ℕ} {gates pl w : List ℕ} (A : RestAt C m half q gates pl w) where
+  -- level 1 ends by position 8,192
   pub half-few : 2 * half ≤ 8192
   half-few = rw (A .row) (row-high (C .X .K) 1 (omega arith) (omega (arith, C .low)) (C .high))
 
   module _ {b : Bool} {pl1 w1 : List ℕ} (B : Rested C m q gates pl w b pl1 w1) where
+    -- a needed pin without a cell fails test 8
     pub filled-full : b ≡ false → Filled C m q gates pl w false pl1 w1
     unfolding answer
     filled-full e = record { kept = B .kept; size = B .size; stands = B .stands; yes = λ d. true-false d refl; no = λ d real M. inl (B .is real M ∙ rw e refl) }
 
+    -- level 1 may be searched for an empty cell
     pub filled-search : SearchAt pl1 half (2 * half)
     filled-search = record { upto = omega arith; inside = omega (arith, A .row, B .stands .fair .len, two-step (C .X .K), half-height (C .X .K) (omega (arith, C .low))) }
 
+    -- test 8 passes where one is found
     pub filled-test : b ≡ true → {c : ℕ} → First pl1 half (2 * half) c → Filled C m q gates pl w (ltb c (2 * half)) pl1 w1
     unfolding answer cellAt
     filled-test e {c} F = record {

@@ -30,9 +30,11 @@ module _ {m K half n at room : ℕ} {s : Kept} {pl w out : List ℕ} (A : LastAt
   count : length ws ≡ k
   count = spots .count
 
+  -- there are at most 256 words
   pub few : k ≤ 256
   few = omega (arith, once-few (spots .once) 256 (spots .low), count)
 
+  -- words that don't all fit are not written, and nothing is realised by them
   pub last-none : room < s .words + k → Lasted m K n at room s pl w out s w1 out
   last-none h = record {
     frame = frame-more refl (U .kept .frame);
@@ -43,6 +45,7 @@ module _ {m K half n at room : ℕ} {s : Kept} {pl w out : List ℕ} (A : LastAt
   }
 
   module _ (h : s .words + k ≤ room) where
+    -- words that fit may be written
     pub write-at : words.WriteAt m (at + s .words) k ws out w1
     write-at = record { spots = spots; fits = omega (arith, A .fits); small = A .small }
 
@@ -56,6 +59,7 @@ module _ {m K half n at room : ℕ} {s : Kept} {pl w out : List ℕ} (A : LastAt
       real-is : list STACK m (s .real) w2 ≡ list STACK m (s .real) w
       real-is = frame-list (kept .frame) STACK (s .real) refl (omega arith)
 
+      -- with the words written the tree endpoints may be realised
       pub realise-at : RealiseAt m n (s .real) w2
       realise-at = record {
         area = frame-room (kept .frame) (A .up .area);
@@ -67,6 +71,7 @@ module _ {m K half n at room : ℕ} {s : Kept} {pl w out : List ℕ} (A : LastAt
       unfolding isTree
       tree-same = rw waiting-is (keep-ext (isTree m w2) (isTree m w) (list WAITING m n w) (λ x i. rw (kept .frame .cell SPARE refl (omega arith) x (holds-below (A .waiting) x i)) refl))
 
+      -- words that fit are written, and the tree endpoints realised
       pub last-more : {w3 : List ℕ} {e : ℕ} → Realised m n (s .real) w2 w3 e → Lasted m K n at room s pl w out (record { real = e; words = s .words + k }) w3 out1
       last-more E = record {
         frame = frame-then (frame-more refl (kept .frame)) (frame-more refl (E .frame));

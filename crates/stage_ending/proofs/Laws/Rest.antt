@@ -54,9 +54,11 @@ module _ {C : Context} {m half from p : ℕ} {gates pl w : List ℕ} (A : PinAt 
   low-height : 1 ≤ C .X .K
   low-height = omega (arith, C .low)
 
+  -- the pin is one of the area
   pub pin-below : p < m
   pin-below = omega (arith, C .S .bound p (A .listed), A .stands .base .size)
 
+  -- level 1 ends by position 8,192
   pub half-few : 2 * half ≤ 8192
   half-few = rw (A .row) (row-high (C .X .K) 1 (omega arith) low-height (C .high))
 
@@ -76,6 +78,7 @@ module _ {C : Context} {m half from p : ℕ} {gates pl w : List ℕ} (A : PinAt 
   }
 
   module _ {b : Bool} (is-real : b ≡ not (eqb (getD w (MARK * m + p) 0) 0)) where
+    -- a realised pin needs no cell
     pub skip-real : b ≡ true → Pinned C m half p gates pl w from pl w
     skip-real t = skips (λ real M. let e : mem p real ≡ true = sym (is-real ∙ marks-test M p pin-below) ∙ t in rw e refl)
 
@@ -85,9 +88,11 @@ module _ {C : Context} {m half from p : ℕ} {gates pl w : List ℕ} (A : PinAt 
           is-tree ∙ rw (A .stands .tally .cells p pin-below, not-zero)
           (sym (tree-cells (C .X .K) pl p (listed-filled (work C) p (A .listed))))
 
+      -- a pin in the tree needs no cell either
       pub skip-tree : d ≡ true → Pinned C m half p gates pl w from pl w
       skip-tree t = skips (λ real M. let e : mem p (tree (C .X .K) pl) ≡ true = sym tree-test ∙ t in rw e (or-some (mem p real)))
 
+      -- any other looks for a cell, from where the last search ended
       pub pin-search : SearchAt pl from (2 * half)
       pin-search = record { upto = A .high; inside = inside }
 
@@ -115,6 +120,7 @@ module _ {C : Context} {m half from p : ℕ} {gates pl w : List ℕ} (A : PinAt 
               let l : Left pl half (2 * half) whole from = rw z at (left-from (from - half) (omega (arith, A .low))) in
               record { from = omega (arith, F .from, A .low); to = F .to; at = λ b. l ∙ F .at b; none = λ b. l ∙ F .none b }
 
+          -- no cell left: rule 9 fails
           pub pin-full : 2 * half ≤ c → Pinned C m half p gates pl w (c + 1) pl w
           unfolding cellAt
           pin-full h = record {
@@ -135,6 +141,7 @@ module _ {C : Context} {m half from p : ℕ} {gates pl w : List ℕ} (A : PinAt 
             may : Placeable (C .X) pl 1 c p
             may = let t = row-empty (C .X .K) 1 pl c is-first in record { low = omega arith; high = low-height; row = t .0; end = t .1; free = t .2; listed = A .listed; level = A .level }
 
+            -- an empty cell may take it
             pub pin-place : PlaceAt C m 1 half c p gates pl w
             pin-place = may-place (A .stands) (A .row) may
 
@@ -146,6 +153,7 @@ module _ {C : Context} {m half from p : ℕ} {gates pl w : List ℕ} (A : PinAt 
                 let e : getD (part pl half (2 * half)) (q - half) empty ≡ getD pl q empty = getD-take (2 * half - half) (drop half pl) (q - half) empty (omega (arith, A .row)) ∙ getD-drop half pl (q - half) empty ∙ rw z refl in
                 rw (← e) (first-before half (part pl half (2 * half)) c (first .at h) (q - half) (omega (arith, A .row)))
 
+            -- the lowest empty cell takes the pin
             pub pin-placed : {pl1 w1 : List ℕ} → Placed C m 1 half c p pl w pl1 w1 → Pinned C m half p gates pl w (c + 1) pl1 w1
             unfolding placed
             pin-placed B = record {
@@ -165,6 +173,7 @@ module _ {C : Context} {m half n : ℕ} {gates pl w : List ℕ} (A : RestAt C m 
   unfolding span
   all-pins = refl
 
+  -- before the first needed pin nothing is placed
   pub resting-none : Resting C m half n 0 half gates pl w pl w
   resting-none = record {
     upto = omega arith;
@@ -178,6 +187,7 @@ module _ {C : Context} {m half n : ℕ} {gates pl w : List ℕ} (A : RestAt C m 
   }
 
   module _ {i from : ℕ} {pl1 w1 : List ℕ} (B : Resting C m half n i from gates pl w pl1 w1) where
+    -- past the last all have their cells
     pub resting-done : n ≤ i → Rested C m n gates pl w true pl1 w1
     unfolding answer putRest
     resting-done h = record { kept = B .kept; size = B .size; stands = B .stands; is = λ real M. B .same real M ∙ rw (span-none NEEDED m i n w (A .needed .few) h) refl }
@@ -189,6 +199,7 @@ module _ {C : Context} {m half n : ℕ} {gates pl w : List ℕ} (A : RestAt C m 
       next-is : span NEEDED m i n w ≡ p ∷ span NEEDED m (i + 1) n w
       next-is = rw pin-is (span-next NEEDED m i n w (A .needed .few) h)
 
+      -- the next one may look for its cell
       pub resting-pin : PinAt C m half from p gates pl1 w1
       resting-pin =
           let t = A .pins (getD w (NEEDED * m + i) 0) (holds-in (A .needed) i h) in
@@ -198,6 +209,7 @@ module _ {C : Context} {m half n : ℕ} {gates pl w : List ℕ} (A : RestAt C m 
         marks : (real : List ℕ) → Marks MARK m real w → Marks MARK m real w1
         marks real M = marks-frame M (B .kept .frame) refl (omega arith)
 
+        -- a needed pin without a cell ends rule 9
         pub resting-full : 2 * half < e → Rested C m n gates pl w false pl2 w2
         unfolding answer
         resting-full b = record {
@@ -207,6 +219,7 @@ module _ {C : Context} {m half n : ℕ} {gates pl w : List ℕ} (A : RestAt C m 
           is = λ real M. B .same real M ∙ rw next-is (D .none b real (marks real M) (span NEEDED m (i + 1) n w));
         }
 
+        -- one more needed pin has its cell
         pub resting-more : e ≤ 2 * half → Resting C m half n (i + 1) e gates pl w pl2 w2
         resting-more b = record {
           upto = omega arith;

@@ -23,33 +23,41 @@ use Rattle.stage_tree.proofs.Bits.Cells.{getD-any}
 
 -- ---- frames
 
+-- nothing changed, so nothing but the tail's first numbers did
 pub kept-none : {m : ℕ} {w : List ℕ} → Kept m w w
 kept-none = record { frame = frame-none; past = λ j h. refl }
 
+-- two changes of the tail's first numbers are one
 pub kept-then : {m : ℕ} {u v w : List ℕ} → Kept m u v → Kept m v w → Kept m u w
 kept-then a b = record { frame = frame-then (a .frame) (b .frame); past = λ j h. b .past j h ∙ a .past j h }
 
+-- a store to one of the tail's first numbers changes no others
 pub kept-set : {m : ℕ} {w : List ℕ} (j v : ℕ) → j < 256 → Kept m w (set w (16 * m + j) v)
 kept-set {m} {w} j v h = record { frame = frame-set-tail j v refl; past = λ i k. getD-set-other w (16 * m + j) (16 * m + i) v 0 (λ e. omega arith) }
 
 -- ---- one word
 
 module _ {m n j : ℕ} {ws w : List ℕ} (a : WordAt m n j ws w) where
+  -- at most 256 words are collected
   pub few : n ≤ 256
   few = omega (arith, once-few (a .spots .once) 256 (a .spots .low), a .spots .count)
 
+  -- a word with a place is collected
   pub word-in : (getD w (16 * m + j) 0 ≡ 0 → ⊥) → In j ws
   word-in ne = split (mem j ws) (λ e. e) (λ o. absurd (ne (a .spots .none j (a .word) o)))
 
   spot-of : In j ws → (i : ℕ) × (i < n) × (getD ws i 0 ≡ j)
   spot-of i = let t = getD-in ws 0 j i in (t .0, omega (arith, t .1, a .spots .count), t .2)
 
+  -- a word without a place is not collected
   pub word-out : getD w (16 * m + j) 0 ≡ 0 → Out j ws
   word-out z = split (mem j ws) (λ i. let t = spot-of i in absurd (omega (arith, rw (t .2) at (a .spots .spot (t .0) (t .1))))) (λ o. o)
 
+  -- a word that is there changes nothing
   pub word-old : (getD w (16 * m + j) 0 ≡ 0 → ⊥) → Worded m j ws w w n
   word-old ne = record { kept = kept-none; spots = rw (insert-old j ws (word-in ne)) (a .spots) }
 
+  -- a new one goes behind the others
   pub word-new : getD w (16 * m + j) 0 ≡ 0 → (w′ : List ℕ) → w′ ≡ set w (16 * m + j) (n + 1) → Worded m j ws w w′ (n + 1)
   word-new z w′ e =
       let o = word-out z in
@@ -82,10 +90,12 @@ module _ {m n p : ℕ} {ws pl w : List ℕ} (a : CellAt m n p ws pl w) where
   same : getD pl p empty ≡ getD pl p 0
   same = getD-any pl p empty 0 (a .cell)
 
+  -- an empty cell has no word
   pub cell-none : getD pl p 0 ≡ 4294967295 → Celled m p ws pl w w n
   unfolding wordsAt filled empty
   cell-none e = record { kept = kept-none; spots = rw (same, e, wordsAt) (a .spots) }
 
+  -- a cell's word may be collected
   pub cell-at : WordAt m n (p / 32) ws w
   cell-at = record { spots = a .spots; word = omega (arith, a .high) }
 
@@ -94,13 +104,16 @@ module _ {m n p : ℕ} {ws pl w : List ℕ} (a : CellAt m n p ws pl w) where
     unfolding filled empty
     full = rw (same, ne-eqb (getD pl p 0) 4294967295 ne) refl
 
+    -- what stands in a filled cell is a pin of the area
     pub cell-pin : getD pl p 0 < m
     cell-pin = a .pins .pin p (a .cell) ne
 
+    -- a cell of another pin adds no word
     pub cell-not : isEnd m w (getD pl p 0) ≡ false → Celled m p ws pl w w n
     unfolding wordsAt
     cell-not e = let f : isEnd m w (getD pl p empty) ≡ false = rw same e in record { kept = kept-none; spots = rw (full, f, wordsAt) (a .spots) }
 
+    -- a cell of an endpoint that is looked for adds its word
     pub cell-end : isEnd m w (getD pl p 0) ≡ true → {w′ : List ℕ} {r : ℕ} → Worded m (p / 32) ws w w′ r → Celled m p ws pl w w′ r
     unfolding wordsAt
     cell-end e W = let f : isEnd m w (getD pl p empty) ≡ true = rw same e in record { kept = W .kept; spots = rw (full, f, wordsAt) (W .spots) }
@@ -123,15 +136,18 @@ and-true true = refl
 and-true false = refl
 
 module _ (m : ℕ) (w : List ℕ) (c : ℕ) where
+  -- a realised pin is not looked for
   pub end-real : not (eqb (getD w (14 * m + c) 0) 0) ≡ true → false ≡ isEnd m w c
   unfolding isEnd
   end-real e = rw (flip (eqb (getD w (14 * m + c) 0) 0) e) (and-false (not (eqb (getD w (13 * m + c) 0) 0)))
 
   module _ (e : not (eqb (getD w (14 * m + c) 0) 0) ≡ false) where
+    -- a needed pin is not looked for either
     pub end-needed : not (eqb (getD w (15 * m + c) 0) 0) ≡ true → false ≡ isEnd m w c
     unfolding isEnd
     end-needed d = rw (unflip (eqb (getD w (14 * m + c) 0) 0) e, flip (eqb (getD w (15 * m + c) 0) 0) d) (and-false (not (eqb (getD w (13 * m + c) 0) 0)))
 
+    -- any other pin is looked for if it waits
     pub end-rest : not (eqb (getD w (15 * m + c) 0) 0) ≡ false → (r : Bool) → r ≡ not (eqb (getD w (13 * m + c) 0) 0) → r ≡ isEnd m w c
     unfolding isEnd
     end-rest d r f = rw (unflip (eqb (getD w (14 * m + c) 0) 0) e, unflip (eqb (getD w (15 * m + c) 0) 0) d) (f ∙ and-true (not (eqb (getD w (13 * m + c) 0) 0)))
@@ -143,6 +159,7 @@ end-kept k c h = rw (k .frame .cell 13 refl (omega arith) c h, k .frame .cell 14
 
 -- ---- a row
 
+-- the words of two parts of a row, one after the other
 pub words-append : (f : ℕ → Bool) (p : ℕ) (cs ds ws : List ℕ) → wordsAt f p (cs ++ ds) ws ≡ wordsAt f (length cs + p) ds (wordsAt f p cs ws)
 unfolding wordsAt
 words-append f p [] ds ws = let z : 0 + p ≡ p = omega arith in rw z refl
@@ -178,11 +195,13 @@ pub record Going (m a e p : ℕ) (ws pl w w′ : List ℕ) (n : ℕ) : Type 0 wh
   pub spots : Spots m n (wordsAt (isEnd m w) a (part a p pl) ws) w′
 
 module _ {m n a e : ℕ} {ws pl w : List ℕ} (R : RowAt m n a e ws pl w) where
+  -- at the row's first cell nothing is done
   pub going-none : Going m a e a ws pl w w n
   unfolding part wordsAt
   going-none = let z : a - a ≡ 0 = omega arith in record { from = omega arith; upto = R .from; kept = kept-none; spots = rw (z, wordsAt) (R .spots) }
 
   module _ {p : ℕ} {w₁ : List ℕ} {k : ℕ} (G : Going m a e p ws pl w w₁ k) (h : p < e) where
+    -- the next cell may be looked at
     pub row-cell : CellAt m k p (wordsAt (isEnd m w) a (part a p pl) ws) pl w₁
     row-cell = record { spots = G .spots; pins = R .pins; cell = omega (arith, R .cells); high = omega (arith, R .high) }
 
@@ -192,6 +211,7 @@ module _ {m n a e : ℕ} {ws pl w : List ℕ} (R : RowAt m n a e ws pl w) where
         let q : c ≡ getD pl p 0 = d ∙ same row-cell in
         rw q (R .pins .pin p (omega (arith, R .cells)) (λ z. true-false f (rw (q, z) refl)))
 
+    -- one cell more of the row is done
     pub going-more : {w₂ : List ℕ} {r : ℕ} → Celled m p (wordsAt (isEnd m w) a (part a p pl) ws) pl w₁ w₂ r → Going m a e (p + 1) ws pl w w₂ r
     going-more C = record {
       from = omega (arith, G .from);
@@ -204,11 +224,13 @@ module _ {m n a e : ℕ} {ws pl w : List ℕ} (R : RowAt m n a e ws pl w) where
           (λ c i f. elim (in-cons c (getD pl p empty) [] i) [ inl d ↦ end-kept (G .kept) c (cell-below c d f) | inr d ↦ in-nil c d ])) at (C .spots));
     }
 
+  -- past its last cell the row is done
   pub going-done : {p : ℕ} {w₁ : List ℕ} {k : ℕ} → Going m a e p ws pl w w₁ k → e ≤ p → Rowed m a e ws pl w w₁ k
   going-done {p} G h = let z : p ≡ e = omega (arith, G .upto) in record { kept = G .kept; spots = rw z at (G .spots) }
 
 -- ---- all levels
 
+-- what is in a part of a plan is in the plan
 pub part-in : (a e : ℕ) (pl : List ℕ) (c : ℕ) → In c (part a e pl) → In c pl
 unfolding part
 part-in a e pl c i =
@@ -217,6 +239,7 @@ part-in a e pl c i =
     let j : In c (drop a pl) = rw d at (in-append-left c (take (e - a) (drop a pl)) (drop (e - a) (drop a pl)) i) in
     rw f at (in-append-right c (take a pl) (drop a pl) j)
 
+-- what is filled in the plan is a pin of the area
 pub pins-in : {m : ℕ} {pl : List ℕ} → Pins m pl → (c : ℕ) → In c pl → filled c ≡ true → c < m
 unfolding filled empty
 pins-in {m} {pl} P c i f =
@@ -225,10 +248,12 @@ pins-in {m} {pl} P c i f =
 
 -- level h + 1's row, in a plan
 module _ (K h : ℕ) (b : h < K) where
+  -- the row one level up is half as long
   pub row-twice : rowAt K h ≡ 2 * rowAt K (h + 1)
   unfolding rowAt
   row-twice = let e : K - h ≡ suc (K - (h + 1)) = omega arith in rw e (omega arith)
 
+-- a level's row is the part from its start to twice that
 pub row-part : (K h w : ℕ) (pl : List ℕ) → w ≡ rowAt K h → part w (2 * w) pl ≡ row K h pl
 unfolding part row
 row-part K h w pl e = let z : 2 * w - w ≡ w = omega arith in rw (z, e) refl
@@ -239,6 +264,7 @@ from-more f K zero h pl ws = let z : 0 + h ≡ h = omega arith in rw z refl
 from-more f K (suc n) h pl ws = let z : n + suc h ≡ suc n + h = omega arith in from-more f K n (suc h) pl (wordsAt f (rowAt K h) (row K h pl) ws) ∙ rw z refl
 
 module _ {m K half : ℕ} {pl w : List ℕ} (U : UpAt m K half pl w) where
+  -- before level 1 nothing is collected
   pub rising-none : Rising m K 1 half pl w w 0
   unfolding wordsFrom
   rising-none = record {
@@ -250,6 +276,7 @@ module _ {m K half : ℕ} {pl w : List ℕ} (U : UpAt m K half pl w) where
   }
 
   module _ {h wd n : ℕ} {w₁ : List ℕ} (R : Rising m K h wd pl w w₁ n) (b : h ≤ K) where
+    -- the next level's row may be gone through
     pub rising-row : RowAt m n wd (2 * wd) (wordsFrom (isEnd m w) K (h - 1) 1 pl []) pl w₁
     rising-row = record {
       spots = R .spots;
@@ -259,6 +286,7 @@ module _ {m K half : ℕ} {pl w : List ℕ} (U : UpAt m K half pl w) where
       high = rw (R .wide b) (row-high K h (R .from) b (U .high));
     }
 
+    -- one level more is done
     pub rising-more : {w₂ : List ℕ} {r : ℕ} → Rowed m wd (2 * wd) (wordsFrom (isEnd m w) K (h - 1) 1 pl []) pl w₁ w₂ r → Rising m K (h + 1) (wd / 2) pl w w₂ r
     rising-more E =
         let z : h + 1 - 1 ≡ suc (h - 1) = omega (arith, R .from) in
@@ -274,5 +302,6 @@ module _ {m K half : ℕ} {pl w : List ℕ} (U : UpAt m K half pl w) where
               (λ c i f. end-kept (R .kept) c (pins-in (U .pins) c (part-in wd (2 * wd) pl c i) f))) at (E .spots));
         }
 
+  -- past the top level all words are collected
   pub rising-done : {h wd n : ℕ} {w₁ : List ℕ} → Rising m K h wd pl w w₁ n → K < h → Upped m K pl w w₁ n
   rising-done {h} R b = let z : h - 1 ≡ K = omega (arith, R .upto) in record { kept = R .kept; spots = rw z at (R .spots) }

@@ -17,9 +17,11 @@ use Rattle.stage_ending.proofs.Laws.Words.{kept-none, kept-then, kept-s
 -- ---- one word
 
 module _ {m at j : ℕ} {words w : List ℕ} (a : OneAt m at j words w) where
+  -- a word that was not collected is not written
   pub one-none : getD w (16 * m + j) 0 ≡ 0 → One m at j words w words w
   one-none z = record { kept = kept-none; gone = z; other = λ i d. refl; len = refl; here = λ h. absurd (omega arith); there = λ i h. refl }
 
+  -- a word that was collected is written at its place, and its number goes
   pub one-some : (k : ℕ) → k ≡ getD w (16 * m + j) 0 → (k ≡ 0 → ⊥) → (words′ w′ : List ℕ) → words′ ≡ set words (at + k - 1) j → w′ ≡ set w (16 * m + j) 0 → One m at j words w words′ w′
   one-some k e ne words′ w′ f g =
       let pos : 0 < k = pos-of k ne in
@@ -51,6 +53,7 @@ module _ {m at n : ℕ} {ws words w : List ℕ} (W : WriteAt m at n ws words w) 
   spot-few : (j : ℕ) → j < 256 → spot j ≤ n
   spot-few j h = elim (place j h) [ inl z ↦ omega arith | inr t ↦ omega (arith, t .1, t .3) ]
 
+  -- before word 0 nothing is written
   pub writing-none : Writing m at 0 ws words w words w
   writing-none = record { upto = omega arith; kept = kept-none; gone = λ i h. absurd (omega arith); left = λ i h. refl; len = refl; here = λ i h k. absurd (omega arith); there = λ i h. refl }
 
@@ -58,6 +61,7 @@ module _ {m at n : ℕ} {ws words w : List ℕ} (W : WriteAt m at n ws words w) 
     here-is : getD w₁ (16 * m + j) 0 ≡ spot j
     here-is = Y .left j (omega arith)
 
+    -- the next word may be written
     pub write-at : OneAt m at j words₁ w₁
     write-at = record { area = frame-room (Y .kept .frame) (W .spots .area); word = h; fits = rw here-is (omega (arith, spot-few j h, W .fits, Y .len)); small = rw (Y .len) (W .small) }
 
@@ -77,6 +81,7 @@ module _ {m at n : ℕ} {ws words w : List ℕ} (W : WriteAt m at n ws words w) 
             ∙ Y .here i b (omega arith)
       ]
 
+      -- one number more is gone through
       pub writing-more : Writing m at (j + 1) ws words w words₂ w₂
       writing-more = record {
         upto = omega arith;
@@ -92,6 +97,7 @@ module _ {m at n : ℕ} {ws words w : List ℕ} (W : WriteAt m at n ws words w) 
     fits : at + length ws ≤ length words
     fits = omega (arith, W .fits, W .spots .count)
 
+    -- all collected words stand in the area, in the order they were found
     pub writing-done : Written m at ws words w words₁ w₁
     writing-done = record {
       kept = Y .kept;

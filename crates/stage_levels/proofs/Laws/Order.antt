@@ -19,6 +19,7 @@ topo-right : (g : List Node) (done xs : List ℕ) {ys : List ℕ} → Topo g don
 topo-right g done [] t = t
 topo-right g done (x ∷ xs) (more o h t) = topo-right g done xs t
 
+-- what is followed from the first pin of a traversal is in the rest
 pub topo-next : (g : List Node) (done : List ℕ) {p : ℕ} {s : List ℕ} → Topo g done (p ∷ s) → (x : ℕ) → In x (below g done p) → In x s
 topo-next g done (more o h t) = h
 
@@ -45,37 +46,46 @@ module _ (C : Context) where
   abbrev pub before : ℕ → List ℕ
   before i = reverse (take i (C .X .order))
 
+  -- one pin more of the order stands before the others
   pub before-next : (i : ℕ) → i < length (C .X .order) → before (suc i) ≡ getD (C .X .order) i 0 ∷ before i
   before-next i h = ap reverse (take-suc (C .X .order) i 0 h) ∙ reverse-append (take i (C .X .order)) (getD (C .X .order) i 0 ∷ [])
 
   seen-is : reverse (C .X .order) ≡ C .X .seen
   seen-is = ap reverse (order-is C) ∙ reverse-reverse (C .X .seen)
 
+  -- all pins are the traversal, last first
   pub before-all : (i : ℕ) → length (C .X .order) ≤ i → before i ≡ C .X .seen
   before-all i h = ap reverse (take-all i (C .X .order) h) ∙ seen-is
 
   parts : (i : ℕ) → reverse (drop i (C .X .order)) ++ before i ≡ C .X .seen
   parts i = sym (reverse-append (take i (C .X .order)) (drop i (C .X .order))) ∙ ap reverse (take-append-drop i (C .X .order)) ∙ seen-is
 
+  -- the first i pins are a traversal themselves
   pub before-topo : (i : ℕ) → Topo (C .X .g) (C .X .done) (before i)
   before-topo i = topo-right (C .X .g) (C .X .done) (reverse (drop i (C .X .order))) (rw (parts i) (C .S .visited .topo))
 
+  -- the first i pins are listed
   pub before-seen : (i p : ℕ) → In p (before i) → In p (C .X .seen)
   before-seen i p e = rw (← parts i) (in-append-right p (reverse (drop i (C .X .order))) (before i) e)
 
+  -- the first i pins are pins of the graph
   pub before-pin : (i p : ℕ) → In p (before i) → p < length (C .X .g)
   before-pin i p e = C .S .bound p (before-seen i p e)
 
+  -- up to the order's length the first i pins are i
   pub before-length : (i : ℕ) → i ≤ length (C .X .order) → length (before i) ≡ i
   before-length i h = length-reverse (take i (C .X .order)) ∙ length-take-le i (C .X .order) h
 
+  -- the levels of the setting are those of the whole traversal
   pub lv-is : levels (C .X .g) (C .X .done) (C .X .seen) ≡ C .X .lv
   unfolding setting
   lv-is = rw (C .is) refl
 
+  -- a level is below the number of listed pins
   pub level-few : (p : ℕ) → In p (C .X .seen) → levelAt (C .X) p < length (C .X .seen)
   unfolding levelAt
   level-few p e = rw (← lv-is) (levels-few (C .X .g) (C .X .done) (C .r) (C .S .ranked) (C .S .visited .topo) (C .S .bound) p e)
 
+  -- a pin that is not listed has level 0
   pub level-out : (p : ℕ) → p < length (C .X .g) → Out p (C .X .seen) → getD (C .X .lv) p 0 ≡ 0
   level-out p h o = rw (← lv-is) (levels-out (C .X .g) (C .X .done) (C .X .seen) p h o)

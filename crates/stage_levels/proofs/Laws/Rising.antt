@@ -1,7 +1,7 @@
 -- Rule 2 forward along the order: one pin more is one store to the column. Assumes nothing.
 use mathlib.Core.Path.{_≡_, refl, sym, _∙_, ap}
 use mathlib.Core.Bool.{false}
-use mathlib.Core.List.{List, [], _∷_, _++_, map}
+use mathlib.Core.List.{List, [], _∷_, _++_, map, map-append}
 use Prim.Native.Nat.{ℕ, suc, _+_, _*_, _<_, _≤_, max}
 use native.Mathlib.Omega.{arith}
 use native.Mathlib.Numerals.{add-one}
@@ -23,6 +23,7 @@ use Rattle.stage_levels.specs.Levels.{Along, LevelAt, LevelsAt, Risen, L
 use Rattle.stage_walk.proofs.Gates.{follow-pin, reads-frame, none-of, both-of}
 use Rattle.stage_levels.proofs.Laws.Order.{topo-next, levels-few, before, before-next, before-all, before-topo, before-seen, before-pin, before-length, lv-is}
 
+-- order and marks stay where their columns are not named
 pub along-frame : {C : Context} {m k : ℕ} {gates w : List ℕ} → Along C m k gates w → {fs : List ℕ} {w′ : List ℕ} → Frame fs m w w′ → among fs DONE ≡ false → among fs ORDER ≡ false → Along C m k gates w′
 along-frame {C} A fr d e = record { reads = reads-frame C (A .reads) fr d; ordered = record { order = holds-frame (A .ordered .order) fr e (omega arith) } }
 
@@ -31,24 +32,23 @@ unfolding greatest
 greatest-last [] x n = refl
 greatest-last (y ∷ xs) x n = greatest-last xs x (max y n)
 
-map-append : (f : ℕ → ℕ) (xs ys : List ℕ) → map f (xs ++ ys) ≡ map f xs ++ map f ys
-map-append f [] ys = refl
-map-append f (x ∷ xs) ys = ap (λ (l : List ℕ). f x ∷ l) (map-append f xs ys)
-
 -- ---- one pin
 
 module _ {C : Context} {m p : ℕ} {gates w : List ℕ} (A : LevelAt C m p gates w) (a : ℕ) (ea : a ≡ getD (below (C .X .g) (C .X .done) p) 0 m) where
   abbrev level : ℕ → ℕ
   level q = getD w (LEVEL * m + q) 0
 
+  -- a pin from which nothing is followed has level 0
   pub level-none : a ≡ m → 0 ≡ over level (below (C .X .g) (C .X .done) p)
   unfolding over
   level-none e = rw (none-of C (A .reads) p a ea e)
 
   module _ (ne : a ≡ m → ⊥) (b : ℕ) (eb : b ≡ getD (below (C .X .g) (C .X .done) p) 1 m) where
+    -- the two pins followed and their levels are within the area's numbers
     pub level-low : (a < m) × (b < m) × (level a < m) × (level b < m)
     level-low = let t = both-of C (A .reads) p a b ea ne eb in (t .in-first, t .in-second, A .low a (t .first), A .low b (t .second))
 
+    -- with two, the level is one more than the greater
     pub level-both : (v : ℕ) → v ≡ max (level a) (level b) → v + 1 ≡ over level (below (C .X .g) (C .X .done) p)
     unfolding over
     level-both v e = rw (both-of C (A .reads) p a b ea ne eb .is) (omega arith)
@@ -56,10 +56,12 @@ module _ {C : Context} {m p : ℕ} {gates w : List ℕ} (A : LevelAt C m p gates
 -- ---- all
 
 module _ {C : Context} {m k : ℕ} {gates w₀ : List ℕ} (A : LevelsAt C m k gates w₀) where
+  -- at the start no pin has a level
   pub risen-none : Risen C m 0 w₀ w₀ 0
   unfolding levels greatest
   risen-none = record { column = record { frame = frame-none; is = clear-col (A .clear) ∙ ap (λ (n : ℕ). replicate n 0) (sym (A .along .reads .base .size)) }; most = refl }
 
+  -- at the end all listed pins have theirs, with the greatest
   pub levelled : {i : ℕ} {w : List ℕ} {top : ℕ} → Risen C m i w₀ w top → k ≤ i → Levels C m w₀ w top
   levelled {i} U h = record {
     column = record { frame = U .column .frame; is = U .column .is ∙ ap (levels (C .X .g) (C .X .done)) (before-all C i (omega (arith, A .along .ordered .order .count))) ∙ lv-is C };
@@ -93,10 +95,12 @@ module _ {C : Context} {m k : ℕ} {gates w₀ : List ℕ} (A : LevelsAt C m k g
       levels-few (C .X .g) (C .X .done) (C .r) (C .S .ranked) (before-topo C i) (before-pin C i) x (topo-next (C .X .g) (C .X .done) (rw next at (before-topo C (suc i))) x e),
     )
 
+    -- the next pin's level may be computed
     pub level-at : LevelAt C m p gates w
     level-at = record { reads = along .reads; pin = pin; low = λ x e. omega (arith, low x e, along .ordered .order .few) }
 
     module _ (v : ℕ) (ev : v ≡ over (λ q. getD w (LEVEL * m + q) 0) (below (C .X .g) (C .X .done) p)) where
+      -- the next pin's level is below the number of pins
       pub level-few : v < m
       level-few = omega (arith, ev, over-least (λ (q : ℕ). getD w (LEVEL * m + q) 0) (below (C .X .g) (C .X .done) p) i low, along .ordered .order .few)
 
@@ -113,6 +117,7 @@ module _ {C : Context} {m k : ℕ} {gates w₀ : List ℕ} (A : LevelsAt C m k g
           sym t ∙ levels-good (C .X .g) (C .X .done) (C .r) (C .S .ranked) (rw next at (before-topo C (suc i))) (λ x d. before-pin C (suc i) x (rw next d)) (length (C .X .g)) p (in-here p (before C i)) (C .S .fuel p listed)
           ∙ sym (C .S .level p listed)
 
+      -- one store gives the next pin its level
       pub risen-more : (w′ : List ℕ) (top′ : ℕ) → w′ ≡ set w (LEVEL * m + p) v → top′ ≡ max v top → Risen C m (i + 1) w₀ w′ top′
       risen-more w′ top′ ew et = record {
         column = record {

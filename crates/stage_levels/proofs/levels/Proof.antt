@@ -19,14 +19,14 @@ abbrev μ-loop : tie.MeasureT-loop
 loop-holds : tie.Need-loop-holds Inv-loop μ-loop
 loop-holds c = (record { all = λ C A. risen-none A }, omega arith, refl)
 
-get-requires : tie.Need-get-requires Inv-loop μ-loop
-get-requires c κs = let s = c .before .before .before .before .before .pre .at in omega (arith, s .along .ordered .order .few, s .along .reads .base .area .room, c .before .before .loop .inv .2)
+pin-at-requires : tie.Need-pin-at-requires Inv-loop μ-loop
+pin-at-requires c κs = let s = c .before .before .before .before .before .pre .at in omega (arith, s .along .ordered .order .few, s .along .reads .base .area .room, c .before .before .loop .inv .2)
 
 level-of-requires : tie.Need-level-of-requires Inv-loop μ-loop
-level-of-requires c κs = let s = c .before .before .before .before .before .before .before .pre in record { it = s .it; at = level-at (s .at) (c .before .before .before .before .loop .inv .0 .all (s .it) (s .at)) (c .before .before .before .loop-test .taken) _ (c .before .get .ensures) }
+level-of-requires c κs = let s = c .before .before .before .before .before .before .before .pre in record { it = s .it; at = level-at (s .at) (c .before .before .before .before .loop .inv .0 .all (s .it) (s .at)) (c .before .before .before .loop-test .taken) _ (c .before .pin-at .ensures) }
 
-push-requires : tie.Need-push-requires Inv-loop μ-loop
-push-requires c κs = let s = c .before .before .before .before .before .before .before .before .before .pre in let U = c .before .before .before .before .before .before .loop .inv .0 .all (s .it) (s .at) in let L = level-at (s .at) U (c .before .before .before .before .before .loop-test .taken) _ (c .before .before .before .get .ensures) in let v = level-few (s .at) U (c .before .before .before .before .before .loop-test .taken) _ (c .before .before .before .get .ensures) _ (c .before .level-of .ensures .all (s .it) L) in (omega (arith, L .pin, s .at .along .reads .base .area .room, c .before .before .before .before .before .before .loop .inv .2), omega (arith, s .at .along .reads .base .area .small))
+set-field-requires : tie.Need-set-field-requires Inv-loop μ-loop
+set-field-requires c κs = let s = c .before .before .before .before .before .before .before .before .before .pre in let U = c .before .before .before .before .before .before .loop .inv .0 .all (s .it) (s .at) in let L = level-at (s .at) U (c .before .before .before .before .before .loop-test .taken) _ (c .before .before .before .pin-at .ensures) in let v = level-few (s .at) U (c .before .before .before .before .before .loop-test .taken) _ (c .before .before .before .pin-at .ensures) _ (c .before .level-of .ensures .all (s .it) L) in (omega (arith, L .pin, s .at .along .reads .base .area .room, c .before .before .before .before .before .before .loop .inv .2), omega (arith, s .at .along .reads .base .area .small))
 
 higher-requires : tie.Need-higher-requires Inv-loop μ-loop
 higher-requires c κs = search needs
@@ -38,7 +38,7 @@ loop-less : tie.Need-loop-less Inv-loop μ-loop
 loop-less c = search needs
 
 loop-again : tie.Need-loop-again Inv-loop μ-loop
-loop-again c = (record { all = λ C A. let U = c .before .before .before .before .before .before .before .before .before .before .loop .inv .0 .all C A in risen-more A U (c .before .before .before .before .before .before .before .before .before .loop-test .taken) _ (c .before .before .before .before .before .before .before .get .ensures) _ (c .before .before .before .before .before .level-of .ensures .all C (level-at A U (c .before .before .before .before .before .before .before .before .before .loop-test .taken) _ (c .before .before .before .before .before .before .before .get .ensures))) _ _ (c .before .before .before .push .ensures) (c .higher .ensures) }, omega arith, search needs)
+loop-again c = (record { all = λ C A. let U = c .before .before .before .before .before .before .before .before .before .before .loop .inv .0 .all C A in risen-more A U (c .before .before .before .before .before .before .before .before .before .loop-test .taken) _ (c .before .before .before .before .before .before .before .pin-at .ensures) _ (c .before .before .before .before .before .level-of .ensures .all C (level-at A U (c .before .before .before .before .before .before .before .before .before .loop-test .taken) _ (c .before .before .before .before .before .before .before .pin-at .ensures))) _ _ (c .before .before .before .set-field .ensures) (c .higher .ensures) }, omega arith, search needs)
 
 same-length : tie.Need-same-length Inv-loop μ-loop
 same-length c = search needs
@@ -53,9 +53,9 @@ levels-spec =
     Inv-loop
     μ-loop
     loop-holds
-    get-requires
+    pin-at-requires
     level-of-requires
-    push-requires
+    set-field-requires
     higher-requires
     add-i
     loop-less

@@ -22,17 +22,17 @@ loop-holds c = (record { all = λ C A. lowered-none A }, omega arith, refl)
 sub-i : tie.Need-sub-i Inv-loop μ-loop
 sub-i c = search needs
 
-get-requires : tie.Need-get-requires Inv-loop μ-loop
-get-requires c κs = let s = c .before .before .before .before .before .pre .at in omega (arith, s .along .ordered .order .few, s .along .reads .base .area .room, c .before .before .loop .inv .2)
+pin-at-requires : tie.Need-pin-at-requires Inv-loop μ-loop
+pin-at-requires c κs = let s = c .before .before .before .before .before .pre .at in omega (arith, s .along .ordered .order .few, s .along .reads .base .area .room, c .before .before .loop .inv .2)
 
 lift-requires : tie.Need-lift-requires Inv-loop μ-loop
-lift-requires c κs = let s = c .before .before .before .before .before .before .before .pre in record { it = s .it; at = lift-at (s .at) (c .before .before .before .before .loop .inv .0 .all (s .it) (s .at)) (c .before .before .before .loop-test .taken) (c .before .before .before .before .loop .inv .1) _ (c .before .get .ensures) }
+lift-requires c κs = let s = c .before .before .before .before .before .before .before .pre in record { it = s .it; at = lift-at (s .at) (c .before .before .before .before .loop .inv .0 .all (s .it) (s .at)) (c .before .before .before .loop-test .taken) (c .before .before .before .before .loop .inv .1) _ (c .before .pin-at .ensures) }
 
 loop-less : tie.Need-loop-less Inv-loop μ-loop
 loop-less c = search needs
 
 loop-again : tie.Need-loop-again Inv-loop μ-loop
-loop-again c = (record { all = λ C A. let U = c .before .before .before .before .before .before .before .loop .inv .0 .all C A in lowered-more A U (c .before .before .before .before .before .before .loop-test .taken) (c .before .before .before .before .before .before .before .loop .inv .1) _ (c .before .before .before .before .get .ensures) (c .before .before .lift .ensures .all C (lift-at A U (c .before .before .before .before .before .before .loop-test .taken) (c .before .before .before .before .before .before .before .loop .inv .1) _ (c .before .before .before .before .get .ensures))) }, omega arith, search needs)
+loop-again c = (record { all = λ C A. let U = c .before .before .before .before .before .before .before .loop .inv .0 .all C A in lowered-more A U (c .before .before .before .before .before .before .loop-test .taken) (c .before .before .before .before .before .before .before .loop .inv .1) _ (c .before .before .before .before .pin-at .ensures) (c .before .before .lift .ensures .all C (lift-at A U (c .before .before .before .before .before .before .loop-test .taken) (c .before .before .before .before .before .before .before .loop .inv .1) _ (c .before .before .before .before .pin-at .ensures))) }, omega arith, search needs)
 
 same-length : tie.Need-same-length Inv-loop μ-loop
 same-length c = search needs
@@ -48,7 +48,7 @@ lower-spec =
     μ-loop
     loop-holds
     sub-i
-    get-requires
+    pin-at-requires
     lift-requires
     loop-less
     loop-again

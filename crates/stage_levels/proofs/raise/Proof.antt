@@ -11,8 +11,8 @@ get-requires c κs = search needs
 higher-requires : tie.Need-higher-requires
 higher-requires c κs = search needs
 
-push-requires : tie.Need-push-requires
-push-requires c κs = (omega arith, omega (arith, c .higher .ensures, c .before .before .get .ensures, c .before .before .before .before .slice-known .given (8 * c .before .before .before .before .before .args .m + c .before .before .before .before .before .args .q)))
+set-field-requires : tie.Need-set-field-requires
+set-field-requires c κs = (omega arith, omega (arith, c .higher .ensures, c .before .before .get .ensures, c .before .before .before .before .slice-known .given (8 * c .before .before .before .before .before .args .m + c .before .before .before .before .before .args .p .0)))
 
 same-length : tie.Need-same-length
 same-length c = search needs
@@ -21,4 +21,5 @@ returns : tie.Need-returns
 returns c = cc
 
 pub raise-spec : {M : Type 1} → statement M
-raise-spec = tie.close (tie.spec get-requires higher-requires push-requires same-length returns)
+raise-spec =
+    tie.close (tie.spec get-requires higher-requires set-field-requires same-length returns)

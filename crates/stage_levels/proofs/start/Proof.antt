@@ -15,11 +15,11 @@ abbrev μ-loop : tie.MeasureT-loop
 loop-holds : tie.Need-loop-holds Inv-loop μ-loop
 loop-holds c = (raised-none (c .before .pre), omega arith)
 
-get-requires : tie.Need-get-requires Inv-loop μ-loop
-get-requires c κs = let s = c .before .before .before .before .pre in omega (arith, s .waiting .few, s .area .room, c .before .before .loop .inv .0 .frame .len)
+pin-at-requires : tie.Need-pin-at-requires Inv-loop μ-loop
+pin-at-requires c κs = let s = c .before .before .before .before .pre in omega (arith, s .waiting .few, s .area .room, c .before .before .loop .inv .0 .frame .len)
 
 raise-requires : tie.Need-raise-requires Inv-loop μ-loop
-raise-requires c κs = let s = c .before .before .before .before .before .before .pre in let U = c .before .before .before .before .loop .inv .0 in let h = start-pin s U (c .before .before .before .loop-test .taken) _ (c .before .get .ensures) in (omega (arith, s .area .room, U .frame .len), omega arith)
+raise-requires c κs = let s = c .before .before .before .before .before .before .pre in let U = c .before .before .before .before .loop .inv .0 in let h = start-pin s U (c .before .before .before .loop-test .taken) _ (c .before .pin-at .ensures) in (omega (arith, s .area .room, U .frame .len), omega arith)
 
 add-i : tie.Need-add-i Inv-loop μ-loop
 add-i c = search needs
@@ -28,7 +28,7 @@ loop-less : tie.Need-loop-less Inv-loop μ-loop
 loop-less c = search needs
 
 loop-again : tie.Need-loop-again Inv-loop μ-loop
-loop-again c = (raised-more (c .before .before .before .before .before .before .before .before .before .pre) (c .before .before .before .before .before .before .before .loop .inv .0) (c .before .before .before .before .before .before .loop-test .taken) _ (c .before .before .before .before .get .ensures) _ (c .before .before .raise .ensures), omega arith)
+loop-again c = (raised-more (c .before .before .before .before .before .before .before .before .before .pre) (c .before .before .before .before .before .before .before .loop .inv .0) (c .before .before .before .before .before .before .loop-test .taken) _ (c .before .before .before .before .pin-at .ensures) _ (c .before .before .raise .ensures), omega arith)
 
 same-length : tie.Need-same-length Inv-loop μ-loop
 same-length c = c .before .loop .inv .0 .frame .len
@@ -43,7 +43,7 @@ start-spec =
     Inv-loop
     μ-loop
     loop-holds
-    get-requires
+    pin-at-requires
     raise-requires
     add-i
     loop-less

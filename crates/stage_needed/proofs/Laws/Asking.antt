@@ -37,6 +37,7 @@ pin-filled p h = rw (ne-eqb p 4294967295 (λ e. omega arith))
 -- ---- what the columns tell
 
 module _ {C : Context} {pl : List ℕ} {m : ℕ} {w : List ℕ} (T : Tells C pl m w) where
+  -- what is told stays where its columns are not named
   pub tells-frame : {fs : List ℕ} {w′ : List ℕ} → Frame fs m w w′ → among fs LEVEL ≡ false → among fs CELLS ≡ false → among fs PLACE ≡ false → Tells C pl m w′
   tells-frame fr a b c = record {
     area = frame-room fr (T .area);
@@ -46,10 +47,12 @@ module _ {C : Context} {pl : List ℕ} {m : ℕ} {w : List ℕ} (T : Tells C pl 
     cells = λ x h. fr .cell CELLS b (omega arith) x h ∙ T .cells x h;
   }
 
+  -- the level column has a pin's level
   pub tells-level : (p : ℕ) → p < m → getD w (LEVEL * m + p) 0 ≡ levelAt (C .X) p
   unfolding levelAt
   tells-level p h = sym (getD-col LEVEL m w p h) ∙ ap (λ (l : List ℕ). getD l p 0) (T .levelled .levels)
 
+  -- a pin has cells exactly where it is in the tree
   pub tells-placed : (p : ℕ) → p < m → not (eqb (getD w (CELLS * m + p) 0) 0) ≡ mem p (treeOf (C .X) pl)
   unfolding treeOf
   tells-placed p h = rw (T .cells p h) (sym (pos-test (cellsHolding (C .X .K) pl p)) ∙ sym (tree-cells (C .X .K) pl p (pin-filled p (omega (arith, T .area .small)))))
@@ -57,16 +60,20 @@ module _ {C : Context} {pl : List ℕ} {m : ℕ} {w : List ℕ} (T : Tells C pl 
 -- ---- the list
 
 module _ {C : Context} {pl : List ℕ} {m : ℕ} {w : List ℕ} {n : ℕ} (N : Needing C pl m w n) where
+  -- with more pins listed the list is still under way
   pub needs-frame : {w′ : List ℕ} {n′ : ℕ} {ys : List ℕ} → Needs m w n w′ n′ ys → Needing C pl m w′ n′
   needs-frame s = record { tells = tells-frame (N .tells) (s .frame) refl refl refl; now = marked-self (s .now) }
 
+  -- nothing asked changes nothing
   pub needs-none : {ys : List ℕ} → ys ≡ [] → Needs m w n w n ys
   unfolding insertAll
   needs-none e = rw e (record { frame = frame-none; now = N .now })
 
+  -- a pin may go behind the list
   pub needs-at : (p : ℕ) → p < m → EnlistAt NEEDED MARK m n p w
   needs-at p h = enlist-at (N .now) (N .tells .area) h (omega arith) (omega arith) (λ e. omega arith)
 
+  -- one pin asked for goes behind it, unless it is there
   pub needs-one : {p : ℕ} {ys : List ℕ} {w′ : List ℕ} {n′ : ℕ} → ys ≡ p ∷ [] → Enlisted NEEDED MARK m n p w w′ n′ → Needs m w n w′ n′ ys
   unfolding insertAll
   needs-one e E = rw e (record { frame = E .frame; now = E .now })
@@ -87,6 +94,7 @@ insert-two t a b xs = split (t a) (λ e. rw (e, keep)) (λ e. rw (e, keep))
 
 module _ {C : Context} {pl : List ℕ} {m : ℕ} {w : List ℕ} {n q : ℕ} (A : AskAt C pl m w n q) where
   module _ (l : ℕ) (el : l ≡ getD w (LEVEL * m + q) 0) where
+    -- an operand above level 0 is not needed
     pub ask-high : (l ≡ 0 → ⊥) → Needs m w n w n (keep (missing C pl) (q ∷ []))
     ask-high ne = needs-none (A .needing) (keep-no (missing C pl) q (rw (ne-eqb (levelAt (C .X) q) 0 (λ e. ne (el ∙ tells-level (A .needing .tells) q (A .pin) ∙ e)))))
 
@@ -98,15 +106,18 @@ module _ {C : Context} {pl : List ℕ} {m : ℕ} {w : List ℕ} {n q : ℕ} (A :
         there : mem q (treeOf (C .X) pl) ≡ b
         there = sym (tells-placed (A .needing .tells) q (A .pin)) ∙ sym eb
 
+        -- an operand that is placed is not needed either
         pub ask-placed : b ≡ true → Needs m w n w n (keep (missing C pl) (q ∷ []))
         ask-placed e = needs-none (A .needing) (keep-no (missing C pl) q (rw (zero-level, there ∙ e)))
 
+        -- an unplaced operand of level 0 is needed
         pub ask-missing : {w′ : List ℕ} {n′ : ℕ} → b ≡ false → Enlisted NEEDED MARK m n q w w′ n′ → Needs m w n w′ n′ (keep (missing C pl) (q ∷ []))
         ask-missing e E = needs-one (A .needing) (keep-yes (missing C pl) q (rw (zero-level, there ∙ e))) E
 
 -- ---- the pin itself
 
 module _ {C : Context} {pl : List ℕ} {m : ℕ} {w : List ℕ} {n p l : ℕ} (A : ItselfAt C pl m w n p l) where
+  -- a pin of level 1 is needed itself
   pub itself-one : {w′ : List ℕ} {n′ : ℕ} → l ≡ 1 → Enlisted NEEDED MARK m n p w w′ n′ → Needs m w n w′ n′ (asked (C .X) (treeOf (C .X) pl) p l)
   unfolding asked
   itself-one e E = needs-one (A .needing) (rw e) E
@@ -118,10 +129,12 @@ module _ {C : Context} {pl : List ℕ} {m : ℕ} {w : List ℕ} {n p l : ℕ} (A
     waits : mem p (C .X .waiting) ≡ b
     waits = sym (A .needing .tells .waits p (A .pin)) ∙ sym eb
 
+    -- a waiting pin of level 0 is needed itself
     pub itself-waits : {w′ : List ℕ} {n′ : ℕ} → b ≡ true → Enlisted NEEDED MARK m n p w w′ n′ → Needs m w n w′ n′ (asked (C .X) (treeOf (C .X) pl) p l)
     unfolding asked
     itself-waits e E = needs-one (A .needing) (rw none (keep-yes (λ q. mem q (C .X .waiting)) p (waits ∙ e))) E
 
+    -- a pin of level 0 that does not wait is not needed
     pub itself-not : b ≡ false → Needs m w n w n (asked (C .X) (treeOf (C .X) pl) p l)
     unfolding asked
     itself-not e = needs-none (A .needing) (rw none (keep-no (λ q. mem q (C .X .waiting)) p (waits ∙ e)))
@@ -129,6 +142,7 @@ module _ {C : Context} {pl : List ℕ} {m : ℕ} {w : List ℕ} {n p l : ℕ} (A
 -- ---- any pin
 
 module _ {C : Context} {pl : List ℕ} {m : ℕ} {gates w : List ℕ} {n p : ℕ} (A : NeedAt C pl m gates w n p) where
+  -- a listed pin is a pin of the area
   pub need-pin : p < m
   need-pin = omega (arith, C .S .bound p (A .listed), A .reads .base .size)
 
@@ -136,6 +150,7 @@ module _ {C : Context} {pl : List ℕ} {m : ℕ} {gates w : List ℕ} {n p : ℕ
     in-tree : mem p (treeOf (C .X) pl) ≡ b
     in-tree = sym (tells-placed (A .needing .tells) p need-pin) ∙ sym eb
 
+    -- a placed pin asks for nothing
     pub need-placed : b ≡ true → Needs m w n w n (lacks (C .X) (treeOf (C .X) pl) p)
     unfolding lacks
     need-placed e = needs-none (A .needing) (rw (in-tree ∙ e, lacks))
@@ -148,9 +163,11 @@ module _ {C : Context} {pl : List ℕ} {m : ℕ} {gates w : List ℕ} {n p : ℕ
       unfolding lacks
       opened = rw (in-tree ∙ out, lacks, level)
 
+      -- an unplaced pin of level 0 or 1 asks for itself
       pub itself-at : l < 2 → ItselfAt C pl m w n p l
       itself-at h = record { needing = A .needing; pin = need-pin; level = level; low = h }
 
+      -- what a pin of level 0 or 1 makes needed is itself, or nothing
       pub need-itself : {w′ : List ℕ} {n′ : ℕ} → Needs m w n w′ n′ (asked (C .X) (treeOf (C .X) pl) p l) → Needs m w n w′ n′ (lacks (C .X) (treeOf (C .X) pl) p)
       need-itself s = rw opened s
 
@@ -163,9 +180,11 @@ module _ {C : Context} {pl : List ℕ} {m : ℕ} {gates w : List ℕ} {n p : ℕ
             C .S .level p (A .listed) ∙ depth-at (C .X .g) (C .X .done) (C .r) (C .S .ranked) (length (C .X .g)) p (C .S .fuel p (A .listed)) ∙ rw (none-of C (A .reads) p a ea z) in
             omega (arith, level)
 
-        both : Both C m p a b₂
+        -- a pin of level 2 or more is followed to two pins
+        pub both : Both C m p a b₂
         both = both-of C (A .reads) p a b₂ ea is-gate e₂
 
+        -- a pin of level 2 or more asks for its first operand
         pub ask-first : AskAt C pl m w n a
         ask-first = record { needing = A .needing; pin = both .in-first }
 
@@ -179,9 +198,11 @@ module _ {C : Context} {pl : List ℕ} {m : ℕ} {gates w : List ℕ} {n p : ℕ
             by (suc (suc l)) h = rw (both .is)
 
         module _ {w₁ : List ℕ} {n₁ : ℕ} (s : Needs m w n w₁ n₁ (keep (missing C pl) (a ∷ []))) where
+          -- then it asks for its second operand
           pub ask-second : AskAt C pl m w₁ n₁ b₂
           ask-second = record { needing = needs-frame (A .needing) s; pin = both .in-second }
 
+          -- a pin of level 2 or more makes those of its two operands needed that are missing
           pub need-both : {w₂ : List ℕ} {n₂ : ℕ} → Needs m w₁ n₁ w₂ n₂ (keep (missing C pl) (b₂ ∷ [])) → Needs m w n w₂ n₂ (lacks (C .X) (treeOf (C .X) pl) p)
           need-both {w₂} {n₂} t = rw (opened, two-asked) (record { frame = frame-then (s .frame) (t .frame); now = now })
             where

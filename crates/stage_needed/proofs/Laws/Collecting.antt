@@ -37,6 +37,7 @@ module _ {C : Context} {pl : List ℕ} {m n k : ℕ} {gates w₀ : List ℕ} (A 
     cells = A .cells;
   }
 
+  -- at the start no pin has asked
   pub collecting-none : Collecting C pl m 0 w₀ w₀ 0
   unfolding list
   collecting-none = record {
@@ -46,6 +47,7 @@ module _ {C : Context} {pl : List ℕ} {m n k : ℕ} {gates w₀ : List ℕ} (A 
   }
 
   module _ {i : ℕ} {w : List ℕ} {r : ℕ} (U : Collecting C pl m i w₀ w r) where
+    -- at the end all pins have asked, and the needed ones are listed
     pub collected : k ≤ i → Collected C pl m w₀ w r
     unfolding insertAll gather
     collected h =
@@ -56,6 +58,7 @@ module _ {C : Context} {pl : List ℕ} {m n k : ℕ} {gates w₀ : List ℕ} (A 
       order : Holds ORDER m k (C .X .order) w
       order = holds-frame (A .ordered .order) (U .frame) refl (omega arith)
 
+      -- the next pin of the order may ask
       pub need-at : NeedAt C pl m gates w r p
       need-at = record {
         needing = record { tells = tells-frame tells (U .frame) refl refl refl; now = U .now };
@@ -66,6 +69,7 @@ module _ {C : Context} {pl : List ℕ} {m n k : ℕ} {gates w₀ : List ℕ} (A 
       next : drop i (C .X .order) ≡ p ∷ drop (suc i) (C .X .order)
       next = drop-cons (C .X .order) i 0 (omega (arith, order .count)) ∙ ap (λ (x : ℕ). x ∷ drop (suc i) (C .X .order)) (sym (ep ∙ holds-at order i h))
 
+      -- one more pin of the order has asked
       pub collecting-more : {w′ : List ℕ} {r′ : ℕ} → Needs m w r w′ r′ (lacks (C .X) (treeOf (C .X) pl) p) → Collecting C pl m (i + 1) w₀ w′ r′
       collecting-more s = record {
         frame = frame-then (U .frame) (s .frame);
@@ -84,10 +88,12 @@ module _ {m r : ℕ} {w₀ : List ℕ} (A : UnmarkAt m r w₀) where
   abbrev xs : List ℕ
   xs = list NEEDED m r w₀
 
+  -- at the start all listed pins have their marks
   pub unmarked-none : Unmarked m (drop 0 xs) w₀ w₀
   unmarked-none = record { frame = frame-none; marks = A .now .marks }
 
   module _ {i : ℕ} {w : List ℕ} (U : Unmarked m (drop i xs) w₀ w) where
+    -- at the end no needed pin has a mark
     pub unmarked-end : r ≤ i → Unmarked m [] w₀ w
     unmarked-end h = rw (drop-of-length-le xs {i = i} (omega (arith, A .now .held .count))) at U
 
@@ -95,12 +101,14 @@ module _ {m r : ℕ} {w₀ : List ℕ} (A : UnmarkAt m r w₀) where
       held : Holds NEEDED m r xs w
       held = holds-frame (A .now .held) (U .frame) refl (omega arith)
 
+      -- a needed pin is a pin of the area
       pub unmark-pin : p < m
       unmark-pin = rw ep (holds-pin held i h)
 
       first : drop i xs ≡ p ∷ drop (suc i) xs
       first = drop-cons xs i 0 (omega (arith, A .now .held .count)) ∙ ap (λ (x : ℕ). x ∷ drop (suc i) xs) (sym (ep ∙ holds-at held i h))
 
+      -- one store takes a needed pin's mark away
       pub unmarked-more : (w′ : List ℕ) → w′ ≡ set w (MARK * m + p) 0 → Unmarked m (drop (i + 1) xs) w₀ w′
       unmarked-more w′ e = rw (add-one i, e) (record {
         frame = frame-then (U .frame) (frame-set MARK p 0 unmark-pin (omega arith) refl);
@@ -114,9 +122,11 @@ module _ {m r : ℕ} {w₀ : List ℕ} (A : UnmarkAt m r w₀) where
 -- ---- the whole
 
 module _ {C : Context} {pl : List ℕ} {m n k : ℕ} {gates w : List ℕ} (A : NeededAt C pl m n k gates w) {v : List ℕ} {r : ℕ} (L : Collected C pl m w v r) where
+  -- the marks of the needed pins may go
   pub unmark-at : UnmarkAt m r v
   unmark-at = record { area = frame-room (L .frame) (A .begun .base .area); now = marked-self (L .now) }
 
+  -- with the marks gone the needed pins are listed, and all else is as it was
   pub needed-all : {w′ : List ℕ} → Unmarked m [] v w′ → Needed C pl m w w′ r
   needed-all U = record {
     frame = frame-less MARK (omega arith) (frame-then (frame-more refl (L .frame)) (frame-more refl (U .frame))) (λ p h. U .marks .mark p h ∙ sym (A .unmarked .mark p h));

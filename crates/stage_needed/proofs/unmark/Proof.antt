@@ -19,11 +19,11 @@ abbrev μ-loop : tie.MeasureT-loop
 loop-holds : tie.Need-loop-holds Inv-loop μ-loop
 loop-holds c = (unmarked-none (c .before .pre), omega arith)
 
-get-requires : tie.Need-get-requires Inv-loop μ-loop
-get-requires c κs = let s = c .before .before .before .before .pre in omega (arith, s .now .held .few, s .area .room, c .before .before .loop .inv .0 .frame .len)
+pin-at-requires : tie.Need-pin-at-requires Inv-loop μ-loop
+pin-at-requires c κs = let s = c .before .before .before .before .pre in omega (arith, s .now .held .few, s .area .room, c .before .before .loop .inv .0 .frame .len)
 
 set-field-requires : tie.Need-set-field-requires Inv-loop μ-loop
-set-field-requires c κs = let s = c .before .before .before .before .before .before .pre in omega (arith, unmark-pin s (c .before .before .before .before .loop .inv .0) (c .before .before .before .loop-test .taken) _ (c .before .get .ensures), s .area .room, c .before .before .before .before .loop .inv .0 .frame .len)
+set-field-requires c κs = let s = c .before .before .before .before .before .before .pre in omega (arith, unmark-pin s (c .before .before .before .before .loop .inv .0) (c .before .before .before .loop-test .taken) _ (c .before .pin-at .ensures), s .area .room, c .before .before .before .before .loop .inv .0 .frame .len)
 
 add-i : tie.Need-add-i Inv-loop μ-loop
 add-i c = search needs
@@ -32,7 +32,7 @@ loop-less : tie.Need-loop-less Inv-loop μ-loop
 loop-less c = search needs
 
 loop-again : tie.Need-loop-again Inv-loop μ-loop
-loop-again c = (unmarked-more (c .before .before .before .before .before .before .before .before .before .pre) (c .before .before .before .before .before .before .before .loop .inv .0) (c .before .before .before .before .before .before .loop-test .taken) _ (c .before .before .before .before .get .ensures) _ (c .before .before .set-field .ensures), omega arith)
+loop-again c = (unmarked-more (c .before .before .before .before .before .before .before .before .before .pre) (c .before .before .before .before .before .before .before .loop .inv .0) (c .before .before .before .before .before .before .loop-test .taken) _ (c .before .before .before .before .pin-at .ensures) _ (c .before .before .set-field .ensures), omega arith)
 
 same-length : tie.Need-same-length Inv-loop μ-loop
 same-length c = c .before .loop .inv .0 .frame .len
@@ -47,7 +47,7 @@ unmark-spec =
     Inv-loop
     μ-loop
     loop-holds
-    get-requires
+    pin-at-requires
     set-field-requires
     add-i
     loop-less

@@ -16,17 +16,17 @@ abbrev μ-loop : tie.MeasureT-loop
 loop-holds : tie.Need-loop-holds Inv-loop μ-loop
 loop-holds c = (unlisted-none (c .before .pre), omega arith)
 
-get-requires : tie.Need-get-requires Inv-loop μ-loop
-get-requires c κs = let s = c .before .before .before .before .pre in omega (arith, s .order .few, s .area .room, c .before .before .loop .inv .0 .frame .len)
+pin-at-requires : tie.Need-pin-at-requires Inv-loop μ-loop
+pin-at-requires c κs = let s = c .before .before .before .before .pre in omega (arith, s .order .few, s .area .room, c .before .before .loop .inv .0 .frame .len)
 
 set-field-requires : tie.Need-set-field-requires Inv-loop μ-loop
-set-field-requires c κs = let s = c .before .before .before .before .before .before .pre in omega (arith, unlist-pin s (c .before .before .before .before .loop .inv .0) (c .before .before .before .loop-test .taken) _ (c .before .get .ensures), s .area .room, c .before .before .before .before .loop .inv .0 .frame .len)
+set-field-requires c κs = let s = c .before .before .before .before .before .before .pre in omega (arith, unlist-pin s (c .before .before .before .before .loop .inv .0) (c .before .before .before .loop-test .taken) _ (c .before .pin-at .ensures), s .area .room, c .before .before .before .before .loop .inv .0 .frame .len)
 
 set-field-requires-2 : tie.Need-set-field-requires-2 Inv-loop μ-loop
-set-field-requires-2 c κs = let s = c .before .before .before .before .before .before .before .before .before .before .pre in let U = c .before .before .before .before .before .before .before .before .loop .inv .0 in omega (arith, unlist-pin s U (c .before .before .before .before .before .before .before .loop-test .taken) _ (c .before .before .before .before .before .get .ensures), s .area .room, U .frame .len, c .before .before .before .set-field .kept)
+set-field-requires-2 c κs = let s = c .before .before .before .before .before .before .before .before .before .before .pre in let U = c .before .before .before .before .before .before .before .before .loop .inv .0 in omega (arith, unlist-pin s U (c .before .before .before .before .before .before .before .loop-test .taken) _ (c .before .before .before .before .before .pin-at .ensures), s .area .room, U .frame .len, c .before .before .before .set-field .kept)
 
 set-field-requires-3 : tie.Need-set-field-requires-3 Inv-loop μ-loop
-set-field-requires-3 c κs = let s = c .before .before .before .before .before .before .before .before .before .before .before .before .before .before .pre in let U = c .before .before .before .before .before .before .before .before .before .before .before .before .loop .inv .0 in omega (arith, unlist-pin s U (c .before .before .before .before .before .before .before .before .before .before .before .loop-test .taken) _ (c .before .before .before .before .before .before .before .before .before .get .ensures), s .area .room, U .frame .len, c .before .before .before .before .before .before .before .set-field .kept, c .before .before .before .set-field2 .kept)
+set-field-requires-3 c κs = let s = c .before .before .before .before .before .before .before .before .before .before .before .before .before .before .pre in let U = c .before .before .before .before .before .before .before .before .before .before .before .before .loop .inv .0 in omega (arith, unlist-pin s U (c .before .before .before .before .before .before .before .before .before .before .before .loop-test .taken) _ (c .before .before .before .before .before .before .before .before .before .pin-at .ensures), s .area .room, U .frame .len, c .before .before .before .before .before .before .before .set-field .kept, c .before .before .before .set-field2 .kept)
 
 add-i : tie.Need-add-i Inv-loop μ-loop
 add-i c = search needs
@@ -35,7 +35,7 @@ loop-less : tie.Need-loop-less Inv-loop μ-loop
 loop-less c = search needs
 
 loop-again : tie.Need-loop-again Inv-loop μ-loop
-loop-again c = (unlisted-more (c .before .before .before .before .before .before .before .before .before .before .before .before .before .before .before .before .before .pre) (c .before .before .before .before .before .before .before .before .before .before .before .before .before .before .before .loop .inv .0) (c .before .before .before .before .before .before .before .before .before .before .before .before .before .before .loop-test .taken) _ (c .before .before .before .before .before .before .before .before .before .before .before .before .get .ensures) _ _ _ (c .before .before .before .before .before .before .before .before .before .before .set-field .ensures) (c .before .before .before .before .before .before .set-field2 .ensures) (c .before .before .set-field3 .ensures), omega arith)
+loop-again c = (unlisted-more (c .before .before .before .before .before .before .before .before .before .before .before .before .before .before .before .before .before .pre) (c .before .before .before .before .before .before .before .before .before .before .before .before .before .before .before .loop .inv .0) (c .before .before .before .before .before .before .before .before .before .before .before .before .before .before .loop-test .taken) _ (c .before .before .before .before .before .before .before .before .before .before .before .before .pin-at .ensures) _ _ _ (c .before .before .before .before .before .before .before .before .before .before .set-field .ensures) (c .before .before .before .before .before .before .set-field2 .ensures) (c .before .before .set-field3 .ensures), omega arith)
 
 same-length : tie.Need-same-length Inv-loop μ-loop
 same-length c = c .before .loop .inv .0 .frame .len
@@ -50,7 +50,7 @@ unlist-spec =
     Inv-loop
     μ-loop
     loop-holds
-    get-requires
+    pin-at-requires
     set-field-requires
     set-field-requires-2
     set-field-requires-3

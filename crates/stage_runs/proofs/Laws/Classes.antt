@@ -28,6 +28,7 @@ or-none : (t : Bool) → (t || false) ≡ t
 or-none true = refl
 or-none false = refl
 
+-- anything or a truth is true
 pub or-some : (t : Bool) → (t || true) ≡ true
 or-some true = refl
 or-some false = refl
@@ -46,17 +47,21 @@ module _ {m n p : ℕ} {w : List ℕ} (a : ClassAt m n p w) (t : Bool) where
   unfolding keep insertAll
   stays e u d = record { frame = frame-none; now = rw (e, keep) (a .now); untouched = d }
 
+  -- a waiting pin in the tree is in neither of the other classes
   pub class-tree : (cells ≡ 0 → ⊥) → Classed m n t p w w n t
   unfolding isNeeded isUntouched
   class-tree ne = let z = ne-eqb cells 0 ne in stays (rw z) t (rw z (sym (or-none t)))
 
+  -- a waiting pin without a cell and of a level above 1 is untouched
   pub class-untouched : cells ≡ 0 → 1 < level → Classed m n t p w w n true
   unfolding isNeeded isUntouched
   class-untouched e h = let z = eq-eqb cells 0 e in let y = lt-ltb 1 level h in stays (rw (z, y)) true (rw (z, y) (sym (or-some t)))
 
+  -- a needed waiting pin may go behind the list
   pub enlist-needed : EnlistAt PHASE SPARE m n p w
   enlist-needed = enlist-at (a .now) (a .area) (a .pin) (omega arith) (omega arith) (λ e. omega arith)
 
+  -- a waiting pin without a cell and of level 0 or 1 is needed
   pub class-needed : cells ≡ 0 → level ≤ 1 → {w′ : List ℕ} {r : ℕ} → Enlisted PHASE SPARE m n p w w′ r → Classed m n t p w w′ r t
   unfolding isNeeded isUntouched keep insertAll
   class-needed e h E =
@@ -66,6 +71,7 @@ module _ {m n p : ℕ} {w : List ℕ} (a : ClassAt m n p w) (t : Bool) where
 
 -- ---- all of them
 
+-- at the first waiting pin none is classed
 pub splitting-none : {m n : ℕ} {w : List ℕ} → SplitAt m n w → Splitting m n 0 w w 0 false
 unfolding keep insertAll isNil
 splitting-none a = record { upto = omega arith; frame = frame-none; now = marked-none (a .clear); untouched = refl }
@@ -77,9 +83,11 @@ module _ {m n i : ℕ} {w w₁ : List ℕ} {r : ℕ} {u : Bool} (a : SplitAt m n
   pin-is : getD w₁ (WAITING * m + i) 0 ≡ getD xs i 0
   pin-is = S .frame .cell WAITING refl (omega arith) i (omega (arith, a .waiting .few)) ∙ holds-at (a .waiting) i h
 
+  -- the next waiting pin is a pin of the area
   pub pin-below : getD w₁ (WAITING * m + i) 0 < m
   pin-below = rw pin-is (a .waiting .pins i h)
 
+  -- the next waiting pin may be classed
   pub class-at : (p : ℕ) → p ≡ getD w₁ (WAITING * m + i) 0 → ClassAt m r p w₁
   class-at p e = record { area = frame-room (S .frame) (a .area); pin = rw e pin-below; now = rw (S .now .held .is) (S .now) }
 
@@ -90,6 +98,7 @@ module _ {m n i : ℕ} {w w₁ : List ℕ} {r : ℕ} {u : Bool} (a : SplitAt m n
   next : take (i + 1) xs ≡ take i xs ++ (getD xs i 0 ∷ [])
   next = rw (add-one i) (take-suc xs i 0 (omega (arith, a .waiting .count)))
 
+  -- one more waiting pin is classed
   pub splitting-more : (p : ℕ) → p ≡ getD w₁ (WAITING * m + i) 0 → {w₂ : List ℕ} {r₂ : ℕ} {u₂ : Bool} → Classed m r u p w₁ w₂ r₂ u₂ → Splitting m n (i + 1) w w₂ r₂ u₂
   unfolding keep
   splitting-more p e {w₂} {r₂} {u₂} C =
@@ -103,6 +112,7 @@ module _ {m n i : ℕ} {w w₁ : List ℕ} {r : ℕ} {u : Bool} (a : SplitAt m n
         untouched = C .untouched ∙ rw (S .untouched, test-same p b .1, q, next, any-append) refl;
       }
 
+-- all waiting pins are classed
 pub splitting-done : {m n i : ℕ} {w w₁ : List ℕ} {r : ℕ} {u : Bool} → SplitAt m n w → Splitting m n i w w₁ r u → n ≤ i → Classes m n w w₁ r u
 splitting-done {m} {n} {i} {w} a S h =
     let e : i ≡ n = omega (arith, S .upto) in

@@ -10,11 +10,13 @@ use borrow.Author.Tests.{ltb-true, ltb-false}
 use Rattle.rules.proofs.Lists.Members.{split}
 use Rattle.rules.specs.Lists.{laidAt}
 
+-- no words laid change nothing
 pub laid-none : (at : ℕ) (words : List ℕ) → laidAt at [] words ≡ words
 unfolding laidAt
 laid-none at words = let z : at + 0 ≡ at = omega arith in rw z (take-append-drop at words)
 
 module _ (at : ℕ) (words ws : List ℕ) where
+  -- a word stored behind those laid is laid too
   pub laid-more : (x : ℕ) → at + length ws < length words → set (laidAt at ws words) (at + length ws) x ≡ laidAt at (ws ++ (x ∷ [])) words
   unfolding laidAt
   laid-more x h =
@@ -24,6 +26,7 @@ module _ (at : ℕ) (words ws : List ℕ) where
       rw (n, y, drop-cons words (at + length ws) 0 h, ← append-assoc (take at words) ws, set-at (take at words ++ ws) (getD words (at + length ws) 0) (drop (suc (at + length ws)) words) x (at + length ws) l, append-assoc, append-assoc) refl
 
   module _ (fits : at + length ws ≤ length words) where
+    -- laying words keeps the area's length
     pub laid-length : length (laidAt at ws words) ≡ length words
     unfolding laidAt
     laid-length = rw (length-append (take at words) (ws ++ drop (at + length ws) words), length-append ws (drop (at + length ws) words), length-drop, length-take-le at words (omega arith)) (omega arith)
@@ -34,6 +37,7 @@ module _ (at : ℕ) (words ws : List ℕ) where
     front : length (take at words) ≡ at
     front = length-take-le at words (omega arith)
 
+    -- before the words the area is as it was
     pub laid-below : (i : ℕ) → i < at → getD (laidAt at ws words) i 0 ≡ getD words i 0
     unfolding laidAt
     laid-below i b = List·getD-append (take at words) behind 0 i (rw front b) ∙ getD-take at words i 0 b
@@ -42,9 +46,11 @@ module _ (at : ℕ) (words ws : List ℕ) where
     unfolding laidAt
     laid-behind k = rw front at (getD-append-add (take at words) behind k 0)
 
+    -- the words stand from their place on
     pub laid-at : (k : ℕ) → k < length ws → getD (laidAt at ws words) (at + k) 0 ≡ getD ws k 0
     laid-at k b = laid-behind k ∙ List·getD-append ws (drop (at + length ws) words) 0 k b
 
+    -- behind the words the area is as it was
     pub laid-past : (i : ℕ) → at + length ws ≤ i → getD (laidAt at ws words) i 0 ≡ getD words i 0
     laid-past i h =
         let k : ℕ = i - at - length ws in

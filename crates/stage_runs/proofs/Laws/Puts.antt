@@ -36,15 +36,19 @@ use Rattle.stage_runs.proofs.Laws.Plain.{row-high}
 
 -- ---- what changes
 
+-- nothing changed, so nothing but what rule 8 may change did
 pub moved-none : {m : ℕ} {w : List ℕ} → Moved m w w
 moved-none = record { frame = frame-none; rest = λ j a b c. refl }
 
+-- two changes that rule 8 may make are one
 pub moved-then : {m : ℕ} {u v w : List ℕ} → Moved m u v → Moved m v w → Moved m u w
 moved-then a b = record { frame = frame-then (a .frame) (b .frame); rest = λ j x y z. b .rest j x y z ∙ a .rest j x y z }
 
+-- a change of the counts alone is such a change
 pub moved-kept : {m : ℕ} {w w′ : List ℕ} → Kept m w w′ → Moved m w w′
 moved-kept k = record { frame = frame-more refl (k .frame); rest = k .rest }
 
+-- a change of the realised pins alone is such a change
 pub moved-real : {m : ℕ} {w w′ : List ℕ} → Frame (STACK ∷ MARK ∷ []) m w w′ → Moved m w w′
 moved-real f = record { frame = frame-more refl f; rest = λ j a b c. f .past refl j a }
 
@@ -64,6 +68,7 @@ module _ {C : Context} {m k : ℕ} {s : Puts} {gates pl w : List ℕ} (A : Putti
       }
 
   -- ---- no pin is left
+  -- past the last pin nothing is put
   pub put-idle : (p : ℕ) → s .next ≡ k → Put C m k (rules.putCell (C .X) p) gates s pl w s pl w
   unfolding putOf
   put-idle p e = record {
@@ -82,6 +87,7 @@ module _ {C : Context} {m half k p : ℕ} {s : Puts} {gates pl w : List ℕ} (A 
   low-height : 1 ≤ C .X .K
   low-height = omega (arith, C .low)
 
+  -- the cell stands in the stage
   pub cell-inside : p < length pl
   cell-inside = omega (arith, A .to, A .row, A .now .stands .fair .len, two-step (C .X .K), half-height (C .X .K) low-height)
 
@@ -92,6 +98,7 @@ module _ {C : Context} {m half k p : ℕ} {s : Puts} {gates pl w : List ℕ} (A 
     below : s .next < k
     below = omega (arith, A .now .upto)
 
+    -- the next needed waiting pin stands in the area
     pub next-at : PHASE * m + s .next < length w
     next-at = omega (arith, A .now .stands .base .area .room, A .now .needed .few)
 
@@ -117,6 +124,7 @@ module _ {C : Context} {m half k p : ℕ} {s : Puts} {gates pl w : List ℕ} (A 
         level = next-low .1;
       }
 
+      -- the next pin may be placed at an empty cell
       pub fill-at : PlaceAt C m 1 half p e gates pl w
       fill-at = may-place (A .now .stands) (A .row) may
 
@@ -127,9 +135,11 @@ module _ {C : Context} {m half k p : ℕ} {s : Puts} {gates pl w : List ℕ} (A 
         stands1 : Standing C m 1 gates pl1 w1
         stands1 = placed-stands (A .now .stands) (A .row) may B
 
+        -- the pin placed may be listed as realised
         pub fill-enlist : EnlistAt STACK MARK m (s .real) e w1
         fill-enlist = enlist-at kept-real (stands1 .base .area) (omega (arith, C .S .bound e (may .listed), A .now .stands .base .size)) (omega arith) (omega arith) (λ d. omega arith)
 
+        -- an empty cell takes the next pin, which is realised
         pub put-filled : {w2 : List ℕ} {r : ℕ} → Enlisted STACK MARK m (s .real) e w1 w2 r → Put C m k (rules.putCell (C .X) p) gates s pl w (record { next = s .next + 1; real = r }) pl1 w2
         unfolding putOf rules.fillIn
         put-filled E =
@@ -152,11 +162,13 @@ module _ {C : Context} {m half k p : ℕ} {s : Puts} {gates pl w : List ℕ} (A 
       cell-is : getD pl p empty ≡ q
       cell-is = same ∙ sym is-cell
 
+      -- what stands in a filled cell is a pin of the area
       pub met-pin : q < m
       met-pin =
           let t = A .now .stands .fair .tall 1 (rowAt (C .X .K) 1) p (rows (C .X .K) 1 low-height) (omega (arith, A .from, A .row)) (omega (arith, A .to, A .row)) holds in
           omega (arith, C .S .bound q (rw cell-is at (t .0)), A .now .stands .base .size)
 
+      -- the pin met may be listed as realised
       pub met-enlist : EnlistAt STACK MARK m (s .real) q w
       met-enlist = enlist-at (A .now .real) (A .now .stands .base .area) met-pin (omega arith) (omega arith) (λ d. omega arith)
 
@@ -164,6 +176,7 @@ module _ {C : Context} {m half k p : ℕ} {s : Puts} {gates pl w : List ℕ} (A 
         waits-test : b ≡ mem q (C .X .waiting)
         waits-test = test ∙ placed-test (A .now .waiting) q met-pin
 
+        -- a waiting pin met in a filled cell is realised
         pub put-met-waits : b ≡ true → {w1 : List ℕ} {r : ℕ} → Enlisted STACK MARK m (s .real) q w w1 r → Put C m k (rules.putCell (C .X) p) gates s pl w (record { next = s .next; real = r }) pl w1
         unfolding putOf
         put-met-waits t E =
@@ -180,6 +193,7 @@ module _ {C : Context} {m half k p : ℕ} {s : Puts} {gates pl w : List ℕ} (A 
                   ∙ rw (frame-span (v .frame) PHASE (s .next) k refl (omega arith), now .held .is) refl;
             }
 
+        -- a pin met that does not wait changes nothing
         pub put-met-not : b ≡ false → Put C m k (rules.putCell (C .X) p) gates s pl w s pl w
         unfolding putOf
         put-met-not t = record {
@@ -200,14 +214,17 @@ cells-snoc X (suc n) p t =
     let y : p + suc n ≡ suc p + n = omega arith in
     rw (z, y) (cells-snoc X n (suc p) (rules.putCell X p t))
 
+-- before the run's first cell nothing is put
 pub put-none-yet : {C : Context} {m k : ℕ} {s : Puts} {gates pl w : List ℕ} (a : ℕ) → Putting C m k s gates pl w → Put C m k (rules.putCells (C .X) 0 a) gates s pl w s pl w
 unfolding rules.putCells
 put-none-yet a A = record { now = A; moved = moved-none; size = refl; is = λ ws. refl }
 
 module _ {C : Context} {m half k a : ℕ} {s : Puts} {gates pl w : List ℕ} (A : RunAt C m half k a s gates pl w) {i : ℕ} {t : Puts} {pl1 w1 : List ℕ} (B : Put C m k (rules.putCells (C .X) i a) gates s pl w t pl1 w1) (h : i < 32) where
+  -- the next cell of the run may be gone to
   pub run-cell : CellAt C m half k (a + i) t gates pl1 w1
   run-cell = record { now = B .now; row = A .row; from = omega (arith, A .from); to = omega (arith, A .to) }
 
+  -- one cell more of the run is done
   pub run-more : {t2 : Puts} {pl2 w2 : List ℕ} → Put C m k (rules.putCell (C .X) (a + i)) gates t pl1 w1 t2 pl2 w2 → Put C m k (rules.putCells (C .X) (i + 1) a) gates s pl w t2 pl2 w2
   run-more D = record {
     now = D .now;
@@ -216,8 +233,10 @@ module _ {C : Context} {m half k a : ℕ} {s : Puts} {gates pl w : List ℕ} (A 
     is = λ ws. cells-snoc (C .X) i a (putOf m k s pl w ws) ∙ rw (B .is ws) (D .is ws);
   }
 
+-- a run ends by position 8,192
 pub run-end : {C : Context} {m half k a : ℕ} {s : Puts} {gates pl w : List ℕ} → RunAt C m half k a s gates pl w → a + 32 ≤ 8192
 run-end {C} A = omega (arith, A .to, A .row, row-high (C .X .K) 1 (omega arith) (omega (arith, C .low)) (C .high))
 
+-- after 32 cells the run is done
 pub run-done : {C : Context} {m half k i a : ℕ} {s t : Puts} {gates pl w pl1 w1 : List ℕ} → RunAt C m half k a s gates pl w → Put C m k (rules.putCells (C .X) i a) gates s pl w t pl1 w1 → i ≤ 32 → 32 ≤ i → Put C m k (rules.putCells (C .X) 32 a) gates s pl w t pl1 w1
 run-done {i = i} A B b d = let z : i ≡ 32 = omega arith in rw z at B

@@ -6,7 +6,7 @@ use mathlib.Core.List.{List, [], _∷_, _++_, append-nil, append-assoc}
 use Prim.Native.Nat.{ℕ, _+_, _*_, _<_, _≤_}
 use native.Mathlib.Omega.{arith}
 use lib.Dec.{eqb, leb, ltb}
-use lib.ListN.{length, getD, take, length-map}
+use lib.ListN.{getD, take, length-map}
 use lib.Seq.{length-take-le}
 use borrow.Author.Tests.{ltb-true, ltb-false}
 use Rattle.rules.specs.Lists.{mem, keep, isNil, insert, insertAll, In, Out, Once, nobody, one}
@@ -39,15 +39,15 @@ use Rattle.stage_runs.specs.Classes.{isNeeded, isUntouched, SplitAt, Cla
 use Rattle.stage_sparse.specs.Runs.{listed, RunsAt, Sorted}
 use Rattle.stage_runs.specs.Puts.{putOf, wordsOf, WriteAt, Wrote}
 use Rattle.stage_runs.specs.Ran.{EndAt, Ran}
-use Rattle.stage_sparse.proofs.Laws.Runs.{listed-length}
+use Rattle.stage_sparse.proofs.Laws.Places.{listed-length}
 use Rattle.stage_runs.proofs.Laws.Plain.{not-not, not-zero}
-use Rattle.stage_runs.proofs.Laws.Written.{noted-length}
 
 -- ---- lists
 
 out-keep : (f : ℕ → Bool) (x : ℕ) (xs : List ℕ) → Out x xs → Out x (keep f xs)
 out-keep f x xs o = split (mem x (keep f xs)) (λ i. true-false (keep-in f x xs i .0) o) (λ e. e)
 
+-- a part of a list without repeats has none either
 pub once-keep : (f : ℕ → Bool) {xs : List ℕ} → Once xs → Once (keep f xs)
 unfolding keep
 once-keep f nobody = nobody
@@ -91,10 +91,12 @@ module _ {C : Context} {m h : ℕ} {gates pl w : List ℕ} (A : Standing C m h g
       (λ e. rw e (same-truth false (leb l 1) (λ d. true-false d refl) (λ d. absurd (omega (arith, ltb-true 1 l e, leb-true l 1 d)))))
       (λ e. rw e (sym (true-leb l 1 (ltb-false 1 l e))))
 
+  -- the columns tell which waiting pin is needed
   pub needed-is : isNeeded m w x ≡ (not (mem x (treeOf (C .X) pl)) && leb (levelAt (C .X) x) 1)
   unfolding isNeeded
   needed-is = rw (uncounted, level-is, low-or-high) refl
 
+  -- the columns tell which waiting pin is untouched
   pub untouched-is : isUntouched m w x ≡ (not (mem x (treeOf (C .X) pl)) && ltb 1 (levelAt (C .X) x))
   unfolding isUntouched
   untouched-is = rw (uncounted, level-is) refl
@@ -109,6 +111,7 @@ module _ {C : Context} {m K half n : ℕ} {rule : WordRule} {at room : ℕ} {gat
   seen : (x : ℕ) → In x (C .X .waiting) → In x (C .X .seen)
   seen x i = C .S .visited .has x i
 
+  -- the waiting pins may be classed
   pub split-at : SplitAt m n w
   split-at = record { area = A .stands .base .area; waiting = rw list-is (A .begun .waiting .held); clear = A .spare }
 
@@ -127,11 +130,13 @@ module _ {C : Context} {m K half n : ℕ} {rule : WordRule} {at room : ℕ} {gat
     now : Marked PHASE SPARE m k low w1
     now = rw needed-list at (S .now)
 
+    -- no untouched pin: it is the last stage
     pub last-is : not u ≡ rules.lastStage (C .X) pl
     unfolding rules.lastStage highWaiting
     last-is = rw (S .untouched, list-is, same-untouched (work C) (A .stands .fair), not-not)
         (ap isNil (keep-ext (isUntouched m w) (λ p. not (mem p (treeOf (C .X) pl)) && ltb 1 (levelAt (C .X) p)) (C .X .waiting) (λ x i. untouched-is (A .stands) x (seen x i))))
 
+    -- the sparse runs may be found
     pub runs-at : RunsAt K half pl
     runs-at = record { low = omega (arith, A .height, C .low); high = omega (arith, A .height, C .high); row = A .row; size = rw (A .height) (A .stands .fair .len) }
 
@@ -146,6 +151,7 @@ module _ {C : Context} {m K half n : ℕ} {rule : WordRule} {at room : ℕ} {gat
           let t = keep-in (λ p. not (mem p (treeOf (C .X) pl)) && leb (levelAt (C .X) p) 1) x (C .X .waiting) i in
           (t .0, leb-true (levelAt (C .X) x) 1 (and-true (not (mem x (treeOf (C .X) pl))) (leb (levelAt (C .X) x) 1) (t .1) .1))
 
+      -- the sparse runs may be written
       pub write-at : WriteAt C m half k rule at room R gates pl w1 words
       write-at = record {
         now = record {
@@ -199,9 +205,7 @@ module _ {C : Context} {m K half n : ℕ} {rule : WordRule} {at room : ℕ} {gat
         unfolding putOf
         words-are = ap (λ (s : rules.Put). s .words) written-is
 
-        pub wrote-length : length words1 ≡ length words
-        wrote-length = rw (W .wrote) (noted-length at words room ws (A .fits))
-
+        -- classes, records and runs together are rule 8
         pub ran : Ran C m at room gates pl w words (record { last = not u; real = e .real; words = e .words }) pl1 w2 words1
         unfolding wordsOf
         ran = record {

@@ -2,7 +2,7 @@
 use mathlib.Core.Path.{_≡_, refl, sym, ap, _∙_}
 use mathlib.Core.Logic.{_≢_}
 use mathlib.Core.Bool.{Bool, true, false, _||_}
-use mathlib.Core.List.{List, [], _∷_, _++_}
+use mathlib.Core.List.{List, [], _∷_, _++_, map-append}
 use Prim.Native.Nat.{ℕ, zero, suc, _+_, _-_, _/_, _<_, _≤_}
 use native.Mathlib.Omega.{arith}
 use lib.Dec.{leb, ltb}
@@ -28,40 +28,47 @@ use Rattle.stage_sparse.specs.Runs.{known, listed}
 use Rattle.stage_runs.specs.Puts.{putOf, RunAt, Noted, RecordAt, PutRecord, wordsOf, WriteAt, Writing, Wrote}
 use Rattle.stage_runs.specs.Rule.{ruleOf}
 use Rattle.stage_runs.specs.Laid.{noted}
-use Rattle.stage_sparse.proofs.Laws.Runs.{map-append, listed-length, listed-next, listed-take}
+use Rattle.stage_sparse.proofs.Laws.Places.{listed-length, listed-next, listed-take}
 use Rattle.stage_runs.proofs.Laws.Plain.{row-high}
 use Rattle.stage_runs.proofs.Laws.Laid.{laid-none, laid-length, laid-more}
 use Rattle.stage_runs.proofs.Laws.Puts.{moved-none, moved-then}
 
 -- ---- the test
 
+-- where every run is written, the last stage or enough pins decide
 pub goes-every : (rule : WordRule) (last : Bool) (f left : ℕ) → rule ≡ EveryRun → (last || leb (32 - f) left) ≡ rules.goesOn (ruleOf rule) last f left
 unfolding ruleOf rules.goesOn rules.allows
 goes-every rule last f left e = rw e
 
+-- where only needed runs are, none is once no pin is left
 pub goes-none : (rule : WordRule) (last : Bool) (f left : ℕ) → rule ≡ NeededRuns → left ≡ 0 → false ≡ rules.goesOn (ruleOf rule) last f left
 unfolding ruleOf rules.goesOn rules.allows
 goes-none rule last f left e z = rw (e, z)
 
+-- while pins are left, the last stage or enough pins decide
 pub goes-some : (rule : WordRule) (last : Bool) (f left : ℕ) → rule ≡ NeededRuns → left ≢ 0 → (last || leb (32 - f) left) ≡ rules.goesOn (ruleOf rule) last f left
 unfolding ruleOf rules.goesOn rules.allows
 goes-some rule last f zero e n = absurd (n refl)
 goes-some rule last f (suc k) e n = rw e
 
+-- enough pins: those left fill the run's empty cells
 pub enough-rest : (last : Bool) (f left w : ℕ) → last ≡ false → w ≡ f → leb 32 (left + w) ≡ (last || leb (32 - f) left)
 enough-rest last f left w e d = rw e (same-truth (leb 32 (left + w)) (leb (32 - f) left) (λ t. true-leb (32 - f) left (omega (arith, leb-true 32 (left + w) t))) (λ t. true-leb 32 (left + w) (omega (arith, leb-true (32 - f) left t))))
 
 -- ---- words laid one behind the other
 
 module _ (at : ℕ) (words : List ℕ) where
+  -- no words noted leave the area
   pub noted-none : (room : ℕ) → words ≡ noted at room [] words
   unfolding noted
   noted-none room = let z : take {A = ℕ} room [] ≡ [] = take-nil room in rw z (sym (laid-none at words))
 
+  -- noting words keeps its length
   pub noted-length : (room : ℕ) (ws : List ℕ) → at + room ≤ length words → length (noted at room ws words) ≡ length words
   unfolding noted
   noted-length room ws h = laid-length at words (take room ws) (omega (arith, length-take room ws))
 
+  -- a word noted behind those before, as far as there is room
   pub noted-more : (room j x : ℕ) (ws words1 words2 : List ℕ) → length ws ≡ j → at + room ≤ length words → words1 ≡ noted at room ws words → Noted at room j x words1 words2 → words2 ≡ noted at room (ws ++ (x ∷ [])) words
   unfolding noted
   noted-more room j x ws words1 words2 l h e N = split (ltb j room)
@@ -72,9 +79,11 @@ module _ (at : ℕ) (words : List ℕ) where
 -- ---- one record
 
 module _ {C : Context} {m half k at room start : ℕ} {s : Puts} {gates pl w words : List ℕ} (A : RecordAt C m half k at room start s gates pl w words) where
+  -- a record's run may be gone through
   pub record-run : RunAt C m half k (half + start) s gates pl w
   record-run = record { now = A .now; row = A .row; from = omega arith; to = omega (arith, A .inside) }
 
+  -- a record's word is that of a position below 8,192
   pub record-end : half + start < 8192
   record-end = omega (arith, A .inside, A .row, row-high (C .X .K) 1 (omega arith) (omega (arith, C .low)) (C .high))
 
@@ -99,14 +108,17 @@ module _ {C : Context} {m half k : ℕ} {rule : WordRule} {at room : ℕ} {R : R
   inside-records : R .len ≤ length (R .records)
   inside-records = omega (arith, A .size, A .few)
 
+  -- before the first record nothing is written
   pub writing-none : Writing C m half k last at room R gates pl w words (record { next = 0; real = 0 }) 0 pl w words
   unfolding wordsOf
   writing-none = record { upto = omega arith; now = A .now; moved = moved-none; size = refl; same = refl; wrote = noted-none at words room }
 
   module _ {t : Puts} {j : ℕ} {pl1 w1 words1 : List ℕ} (B : Writing C m half k last at room R gates pl w words t j pl1 w1 words1) where
+    -- the area of words keeps its length
     pub writing-length : length words1 ≡ length words
     writing-length = rw (B .wrote) (noted-length at words room (wordsOf half (take j rs)) (A .fits))
 
+    -- past the last record all is written
     pub writing-end : R .len ≤ j → Wrote C m half k last at room R gates pl w words (record { next = t .next; real = t .real; words = j }) pl1 w1 words1
     writing-end h =
         let z : drop j rs ≡ [] = drop-of-length-le rs {i = j} (rw (listed-length R inside-records) h) in
@@ -122,6 +134,7 @@ module _ {C : Context} {m half k : ℕ} {rule : WordRule} {at room : ℕ} {R : R
       left-is : length (span PHASE m (t .next) k w1) ≡ k - t .next
       left-is = length-left m k (t .next) w1 (B .now .needed .few)
 
+      -- a record that is not written ends it
       pub writing-stop : {b : Bool} → b ≡ rules.goesOn (ruleOf rule) last (r .filled) (k - t .next) → b ≡ false → Wrote C m half k last at room R gates pl w words (record { next = t .next; real = t .real; words = j }) pl1 w1 words1
       unfolding putOf
       writing-stop e f = record {
@@ -133,6 +146,7 @@ module _ {C : Context} {m half k : ℕ} {rule : WordRule} {at room : ℕ} {R : R
         wrote = B .wrote;
       }
 
+      -- a record that is written may be put
       pub writing-record : {start : ℕ} → start ≡ r .start → RecordAt C m half k at room start t gates pl1 w1 words1
       writing-record e = record {
         now = B .now;
@@ -159,6 +173,7 @@ module _ {C : Context} {m half k : ℕ} {rule : WordRule} {at room : ℕ} {R : R
             let e : rules.putCells (C .X) 32 (rowAt (C .X .K) 1 + r .start) (putOf m k t pl1 w1 (wordsOf half (take j rs))) ≡ putOf m k t2 pl2 w2 (wordsOf half (take j rs)) = rw (← A .row, ← is-start) (D .put .is (wordsOf half (take j rs))) in
             rw (e, words-more, A .row) refl
 
+        -- a record that is written is put, with its word
         pub writing-more : {b : Bool} → b ≡ rules.goesOn (ruleOf rule) last (r .filled) (k - t .next) → b ≡ true → Writing C m half k last at room R gates pl w words t2 (j + 1) pl2 w2 words2
         unfolding putOf
         writing-more e f =

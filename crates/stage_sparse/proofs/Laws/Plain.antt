@@ -6,6 +6,7 @@ use lib.Pow.{pow-mono}
 use Rattle.rules.specs.Cells.{rowAt}
 use Rattle.rules.proofs.Stage.Staged.{two-step}
 
+-- a level's row ends within the stage
 pub row-inside : (K h n : ℕ) → n ≡ 2 ^ (K + 1) → 2 * rowAt K h ≤ n
 unfolding rowAt
 row-inside K h n e = omega (arith, two-step K, pow-mono {i = K - h} {j = K} (omega arith))

@@ -14,6 +14,7 @@ use Rattle.stage_tree.proofs.split_gate.Reads as split-gate
 use Rattle.stage_tree.proofs.split_gate.Kinds as split-gate-kinds
 use Rattle.stage_tree.proofs.+place_bit+split_gate.Lts-split_gate as split-gate-lts
 use Rattle.columns.proofs.get.Reads as get-reads
+use Rattle.graph.proofs.Pin.index.Reads as index-reads
 use Rattle.graph.proofs.operand.Reads as operand-reads
 use Rattle.stage_tree.proofs.fill_cell.Reads as fill-cell-reads
 use Rattle.stage_tree.proofs.+place_bit+split_gate.{statement}
@@ -113,44 +114,44 @@ place-bit-returns-3 t c =
     }
 
 abbrev split-gate-claims : ℕ → split-gate-lts.Claims
-split-gate-claims t = (operand-reads.Asked, operand-reads.Learnt, place-bit-below t, place-bit.Post)
+split-gate-claims t = (index-reads.Asked, index-reads.Learnt, operand-reads.Asked, operand-reads.Learnt, place-bit-below t, place-bit.Post)
 
-split-gate-mul-operand : (t : ℕ) → split-gate-lts.Need-mul-operand (split-gate-claims t) (split-gate-at t) split-gate.Post
-split-gate-mul-operand t c = let A = c .before .before .before .pre .1 .at in omega (arith, split-pin A, A .base .area .small)
+split-gate-index-requires : (t : ℕ) → split-gate-lts.Need-index-requires (split-gate-claims t) (split-gate-at t) split-gate.Post
+split-gate-index-requires t c κs = search needs
+
+split-gate-mul-at : (t : ℕ) → split-gate-lts.Need-mul-at (split-gate-claims t) (split-gate-at t) split-gate.Post
+split-gate-mul-at t c = let A = c .before .before .before .before .pre .1 .at in omega (arith, split-pin A, A .base .area .small)
 
 split-gate-operand-requires : (t : ℕ) → split-gate-lts.Need-operand-requires (split-gate-claims t) (split-gate-at t) split-gate.Post
 split-gate-operand-requires t c κs = search needs
 
-split-gate-mul-operand-2 : (t : ℕ) → split-gate-lts.Need-mul-operand-2 (split-gate-claims t) (split-gate-at t) split-gate.Post
-split-gate-mul-operand-2 t c = let A = c .before .before .before .before .pre .1 .at in omega (arith, split-pin A, A .base .area .small)
-
 split-gate-add-operand : (t : ℕ) → split-gate-lts.Need-add-operand (split-gate-claims t) (split-gate-at t) split-gate.Post
-split-gate-add-operand t c = let A = c .before .before .before .before .pre .1 .at in omega (arith, split-pin A, A .base .area .small)
+split-gate-add-operand t c = let A = c .before .before .before .before .before .pre .1 .at in omega (arith, split-pin A, A .base .area .small)
 
 split-gate-operand-requires-2 : (t : ℕ) → split-gate-lts.Need-operand-requires-2 (split-gate-claims t) (split-gate-at t) split-gate.Post
 split-gate-operand-requires-2 t c κs = search needs
 
 split-gate-sub-next : (t : ℕ) → split-gate-lts.Need-sub-next (split-gate-claims t) (split-gate-at t) split-gate.Post
-split-gate-sub-next t c = omega (arith, c .before .before .before .before .before .pre .1 .at .above)
+split-gate-sub-next t c = omega (arith, c .before .before .before .before .before .before .pre .1 .at .above)
 
 split-gate-mul-low : (t : ℕ) → split-gate-lts.Need-mul-low (split-gate-claims t) (split-gate-at t) split-gate.Post
-split-gate-mul-low t c = omega (arith, split-low (c .before .before .before .before .before .pre .1 .at))
+split-gate-mul-low t c = omega (arith, split-low (c .before .before .before .before .before .before .pre .1 .at))
 
 split-gate-add-place-bit : (t : ℕ) → split-gate-lts.Need-add-place-bit (split-gate-claims t) (split-gate-at t) split-gate.Post
-split-gate-add-place-bit t c = omega (arith, split-low (c .before .before .before .before .before .before .before .pre .1 .at))
+split-gate-add-place-bit t c = omega (arith, split-low (c .before .before .before .before .before .before .before .before .pre .1 .at))
 
 split-gate-place-bit-requires : (t : ℕ) → split-gate-lts.Need-place-bit-requires (split-gate-claims t) (split-gate-at t) split-gate.Post
 split-gate-place-bit-requires t c κs =
-    let s = c .before .before .before .before .before .before .before .pre .1 in
-    (omega (arith, s .at .above), record { it = s .it; at = split-first (s .at) (split-pins (s .at) _ _ (c .before .before .before .operand .ensures) (c .before .before .operand2 .ensures)) })
+    let s = c .before .before .before .before .before .before .before .before .pre .1 in
+    (omega (arith, s .at .above), record { it = s .it; at = split-first (s .at) (split-pins (s .at) _ _ (rw (c .before .before .before .before .index .ensures) at (c .before .before .before .operand .ensures)) (rw (c .before .before .before .before .index .ensures) at (c .before .before .operand2 .ensures))) })
 
 split-gate-add-place-bit-2 : (t : ℕ) → split-gate-lts.Need-add-place-bit-2 (split-gate-claims t) (split-gate-at t) split-gate.Post
-split-gate-add-place-bit-2 t c = omega (arith, split-low (c .before .before .before .before .before .before .before .before .before .before .before .before .before .before .pre .1 .at))
+split-gate-add-place-bit-2 t c = omega (arith, split-low (c .before .before .before .before .before .before .before .before .before .before .before .before .before .before .before .pre .1 .at))
 
 split-gate-place-bit-requires-2 : (t : ℕ) → split-gate-lts.Need-place-bit-requires-2 (split-gate-claims t) (split-gate-at t) split-gate.Post
 split-gate-place-bit-requires-2 t c κs =
-    let s = c .before .before .before .before .before .before .before .before .before .before .before .before .before .before .pre .1 in
-    let O = split-pins (s .at) _ _ (c .before .before .before .before .before .before .before .before .before .before .operand .ensures) (c .before .before .before .before .before .before .before .before .before .operand2 .ensures) in
+    let s = c .before .before .before .before .before .before .before .before .before .before .before .before .before .before .before .pre .1 in
+    let O = split-pins (s .at) _ _ (rw (c .before .before .before .before .before .before .before .before .before .before .before .index .ensures) at (c .before .before .before .before .before .before .before .before .before .before .operand .ensures)) (rw (c .before .before .before .before .before .before .before .before .before .before .before .index .ensures) at (c .before .before .before .before .before .before .before .before .before .operand2 .ensures)) in
     (omega (arith, s .at .above), record { it = s .it; at = split-second (s .at) O (c .before .before .before .before .before .before .place-bit .ensures .all (s .it) (split-first (s .at) O)) })
 
 split-gate-same-length : (t : ℕ) → split-gate-lts.Need-same-length (split-gate-claims t) (split-gate-at t) split-gate.Post
@@ -163,7 +164,7 @@ split-gate-returns : (t : ℕ) → split-gate-lts.Need-returns (split-gate-claim
 split-gate-returns t c =
     record {
       all = λ C A.
-          let O = split-pins A _ _ (c .before .before .before .before .before .before .before .before .before .before .before .before .before .before .before .operand .ensures) (c .before .before .before .before .before .before .before .before .before .before .before .before .before .before .operand2 .ensures) in
+          let O = split-pins A _ _ (rw (c .before .before .before .before .before .before .before .before .before .before .before .before .before .before .before .before .index .ensures) at (c .before .before .before .before .before .before .before .before .before .before .before .before .before .before .before .operand .ensures)) (rw (c .before .before .before .before .before .before .before .before .before .before .before .before .before .before .before .before .index .ensures) at (c .before .before .before .before .before .before .before .before .before .before .before .before .before .before .operand2 .ensures)) in
           let P = c .before .before .before .before .before .before .before .before .before .before .before .place-bit .ensures .all C (split-first A O) in
           split-both A O P (c .before .before .before .before .place-bit2 .ensures .all C (split-second A O P));
     }
@@ -188,13 +189,12 @@ pub +place-bit+split-gate-spec : {M : Type 1} → statement M
     (place-bit-same-length-5 t)
     (place-bit-same-length-6 t)
     (place-bit-returns-3 t))
-    λ t. split-gate-lts.spec
-    (split-gate-claims t)
+    λ t. split-gate-lts.spec (split-gate-claims t)
     (split-gate-at t)
     split-gate.Post
-    (split-gate-mul-operand t)
+    (split-gate-index-requires t)
+    (split-gate-mul-at t)
     (split-gate-operand-requires t)
-    (split-gate-mul-operand-2 t)
     (split-gate-add-operand t)
     (split-gate-operand-requires-2 t)
     (split-gate-sub-next t)

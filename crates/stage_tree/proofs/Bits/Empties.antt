@@ -41,13 +41,16 @@ module _ {C : Context} {m h p n : ℕ} {pl u : List ℕ} (A : EmptyAt C m h p n 
   inside : p < length pl
   inside = spot-in (A .spot)
 
+  -- the cell to be emptied holds the pin
   pub empty-holds : getD pl p empty ≡ n
   empty-holds = getD-any pl p empty 0 inside ∙ sym (A .is)
 
+  -- the cell to be emptied is filled
   pub empty-full : filled n ≡ true
   unfolding filled empty
   empty-full = rw (ne-eqb n empty (A .full), filled) refl
 
+  -- the pin in it is a pin of the area
   pub empty-pin : n < m
   empty-pin =
       let k : In (getD pl p empty) (C .X .seen) = A .tall h (rowAt K h) p (rows K h (A .spot .high)) (A .spot .from) (A .spot .to) (rw empty-holds empty-full) .0 in
@@ -56,6 +59,7 @@ module _ {C : Context} {m h p n : ℕ} {pl u : List ℕ} (A : EmptyAt C m h p n 
   refill : set pl0 p n ≡ pl
   refill = set-set pl p empty n ∙ ap (set pl p) (sym empty-holds) ∙ set-getD pl p empty
 
+  -- at level 0 no count changes
   pub emptied-low : h ≡ 0 → Emptied C m p pl u pl0 u
   emptied-low z = record { plan = refl; kept = kept-none; tally = low-tally (A .spot) z empty }
 
@@ -86,6 +90,7 @@ module _ {C : Context} {m h p n : ℕ} {pl u : List ℕ} (A : EmptyAt C m h p n 
     unfolding treeOf
     size-pos = split (mem n (tree K pl0)) (λ i. omega (arith, A .spot .tally .pins, grown-old i, some-in n (tree K pl0) i)) (λ o. omega (arith, A .spot .tally .pins, grown-new o))
 
+    -- above it the pin can be counted once less
     pub empty-count : UncountAt m n u
     empty-count = record { area = A .spot .area; pin = empty-pin; cells = omega (arith, A .spot .tally .cells n empty-pin, one-step); pins = size-pos }
 
@@ -111,6 +116,7 @@ module _ {C : Context} {m h p n : ℕ} {pl u : List ℕ} (A : EmptyAt C m h p n 
       ones-same : getD u1 (16 * m + ONES) 0 ≡ getD u (16 * m + ONES) 0
       ones-same = sym (O .other (16 * m + ONES) (λ d. omega (arith, empty-pin)) (λ d. omega arith))
 
+      -- above level 1 that is all
       pub emptied-upper : h ≢ 1 → Emptied C m p pl u pl0 u1
       emptied-upper ne = record {
         plan = refl;
@@ -122,9 +128,11 @@ module _ {C : Context} {m h p n : ℕ} {pl u : List ℕ} (A : EmptyAt C m h p n 
         };
       }
 
+      -- at level 1 the filled cells can be counted one less
       pub ones-pos : h ≡ 1 → 0 < getD u1 (16 * m + ONES) 0
       ones-pos e = omega (arith, ones-same, A .spot .tally .ones, row-step e)
 
+      -- at level 1 the filled cells are counted one less
       pub emptied-one : h ≡ 1 → Emptied C m p pl u pl0 (set u1 (16 * m + ONES) (getD u1 (16 * m + ONES) 0 - 1))
       emptied-one e =
           let k : ℕ = getD u1 (16 * m + ONES) 0 - 1 in

@@ -43,15 +43,18 @@ module _ {C : Context} {m h p n : ℕ} {pl u : List ℕ} (A : FillAt C m h p n p
   abbrev K : ℕ
   K = C .X .K
 
+  -- the pin to be filled in is a pin of the area
   pub fill-pin : n < m
   fill-pin = omega (arith, C .S .bound n (A .listed), A .spot .size)
 
+  -- the pin to be filled in can be counted once more
   pub fill-count : CountAt m n u
   fill-count = let f = few (A .spot .tally) in record { area = A .spot .area; pin = fill-pin; cells = omega (arith, f .cells n fill-pin); pins = omega (arith, f .pins) }
 
   full : filled n ≡ true
   full = listed-filled (work C) n (A .listed)
 
+  -- at level 0 no count changes
   pub filled-low : h ≡ 0 → Filled C m p n pl u (set pl p n) u
   filled-low z = record { plan = refl; kept = kept-none; tally = low-tally (A .spot) z n }
 
@@ -82,9 +85,11 @@ module _ {C : Context} {m h p n : ℕ} {pl u : List ℕ} (A : FillAt C m h p n p
     ones-same : getD u1 (16 * m + ONES) 0 ≡ getD u (16 * m + ONES) 0
     ones-same = O .other (16 * m + ONES) (λ d. omega (arith, fill-pin)) (λ d. omega arith)
 
+    -- the count of filled cells of level 1 stays small
     pub ones-fit : getD u1 (16 * m + ONES) 0 ≤ 8192
     ones-fit = omega (arith, ones-same, few (A .spot .tally) .ones)
 
+    -- above level 1 the pin's count is all that changes
     pub filled-upper : h ≢ 1 → Filled C m p n pl u (set pl p n) u1
     filled-upper ne = record {
       plan = refl;
@@ -96,6 +101,7 @@ module _ {C : Context} {m h p n : ℕ} {pl u : List ℕ} (A : FillAt C m h p n p
       };
     }
 
+    -- at level 1 the filled cells are counted one more
     pub filled-one : h ≡ 1 → Filled C m p n pl u (set pl p n) (set u1 (16 * m + ONES) (getD u1 (16 * m + ONES) 0 + 1))
     filled-one e =
         let k : ℕ = getD u1 (16 * m + ONES) 0 + 1 in

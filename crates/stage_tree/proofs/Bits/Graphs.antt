@@ -17,6 +17,7 @@ use Rattle.columns.specs.Fields.{LEVEL}
 use Rattle.columns.proofs.Area.Columns.{getD-col}
 use Rattle.stage_walk.specs.Stands.{Context, Base, Levelled}
 
+-- the level column has a pin's level
 pub level-at : {C : Context} {m : ℕ} {u : List ℕ} → Levelled C m u → (p : ℕ) → p < m → getD u (LEVEL * m + p) 0 ≡ levelAt (C .X) p
 unfolding levelAt
 level-at {C} {m} {u} l p h = sym (getD-col LEVEL m u p h) ∙ ap (λ (c : List ℕ). getD c p 0) (l .levels)
@@ -49,6 +50,7 @@ pub record Operands (C : Context) (n a b : ℕ) : Type 0 where
   pub one : In a (C .X .seen)
   pub two : In b (C .X .seen)
 
+-- the pins that the code reads of a gate are its operands, and listed
 pub operands : {C : Context} {m : ℕ} {gates u : List ℕ} → Base C m gates u → (n : ℕ) → In n (C .X .seen) → 1 ≤ levelAt (C .X) n →
     (a b : ℕ) → a ≡ pinOf (getD gates (2 * n) 0) → b ≡ pinOf (getD gates (2 * n + 1) 0) → Operands C n a b
 unfolding pinOf

@@ -61,12 +61,15 @@ under-second w p n pl pos k j =
     rw (getD-set-other pl p (p + 2 * w + j * (2 * w)) n empty (λ e. omega arith)) (rw z at (k (2 + 2 * j)))
 
 module _ {C : Context} {m h w p n : ℕ} {gates pl u : List ℕ} (A : PlaceAt C m h w p n gates pl u) where
+  -- the cell to be placed at may be filled
   pub place-fill : FillAt C m h p n pl u
   place-fill = record { spot = A .spot; free = let z : p + 0 * w ≡ p = omega arith in rw z at (A .under 0); listed = A .listed }
 
+  -- the pin to be placed is a pin of the area
   pub place-pin : n < m
   place-pin = omega (arith, C .S .bound n (A .listed), A .base .size)
 
+  -- the lower cells stand in the stage
   pub place-low : 0 < h → p + 2 * w < 16384
   place-low pos = omega (arith, lower-in (A .spot) pos, spot-small (A .spot), A .row)
 
@@ -78,13 +81,16 @@ module _ {C : Context} {m h w p n : ℕ} {gates pl u : List ℕ} (A : PlaceAt C 
     len1 : length pl1 ≡ length pl
     len1 = rw (M .plan) (length-set pl p n)
 
+    -- at level 0 placing ends with the cell
     pub placed-zero : h ≡ 0 → Placed C m h w p n pl u pl1 u1
     placed-zero z = record { plan = M .plan ∙ sym (place-zero (C .X) w p n pl h z); kept = M .kept; tally = M .tally }
 
+    -- the level read is the pin's
     pub level-read : (v : ℕ) → v ≡ getD u1 (LEVEL * m + n) 0 → v ≡ levelAt (C .X) n
     level-read v e = e ∙ level-at (levelled-kept (M .kept) (A .levelled)) n place-pin
 
     module _ (pos : 0 < h) where
+      -- above it the pin may go to the first lower cell
       pub pass-at : PlaceAt C m (h - 1) (2 * w) (p + w) n gates pl1 u1
       pass-at = record {
         spot = lower-spot (A .spot) pos (M .kept) (M .tally) len1 (p + w) (omega (arith, A .row)) (omega (arith, A .row));
@@ -95,9 +101,11 @@ module _ {C : Context} {m h w p n : ℕ} {gates pl u : List ℕ} (A : PlaceAt C 
         listed = A .listed;
       }
 
+      -- a pin of a lower level is passed down there
       pub passed : levelAt (C .X) n < h → {pl2 u2 : List ℕ} → Placed C m (h - 1) (2 * w) (p + w) n pl1 u1 pl2 u2 → Placed C m h w p n pl u pl2 u2
       passed l P = record { plan = P .plan ∙ rw (M .plan) (sym (place-pass (C .X) w p n pl h pos l)); kept = kept-then (M .kept) (P .kept); tally = P .tally }
 
+      -- a gate of the cell's level or more may be split
       pub split-at : h ≤ levelAt (C .X) n → SplitAt C m h w p n gates pl1 u1
       split-at l = record {
         spot = spot-after (A .spot) (M .kept) (M .tally) len1;
@@ -112,13 +120,16 @@ module _ {C : Context} {m h w p n : ℕ} {gates pl u : List ℕ} (A : PlaceAt C 
         level = l;
       }
 
+    -- the split gate is placed
     pub parted : {pl2 u2 : List ℕ} → Placed C m h w p n pl1 u1 pl2 u2 → Placed C m h w p n pl u pl2 u2
     parted P = record { plan = P .plan ∙ rw (M .plan) (place-again (C .X) w p n pl h); kept = kept-then (M .kept) (P .kept); tally = P .tally }
 
 module _ {C : Context} {m h w p n : ℕ} {gates pl u : List ℕ} (A : SplitAt C m h w p n gates pl u) where
+  -- the gate to be split is a pin of the area
   pub split-pin : n < m
   split-pin = omega (arith, C .S .bound n (A .listed), A .base .size)
 
+  -- its lower cells stand in the stage
   pub split-low : p + 2 * w < 16384
   split-low = omega (arith, lower-in (A .spot) (A .above), spot-small (A .spot), A .row)
 
@@ -130,6 +141,7 @@ module _ {C : Context} {m h w p n : ℕ} {gates pl u : List ℕ} (A : SplitAt C 
   split-pins = operands (A .base) n (A .listed) (omega (arith, A .above, A .level))
 
   module _ {a b : ℕ} (O : Operands C n a b) where
+    -- the first operand may be placed at the first lower cell
     pub split-first : PlaceAt C m (h - 1) (2 * w) (p + w) a gates pl u
     split-first = record {
       spot = lower-spot (A .spot) (A .above) kept-none (A .spot .tally) refl (p + w) (omega (arith, A .row)) (omega (arith, A .row));
@@ -145,6 +157,7 @@ module _ {C : Context} {m h w p n : ℕ} {gates pl u : List ℕ} (A : SplitAt C 
       second-free : Under (2 * w) (p + 2 * w) pl1
       second-free j = rw (P .plan) (rw (frame (C .X) (h - 1) (2 * w) (p + w) a pl (p + 2 * w + j * (2 * w)) (apart (2 * w) (p + w) (p + 2 * w) (omega (arith, row-pos′)) (omega (arith, row-pos′)) (λ e. omega (arith, row-pos′)) j)) (A .second j))
 
+      -- then the second operand at the second lower cell
       pub split-second : PlaceAt C m (h - 1) (2 * w) (p + 2 * w) b gates pl1 u1
       split-second = record {
         spot = lower-spot (A .spot) (A .above) (P .kept) (P .tally) (rw (P .plan) (len-place (C .X) (h - 1) (2 * w) (p + w) a pl)) (p + 2 * w) (omega (arith, A .row)) (omega (arith, A .row));
@@ -155,6 +168,7 @@ module _ {C : Context} {m h w p n : ℕ} {gates pl u : List ℕ} (A : SplitAt C 
         listed = O .two;
       }
 
+      -- with both operands placed the gate is split
       pub split-both : {pl2 u2 : List ℕ} → Placed C m (h - 1) (2 * w) (p + 2 * w) b pl1 u1 pl2 u2 → Placed C m h w p n pl u pl2 u2
       split-both Q =
           let s : set pl p n ≡ pl = ap (set pl p) (sym (A .holds)) ∙ set-getD pl p empty in

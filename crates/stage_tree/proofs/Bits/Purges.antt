@@ -24,6 +24,7 @@ module _ (w p : ℕ) (pl : List ℕ) where
   unfolding takeBack
   back-zero h e = rw (e, takeBack) refl
 
+  -- taking back a filled cell empties it and takes back both lower cells
   pub back-step : (h : ℕ) → filled (getD pl p empty) ≡ true → takeBack (suc h) w p pl ≡ takeBack h (2 * w) (p + 2 * w) (takeBack h (2 * w) (p + w) (set pl p empty))
   unfolding takeBack
   back-step h g = rw (g, takeBack) refl
@@ -32,6 +33,7 @@ module _ (w p : ℕ) (pl : List ℕ) where
   back-two zero b g = absurd (omega arith)
   back-two (suc h) b g = let z : suc h - 1 ≡ h = omega arith in rw z (back-step h g)
 
+-- taking back keeps the stage's length
 pub len-back : (h w p : ℕ) (pl : List ℕ) → length (takeBack h w p pl) ≡ length pl
 unfolding takeBack
 len-back zero w p pl = length-set pl p empty
@@ -48,18 +50,22 @@ tall-set C pl p T h w q e a b g = elim (set-either pl p empty q empty) [
 ]
 
 module _ {C : Context} {m h w p : ℕ} {pl u : List ℕ} (A : PurgeAt C m h w p pl u) where
+  -- the cell to be taken back stands in the stage
   pub purge-in : p < length pl
   purge-in = spot-in (A .spot)
 
+  -- the lower cells of one to be taken back stand in the stage
   pub purge-low : 0 < h → p + 2 * w < 16384
   purge-low pos = omega (arith, lower-in (A .spot) pos, spot-small (A .spot), A .row)
 
+  -- an empty cell is left alone
   pub purged-none : getD pl p 0 ≡ 4294967295 → Purged C m h w p pl u pl u
   unfolding filled empty
   purged-none e =
       let g : getD pl p empty ≡ empty = getD-any pl p empty 0 purge-in ∙ e in
       record { plan = sym (back-bare h w p pl (rw g refl)); kept = kept-none; tally = A .spot .tally; tall = A .tall }
 
+  -- a filled one may be emptied
   pub purge-empty : {n : ℕ} → n ≡ getD pl p 0 → n ≢ 4294967295 → EmptyAt C m h p n pl u
   purge-empty e f = record { spot = A .spot; tall = A .tall; is = e; full = f }
 
@@ -71,10 +77,12 @@ module _ {C : Context} {m h w p : ℕ} {pl u : List ℕ} (A : PurgeAt C m h w p 
     tall1 : Tall (C .X) pl1
     tall1 = rw (M .plan) (tall-set C pl p (A .tall))
 
+    -- at level 0 emptying the cell is all
     pub purged-zero : h ≡ 0 → Purged C m h w p pl u pl1 u1
     purged-zero z = record { plan = M .plan ∙ sym (back-zero w p pl h z); kept = M .kept; tally = M .tally; tall = tall1 }
 
     module _ (pos : 0 < h) where
+      -- above it the first lower cell may be taken back
       pub purge-first : PurgeAt C m (h - 1) (2 * w) (p + w) pl1 u1
       purge-first = record {
         spot = lower-spot (A .spot) pos (M .kept) (M .tally) len1 (p + w) (omega (arith, A .row)) (omega (arith, A .row));
@@ -83,6 +91,7 @@ module _ {C : Context} {m h w p : ℕ} {pl u : List ℕ} (A : PurgeAt C m h w p 
       }
 
       module _ {pl2 u2 : List ℕ} (P : Purged C m (h - 1) (2 * w) (p + w) pl1 u1 pl2 u2) where
+        -- then the second lower cell
         pub purge-second : PurgeAt C m (h - 1) (2 * w) (p + 2 * w) pl2 u2
         purge-second = record {
           spot = lower-spot (A .spot) pos (kept-then (M .kept) (P .kept)) (P .tally) (rw (P .plan) (len-back (h - 1) (2 * w) (p + w) pl1 ∙ len1)) (p + 2 * w) (omega (arith, A .row)) (omega (arith, A .row));
@@ -90,6 +99,7 @@ module _ {C : Context} {m h w p : ℕ} {pl u : List ℕ} (A : PurgeAt C m h w p 
           tall = P .tall;
         }
 
+        -- with both lower cells taken back the cell is
         pub purged-both : {pl3 u3 : List ℕ} → Purged C m (h - 1) (2 * w) (p + 2 * w) pl2 u2 pl3 u3 → Purged C m h w p pl u pl3 u3
         purged-both Q = record {
           plan = Q .plan ∙ rw (P .plan, M .plan) (sym (back-two w p pl h pos (rw (empty-holds E) (empty-full E))));

@@ -12,11 +12,11 @@ use Rattle.rules.specs.Cells.{empty, filled, row, rowAt}
 use Rattle.rules.specs.Traversal.{levelAt}
 use Rattle.rules.specs.Placing.{cellAt, placed}
 use Rattle.rules.specs.Inside.Lean.{blank, cellsHolding}
-use Rattle.rules.proofs.Stage.Last.{blank-take, blank-drop}
+use Rattle.rules.proofs.Stage.Runs.{blank-take, blank-drop}
 use Rattle.rules.proofs.Stage.Flat.{blank-replicate}
-use Rattle.rules.specs.Inside.Plans.{Placeable, Tidy}
+use Rattle.rules.specs.Inside.Plans.{Placeable}
 use Rattle.rules.proofs.Tree.Invariant.{row-empty}
-use Rattle.rules.proofs.Tree.Fair.{bare, fair-first, fair-kept, fair-down}
+use Rattle.rules.proofs.Tree.Fair.{bare, fair-first, fair-kept}
 use Rattle.rules.proofs.Tree.Back.{taken-back, not-filled}
 use Rattle.rules.proofs.Lean.Turns.{blank-tree}
 use Rattle.columns.specs.Area.{among, Frame}
@@ -26,7 +26,6 @@ use Rattle.stage_walk.proofs.Contexts.{work}
 use Rattle.stage_tree.specs.Bits.{Spot, PlaceAt, Placed, PurgeAt, Purged, Standing}
 use Rattle.stage_tree.specs.Search.{First}
 use Rattle.stage_tree.proofs.Counts.Kept.{base-frame, levelled-frame, tally-frame, kept-none, kept-then, base-kept, levelled-kept, one-area}
-use Rattle.stage_tree.proofs.Bits.Tidies.{clears}
 use Rattle.stage_tree.proofs.Search.{cell-found}
 
 module _ {C : Context} {m h : ℕ} {gates pl u : List ℕ} (A : Standing C m h gates pl u) {w : ℕ} (row : w ≡ rowAt (C .X .K) h) where
@@ -34,12 +33,9 @@ module _ {C : Context} {m h : ℕ} {gates pl u : List ℕ} (A : Standing C m h g
   spot : (p : ℕ) → h ≤ C .X .K → rowAt (C .X .K) h ≤ p → p < rowAt (C .X .K) h + rowAt (C .X .K) h → Spot C m h p pl u
   spot p a b c = record { area = A .base .area; size = A .base .size; tally = A .tally; len = A .fair .len; high = a; from = b; to = c }
 
+  -- any cell of the level may be taken back
   pub may-purge : (p : ℕ) → h ≤ C .X .K → w ≤ p → p < w + w → PurgeAt C m h w p pl u
   may-purge p a b c = record { spot = spot p a (omega arith) (omega arith); row = row; tall = A .fair .tall }
-
-  -- taking back any cell leaves nothing under an empty cell
-  pub purged-tidy : {p : ℕ} → PurgeAt C m h w p pl u → {v pl1 v1 : List ℕ} → Purged C m h w p pl v pl1 v1 → Tidy (C .X) h pl1
-  purged-tidy {p} Q B = rw (B .plan) (clears (C .X) h (Q .spot .high) w p pl row (omega (arith, Q .spot .from)) (omega (arith, Q .spot .to)) (A .fair .len) (A .fair .tidy) .tidy)
 
   -- rule 4's cell, and a pin of the level
   pub may-choose : {p n : ℕ} → 1 ≤ h → h ≤ C .X .K → First pl w (2 * w) p → p < 2 * w → In n (C .X .seen) → levelAt (C .X) n ≡ h → Placeable (C .X) pl h p n
@@ -49,6 +45,7 @@ module _ {C : Context} {m h : ℕ} {gates pl u : List ℕ} (A : Standing C m h g
       record { low = low; high = high; row = c .0; end = c .1; free = c .2; listed = i; level = omega (arith, l) }
 
   module _ {p n : ℕ} (P : Placeable (C .X) pl h p n) where
+    -- a pin may be placed at an empty cell of the level
     pub may-place : PlaceAt C m h w p n gates pl u
     may-place = record {
       spot = spot p (P .high) (P .row) (P .end);
@@ -60,10 +57,12 @@ module _ {C : Context} {m h : ℕ} {gates pl u : List ℕ} (A : Standing C m h g
     }
 
     module _ {pl1 u1 : List ℕ} (B : Placed C m h w p n pl u pl1 u1) where
+      -- what placing leaves is the rules' plan
       pub placed-plan : pl1 ≡ placed (C .X) h p n pl
       unfolding placed
       placed-plan = B .plan ∙ rw row refl
 
+      -- the invariants hold after placing
       pub placed-stands : Standing C m h gates pl1 u1
       placed-stands = record {
         base = base-kept (B .kept) (A .base);
@@ -102,6 +101,7 @@ module _ (C : Context) (m h : ℕ) (gates u : List ℕ) (B : Base C m gates u) (
   unfolding row
   no-ones = count-none filled _ (blank-take (rowAt (C .X .K) 1) (drop (rowAt (C .X .K) 1) pl0) (blank-drop (rowAt (C .X .K) 1) pl0 (blank-replicate (2 ^ (C .X .K + 1)))))
 
+  -- the invariants hold of the empty stage with counts of 0
   pub first-stands : ((x : ℕ) → x < m → getD u (CELLS * m + x) 0 ≡ 0) → getD u (16 * m + ONES) 0 ≡ 0 → getD u (16 * m + PINS) 0 ≡ 0 → Standing C m h gates (blank (C .X)) u
   unfolding blank
   first-stands c o p = record {
@@ -114,7 +114,3 @@ module _ (C : Context) (m h : ℕ) (gates u : List ℕ) (B : Base C m gates u) (
 -- other columns change
 pub stands-frame : {fs : List ℕ} {C : Context} {m h : ℕ} {gates pl u u′ : List ℕ} → Frame fs m u u′ → among fs LEVEL ≡ false → among fs CELLS ≡ false → among fs TAIL ≡ false → Standing C m h gates pl u → Standing C m h gates pl u′
 stands-frame f l c t A = record { base = base-frame f (A .base); levelled = levelled-frame f l (A .levelled); tally = tally-frame f c t (A .tally); fair = A .fair }
-
--- one level down
-pub stands-down : {C : Context} {m h : ℕ} {gates pl u : List ℕ} → Standing C m (suc h) gates pl u → Standing C m h gates pl u
-stands-down {C} {m} {h} A = record { base = A .base; levelled = A .levelled; tally = A .tally; fair = fair-down (work C) h (A .fair) }

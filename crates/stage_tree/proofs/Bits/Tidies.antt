@@ -135,6 +135,7 @@ module _ (X : Setting) where
       record { tidy = mend-tidy X (suc h) high w p row a b pl k (λ j c. rw e (k2 .tidy j (omega arith))) u; under = u })
       (λ f. bare (suc h) high w p pl row a b k f)
 
+  -- taking back a cell leaves nothing under it or under any empty cell
   pub clears : (h : ℕ) → h ≤ X .K → Clears h
   clears zero high = clears-zero
   clears (suc h) high = clears-suc h high (clears h (omega arith))

@@ -19,12 +19,15 @@ use Rattle.stage_tree.specs.Counts.{Kept, OneMore}
 
 -- ---- what a frame leaves
 module _ {fs : List ℕ} {m : ℕ} {u u′ : List ℕ} (f : Frame fs m u u′) where
+  -- area and graph stay under any frame
   pub base-frame : {C : Context} {gates : List ℕ} → Base C m gates u → Base C m gates u′
   base-frame b = record { area = frame-room f (b .area); size = b .size; graph = b .graph; pair = b .pair }
 
+  -- levels stay where their column is not named
   pub levelled-frame : {C : Context} → among fs LEVEL ≡ false → Levelled C m u → Levelled C m u′
   levelled-frame e l = record { levels = frame-col f LEVEL e (omega arith) ∙ l .levels }
 
+  -- counts stay where neither their column nor the tail is named
   pub tally-frame : {C : Context} {pl : List ℕ} → among fs CELLS ≡ false → among fs TAIL ≡ false → Tally C m pl u → Tally C m pl u′
   tally-frame e d t = record {
     cells = λ x b. f .cell CELLS e (omega arith) x b ∙ t .cells x b;
@@ -33,9 +36,12 @@ module _ {fs : List ℕ} {m : ℕ} {u u′ : List ℕ} (f : Frame fs m u u′) w
   }
 
 -- ---- only the counts change
+
+-- nothing changed, so nothing but the counts did
 pub kept-none : {m : ℕ} {u : List ℕ} → Kept m u u
 kept-none = record { frame = frame-none; rest = λ j a b c. refl }
 
+-- two changes of the counts are one
 pub kept-then : {m : ℕ} {u v w : List ℕ} → Kept m u v → Kept m v w → Kept m u w
 kept-then a b = record { frame = frame-then (a .frame) (b .frame); rest = λ j x y z. b .rest j x y z ∙ a .rest j x y z }
 
@@ -51,9 +57,11 @@ kept-other {m} {u} {u′} l h = record {
   rest = λ j a b c. h j (λ x i d. omega arith) b c;
 }
 
+-- area and graph stay where only the counts change
 pub base-kept : {C : Context} {m : ℕ} {gates u u′ : List ℕ} → Kept m u u′ → Base C m gates u → Base C m gates u′
 base-kept k = base-frame (k .frame)
 
+-- levels stay where only the counts change
 pub levelled-kept : {C : Context} {m : ℕ} {u u′ : List ℕ} → Kept m u u′ → Levelled C m u → Levelled C m u′
 levelled-kept k = levelled-frame (k .frame) refl
 
@@ -61,9 +69,11 @@ levelled-kept k = levelled-frame (k .frame) refl
 pub kept-pin : {m n : ℕ} {u u′ : List ℕ} → n < m → OneMore m n u u′ → Kept m u u′
 kept-pin {m} {n} i o = kept-other (o .len) (λ j a b c. o .other j (a n i) c)
 
+-- a pin counted once less changes only the counts
 pub kept-unpin : {m n : ℕ} {u u′ : List ℕ} → n < m → OneMore m n u′ u → Kept m u u′
 kept-unpin {m} {n} i o = kept-other (sym (o .len)) (λ j a b c. sym (o .other j (a n i) c))
 
+-- another count of level 1 changes only the counts
 pub kept-ones : {m : ℕ} {u : List ℕ} (v : ℕ) → Kept m u (set u (16 * m + ONES) v)
 kept-ones {m} {u} v = kept-other (length-set u (16 * m + ONES) v) (λ j a b c. getD-set-other u (16 * m + ONES) j v 0 b)
 

@@ -10,6 +10,7 @@ use Rattle.columns.specs.Area.{Room}
 use Rattle.columns.specs.Fields.{CELLS, PINS}
 use Rattle.stage_tree.specs.Counts.{OneMore}
 
+-- a number other than 0 is above it
 pub above-zero : (c : ℕ) → c ≢ 0 → 0 < c
 above-zero zero n = absurd (n refl)
 above-zero (suc c) n = omega arith
@@ -25,6 +26,7 @@ module _ (m n : ℕ) (u : List ℕ) (r : Room m u) (pin : n < m) where
   pub size-same : (v : ℕ) → getD (set u at v) size 0 ≡ getD u size 0
   size-same v = getD-set-other u at size v 0 (λ e. omega arith)
 
+  -- one cell more of a pin in the tree: its own count alone
   pub more-old : getD u at 0 ≢ 0 → OneMore m n u (set u at (getD u at 0 + 1))
   more-old ne =
       let v : ℕ = getD u at 0 + 1 in
@@ -36,6 +38,7 @@ module _ (m n : ℕ) (u : List ℕ) (r : Room m u) (pin : n < m) where
         other = λ j a b. getD-set-other u at j v 0 a;
       }
 
+  -- the first cell of a pin counts the pin too
   pub more-new : getD u at 0 ≡ 0 → OneMore m n u (set (set u at (getD u at 0 + 1)) size (getD (set u at (getD u at 0 + 1)) size 0 + 1))
   more-new z =
       let v : ℕ = getD u at 0 + 1 in
@@ -50,6 +53,7 @@ module _ (m n : ℕ) (u : List ℕ) (r : Room m u) (pin : n < m) where
       }
 
   module _ (pos : 0 < getD u at 0) where
+    -- one cell less of a pin that keeps others: its own count alone
     pub less-old : getD u at 0 - 1 ≢ 0 → OneMore m n (set u at (getD u at 0 - 1)) u
     less-old ne =
         let v : ℕ = getD u at 0 - 1 in
@@ -62,6 +66,7 @@ module _ (m n : ℕ) (u : List ℕ) (r : Room m u) (pin : n < m) where
           other = λ j a b. sym (getD-set-other u at j v 0 a);
         }
 
+    -- the last cell of a pin takes the pin's count too
     pub less-new : 0 < getD u size 0 → getD u at 0 - 1 ≡ 0 → OneMore m n (set (set u at (getD u at 0 - 1)) size (getD (set u at (getD u at 0 - 1)) size 0 - 1)) u
     less-new some z =
         let v : ℕ = getD u at 0 - 1 in

@@ -27,10 +27,12 @@ unfolding roomIn roomFor
 room-is t half b e = rw (t .ones, t .pins, e)
 
 module _ (m half b : ℕ) (u : List ℕ) (ones pins : ℕ) (e : ones ≡ getD u (16 * m + ONES) 0) (d : pins ≡ getD u (16 * m + PINS) 0) where
+  -- with more pins in the tree than filled cells, the pins decide
   pub room-pins : ones < pins → ltb (b + pins) half ≡ roomIn m half b u
   unfolding roomIn
   room-pins h = let z : max (getD u (16 * m + ONES) 0) (getD u (16 * m + PINS) 0) ≡ pins = omega arith in rw z
 
+  -- with no more pins than filled cells, the filled cells decide
   pub room-ones : pins ≤ ones → ltb (b + ones) half ≡ roomIn m half b u
   unfolding roomIn
   room-ones h = let z : max (getD u (16 * m + ONES) 0) (getD u (16 * m + PINS) 0) ≡ ones = omega arith in rw z

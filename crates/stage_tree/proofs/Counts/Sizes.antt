@@ -45,9 +45,11 @@ row-few : (K h : ℕ) → rowAt K h ≤ 2 ^ K
 unfolding rowAt
 row-few K h = pow-mono (omega arith)
 
+-- a tree is at most 8,192 cells wide
 pub width-few : (C : Context) → 2 ^ (C .X .K) ≤ 8192
 width-few C = pow-mono {i = C .X .K} {j = 13} (C .high)
 
+-- no count of a plan is above 8,192
 pub few : {C : Context} {m : ℕ} {pl u : List ℕ} → Tally C m pl u → Few m u
 unfolding treeOf
 few {C} {m} {pl} t = record {

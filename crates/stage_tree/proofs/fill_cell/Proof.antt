@@ -2,13 +2,10 @@
 use native.Mathlib.Omega.{arith}
 use Rattle.stage_tree.proofs.Counts.Pins.{above-zero}
 use Rattle.stage_tree.proofs.Bits.Cells.{spot-in, spot-small}
-use Rattle.stage_tree.proofs.Bits.Fills.{fill-pin, fill-count, ones-fit, filled-low, filled-upper, filled-one}
+use Rattle.stage_tree.proofs.Bits.Fills.{fill-count, ones-fit, filled-low, filled-upper, filled-one}
 use borrow.Author.Needs.{needs}
 use Rattle.stage_tree.proofs.fill_cell.Statement.{statement}
 use Rattle.stage_tree.proofs.fill_cell.Tie as tie
-
-cast-stage : tie.Need-cast-stage
-cast-stage c = let A = c .before .before .pre .at in omega (arith, fill-pin A, A .spot .area .small)
 
 mul-stage : tie.Need-mul-stage
 mul-stage c = let A = c .before .before .pre .at in omega (arith, spot-in (A .spot), spot-small (A .spot))
@@ -68,7 +65,6 @@ pub fill-cell-spec : {M : Type 1} → statement M
 fill-cell-spec =
     tie.close
     (tie.spec
-    cast-stage
     mul-stage
     slice-write-stage
     same-length

@@ -27,8 +27,8 @@ shared-slice-read-if1 c = search needs
 returns : tie.Need-returns Inv-loop μ-loop
 returns c = first-here _ _ _ (c .before .before .before .before .pre) _ (c .before .before .before .loop .inv .0) (c .before .before .loop-test .taken) (c .before .before .before .loop .inv .2) (c .if1 .taken)
 
-add-p : tie.Need-add-p Inv-loop μ-loop
-add-p c = search needs
+add-c : tie.Need-add-c Inv-loop μ-loop
+add-c c = search needs
 
 loop-less : tie.Need-loop-less Inv-loop μ-loop
 loop-less c = search needs
@@ -49,7 +49,7 @@ first-empty-spec =
     mul-if1
     shared-slice-read-if1
     returns
-    add-p
+    add-c
     loop-less
     loop-again
     returns-2)

@@ -10,17 +10,20 @@ use Rattle.stage_tree.proofs.uncount_pin.Tie as tie
 mul-at : tie.Need-mul-at
 mul-at c = search needs
 
+index-requires : tie.Need-index-requires
+index-requires c κs = search needs
+
 add-at : tie.Need-add-at
 add-at c = search needs
 
-mul-c : tie.Need-mul-c
-mul-c c = search needs
+mul-n : tie.Need-mul-n
+mul-n c = search needs
 
-slice-read-c : tie.Need-slice-read-c
-slice-read-c c = search needs
+slice-read-n : tie.Need-slice-read-n
+slice-read-n c = search needs
 
-sub-c : tie.Need-sub-c
-sub-c c = search needs
+sub-n : tie.Need-sub-n
+sub-n c = rw (c .before .index .ensures) (search needs)
 
 mul-work : tie.Need-mul-work
 mul-work c = search needs
@@ -32,7 +35,7 @@ same-length : tie.Need-same-length
 same-length c = search needs
 
 returns : tie.Need-returns
-returns c = less-old _ _ _ (c .before .before .pre .area) (c .before .before .pre .pin) (c .before .before .pre .cells) (c .if1 .taken)
+returns c = rw (c .before .before .index .ensures) (less-old _ _ _ (c .before .before .before .before .pre .area) (c .before .before .before .before .pre .pin) (c .before .before .before .before .pre .cells) (rw (c .before .before .index .ensures) at (c .if1 .taken)))
 
 mul-pins : tie.Need-mul-pins
 mul-pins c = search needs
@@ -44,32 +47,33 @@ mul-work-2 : tie.Need-mul-work-2
 mul-work-2 c = search needs
 
 slice-read-work : tie.Need-slice-read-work
-slice-read-work c = simp length-set (omega (arith, c .before .before .before .pre .area .room))
+slice-read-work c = simp length-set (omega (arith, c .before .before .before .before .before .pre .area .room))
 
 sub-work : tie.Need-sub-work
-sub-work c = let a = c .before .before .before .args in omega (arith, size-same (a .m) (a .n) (a .work .now) (c .before .before .before .pre .area) (c .before .before .before .pre .pin) (getD (a .work .now) (4 * a .m + a .n) 0 - 1), c .before .before .before .pre .pins)
+sub-work c = rw (c .before .before .before .index .ensures) (let a = c .before .before .before .before .before .args in omega (arith, size-same (a .m) (a .p .0) (a .work .now) (c .before .before .before .before .before .pre .area) (c .before .before .before .before .before .pre .pin) (getD (a .work .now) (4 * a .m + a .p .0) 0 - 1), c .before .before .before .before .before .pre .pins))
 
 mul-work-3 : tie.Need-mul-work-3
 mul-work-3 c = search needs
 
 slice-write-work-2 : tie.Need-slice-write-work-2
-slice-write-work-2 c = simp length-set (omega (arith, c .before .before .before .pre .area .room))
+slice-write-work-2 c = simp length-set (omega (arith, c .before .before .before .before .before .pre .area .room))
 
 same-length-2 : tie.Need-same-length-2
 same-length-2 c = search needs
 
 returns-2 : tie.Need-returns-2
-returns-2 c = less-new _ _ _ (c .before .before .before .pre .area) (c .before .before .before .pre .pin) (c .before .before .before .pre .cells) (c .before .before .before .pre .pins) (c .before .if1 .left)
+returns-2 c = rw (c .before .before .before .index .ensures) (less-new _ _ _ (c .before .before .before .before .before .pre .area) (c .before .before .before .before .before .pre .pin) (c .before .before .before .before .before .pre .cells) (c .before .before .before .before .before .pre .pins) (rw (c .before .before .before .index .ensures) at (c .before .if1 .left)))
 
 pub uncount-pin-spec : {M : Type 1} → statement M
 uncount-pin-spec =
     tie.close
     (tie.spec
     mul-at
+    index-requires
     add-at
-    mul-c
-    slice-read-c
-    sub-c
+    mul-n
+    slice-read-n
+    sub-n
     mul-work
     slice-write-work
     same-length

@@ -26,6 +26,7 @@ use Rattle.stage_walk.specs.Machine.{Item, item, phases, above, Top, Sta
 use Rattle.stage_walk.proofs.Gates.{kth-none, kth-some, follow-pin, follow-rank, two-most, reads-frame}
 use Rattle.stage_walk.proofs.traversal.Moves.{finish-seen, finish-list, finish-on, chain-few, chain-list, pop, phases-most}
 
+-- areas that agree on the two columns have the same stack
 pub items-same : (m : ℕ) (w w′ : List ℕ) (d : ℕ) → ((i : ℕ) → i < d → (getD w′ (STACK * m + i) 0 ≡ getD w (STACK * m + i) 0) × (getD w′ (PHASE * m + i) 0 ≡ getD w (PHASE * m + i) 0)) → items m w′ d ≡ items m w d
 unfolding items
 items-same m w w′ zero h = refl
@@ -36,6 +37,7 @@ unfolding items
 length-items m w zero = refl
 length-items m w (suc d) = ap suc (length-items m w d)
 
+-- one item more is the one at the top
 pub items-one : (m : ℕ) (w : List ℕ) (d : ℕ) → items m w (d + 1) ≡ item (getD w (STACK * m + d) 0) (getD w (PHASE * m + d) 0) ∷ items m w d
 unfolding items
 items-one m w d = rw (add-one d)
@@ -53,9 +55,11 @@ test-in k b e = let h = and-true (eqb k 0) b e in (eqb-true k 0 (h .0), h .1)
 test-out : (k : ℕ) (b : Bool) → eqb k 0 && b ≡ false → k ≡ 0 → b ≡ false
 test-out k b e z = rw (eq-eqb k 0 z) at e
 
+-- an item past phase 0 is not tested for being listed
 pub test-no : (k : ℕ) (b : Bool) → (k ≡ 0 → ⊥) → false ≡ eqb k 0 && b
 test-no k b n = rw (ne-eqb k 0 n)
 
+-- in phase 0 the test is whether its pin is listed
 pub test-yes : (k : ℕ) (r b : Bool) → k ≡ 0 → r ≡ b → r ≡ eqb k 0 && b
 test-yes k r b z e = rw (eq-eqb k 0 z) e
 
@@ -81,9 +85,11 @@ module _ (C : Context) {m : ℕ} {gates w : List ℕ} {top n p k : ℕ} (A : Top
   T : Top (C .X .g) (C .X .done) (C .r) (seenIn m n w) p k S
   T = top-of C (rw here at (G .stack))
 
+  -- the top's pin is a pin of the area
   pub pin-in : p < m
   pin-in = omega (arith, T .pin, G .reads .base .size)
 
+  -- the top is in its column
   pub top-in : top < m
   top-in = omega (arith, chain-few (C .X .g) (C .X .done) (C .r) (T .rank) (T .under), length-items m w top, G .reads .base .size)
 
@@ -103,6 +109,7 @@ module _ (C : Context) {m : ℕ} {gates w : List ℕ} {top n p k : ℕ} (A : Top
   mark : not (eqb (getD w (LISTED * m + p) 0) 0) ≡ mem p xs
   mark = marks-test (G .listed .marks) p pin-in
 
+  -- a listed pin leaves the stack
   pub step-seen : test ≡ true → Stepped C m gates w (top + 1) n w top n
   unfolding toGo
   step-seen e =
@@ -123,6 +130,7 @@ module _ (C : Context) {m : ℕ} {gates w : List ℕ} {top n p k : ℕ} (A : Top
     out : Out p xs
     out = sym (mem-reverse p xs) ∙ fresh
 
+    -- a pin that is not listed finds room in the order
     pub room : n < m
     room = holds-room (G .listed .held) (G .listed .once) p pin-in out
 
@@ -178,6 +186,7 @@ module _ (C : Context) {m : ℕ} {gates w : List ℕ} {top n p k : ℕ} (A : Top
         in-bs : In q bs
         in-bs = rw eq (in-getD bs k m more)
 
+        -- the next pin followed is a pin of the area
         pub next-in : q < m
         next-in = pins q in-bs
 
@@ -192,12 +201,15 @@ module _ (C : Context) {m : ℕ} {gates w : List ℕ} {top n p k : ℕ} (A : Top
           under = above {k = suc k} (follow-rank C p q in-bs) (T .pin, T .rank) (record { some = omega arith; most = more; fresh = fresh }) (T .under);
         }
 
+        -- the stack has room for it
         pub next-room : top + 1 < m
         next-room = omega (arith, chain-few (C .X .g) (C .X .done) (C .r) (top₂ .rank) (top₂ .under), length-items m w top, G .reads .base .size)
 
+        -- a phase more is at most 2
         pub next-phase : k < 2
         next-phase = omega (arith, more, two-most C p)
 
+        -- three stores put it on the stack
         pub step-on : (w′ : List ℕ) → w′ ≡ set (set (set w (PHASE * m + top) (k + 1)) (STACK * m + (top + 1)) q) (PHASE * m + (top + 1)) 0 → Stepped C m gates w (top + 1) n w′ (top + 2) n
         unfolding toGo phases
         step-on w′ ew = rw ew (record {
@@ -257,5 +269,6 @@ module _ (C : Context) {m : ℕ} {gates w : List ℕ} {top n p k : ℕ} (A : Top
             phases-next : phases (items m w₃ (top + 2)) ≡ 0 + (suc k + phases S)
             phases-next = ap phases stack-is
 
+-- a stack under way has its top in the column
 pub top-at : (C : Context) {m : ℕ} {gates w : List ℕ} {n : ℕ} (top : ℕ) → Going C m gates w (top + 1) n → top < m
 top-at C top G = top-in C (record { going = G; pin = refl; phase = refl })

@@ -23,11 +23,13 @@ module _ (g : List Node) (done : List ℕ) (r : ℕ → ℕ) (k : Ranked g done 
       (λ d. rw (d, visit))
       (λ d. rw (d, visit) (ap (λ (l : List ℕ). p ∷ l) (thread-ext (visit f g done) (visit e g done) (below g done p) (λ q i. visit-fuel f e q (omega (arith, k p q i)) (omega (arith, k p q i))) s)))
 
+  -- visiting a listed pin changes nothing
   pub visit-seen : (f p : ℕ) (s : List ℕ) → In p s → visit f g done p s ≡ s
   unfolding visit
   visit-seen zero p s i = refl
   visit-seen (suc f) p s i = rw (i, visit)
 
+  -- a pin that is not listed comes after what is followed from it
   pub visit-open : (f p : ℕ) (s : List ℕ) → r p < f → Out p s → visit f g done p s ≡ p ∷ thread (visit f g done) (below g done p) s
   unfolding visit
   visit-open zero p s h o = absurd (omega arith)

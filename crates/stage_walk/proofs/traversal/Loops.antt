@@ -21,9 +21,11 @@ use Rattle.stage_walk.specs.Machine.{Item, item, rest, finish, bottom, s
 use Rattle.stage_walk.proofs.Contexts.{order-is}
 use Rattle.stage_walk.proofs.Gates.{reads-frame}
 
+-- what a stage starts from can be read
 pub begun-reads : {C : Context} {m n : ℕ} {gates w : List ℕ} → Begun C m n gates w → Reads C m gates w
 begun-reads B = record { base = B .base; done = B .done }
 
+-- what a stage starts from stays where its columns are not named
 pub begun-frame : {C : Context} {m n : ℕ} {gates w : List ℕ} → Begun C m n gates w → {fs : List ℕ} {w′ : List ℕ} → Frame fs m w w′ → among fs DONE ≡ false → among fs WAITING ≡ false → among fs PLACE ≡ false → Begun C m n gates w′
 begun-frame {C} B fr a b c =
     let R = reads-frame C (begun-reads B) fr a in
@@ -32,21 +34,26 @@ begun-frame {C} B fr a b c =
 -- ---- until the stack is empty
 
 module _ {C : Context} {m : ℕ} {gates : List ℕ} where
+  -- with no step taken nothing changed
   pub went-none : {w : List ℕ} {d n : ℕ} → Going C m gates w d n → Went C m gates w d n w d n
   went-none G = record { frame = frame-none; going = G; same = refl }
 
   module _ {w₀ : List ℕ} {d₀ n₀ : ℕ} {w : List ℕ} {d n : ℕ} (U : Went C m gates w₀ d₀ n₀ w d n) where
+    -- a stack that is not empty has a top
     pub went-top : 0 < d → Going C m gates w (d - 1 + 1) n
     went-top h = let e : d - 1 + 1 ≡ d = omega arith in rw e (U .going)
 
+    -- one step more is taken
     pub went-then : {w′ : List ℕ} {d′ n′ : ℕ} → 0 < d → Stepped C m gates w (d - 1 + 1) n w′ d′ n′ → Went C m gates w₀ d₀ n₀ w′ d′ n′
     went-then h s =
         let e : d - 1 + 1 ≡ d = omega arith in
         record { frame = frame-then (U .frame) (s .went .frame); going = s .went .going; same = (rw e at (s .went .same)) ∙ U .same }
 
+    -- each step leaves less to do
     pub went-less : {w′ : List ℕ} {d′ n′ : ℕ} → 0 < d → Stepped C m gates w (d - 1 + 1) n w′ d′ n′ → toGo m w′ d′ n′ < toGo m w d n
     went-less h s = let e : d - 1 + 1 ≡ d = omega arith in rw e at (s .less)
 
+    -- an empty stack: all is done
     pub went-end : d ≤ 0 → Went C m gates w₀ d₀ n₀ w 0 n
     went-end h = let e : d ≡ 0 = omega arith in rw e at U
 
@@ -71,6 +78,7 @@ module _ {C : Context} {m : ℕ} {gates w : List ℕ} {n p : ℕ} (A : VisitAt C
   seen-same : seenIn m n v ≡ seenIn m n w
   seen-same = ap reverse (frame-list entered ORDER n refl (omega arith))
 
+  -- one pin on the stack, to be visited
   pub visit-going : Going C m gates v 1 n
   visit-going = record {
     reads = reads-frame C (A .going .reads) entered refl;
@@ -78,6 +86,7 @@ module _ {C : Context} {m : ℕ} {gates w : List ℕ} {n p : ℕ} (A : VisitAt C
     stack = rw one-item (some {p = p} {k = 0} (record { pin = rw (A .going .reads .base .size) (A .pin); rank = rw (A .going .reads .base .size) (A .rank); how = inl refl; under = bottom }));
   }
 
+  -- once the stack is empty the pin is visited with all below it
   pub visited : {w′ : List ℕ} {n′ : ℕ} → Went C m gates v 1 n w′ 0 n′ → Visited C m gates w n p w′ n′
   unfolding finish rest items
   visited U = record {
@@ -89,6 +98,7 @@ module _ {C : Context} {m : ℕ} {gates w : List ℕ} {n p : ℕ} (A : VisitAt C
 -- ---- along the waiting pins
 
 module _ {C : Context} {m n : ℕ} {gates w₀ : List ℕ} (A : TraverseAt C m n gates w₀) where
+  -- at the start no waiting pin is visited
   pub swept-none : Swept C m n gates w₀ 0 w₀ 0
   unfolding items list traverse setting
   swept-none = record {
@@ -102,6 +112,7 @@ module _ {C : Context} {m n : ℕ} {gates w₀ : List ℕ} (A : TraverseAt C m n
     abbrev waits : Holds WAITING m n (C .X .waiting) w
     waits = U .begun .waiting .held
 
+    -- at the end the order is the traversal, with marks at its pins
     pub traversed : n ≤ i → Traversed C m w₀ w k
     unfolding thread
     traversed h = record { frame = U .frame; order = rw is at (U .going .listed .held); marks = rw is at (U .going .listed .marks) }
@@ -113,6 +124,7 @@ module _ {C : Context} {m n : ℕ} {gates w₀ : List ℕ} (A : TraverseAt C m n
         is = sym (reverse-reverse (list ORDER m k w)) ∙ ap reverse (rw none-left at (U .same)) ∙ sym (order-is C)
 
     module _ (h : i < n) (p : ℕ) (ep : p ≡ getD w (WAITING * m + i) 0) where
+      -- the next waiting pin may be visited
       pub visit-at : VisitAt C m gates w k p
       visit-at = record {
         going = U .going;
@@ -123,6 +135,7 @@ module _ {C : Context} {m n : ℕ} {gates w₀ : List ℕ} (A : TraverseAt C m n
       next : drop i (C .X .waiting) ≡ p ∷ drop (suc i) (C .X .waiting)
       next = drop-cons (C .X .waiting) i 0 (omega (arith, waits .count)) ∙ ap (λ (x : ℕ). x ∷ drop (suc i) (C .X .waiting)) (sym (ep ∙ holds-at waits i h))
 
+      -- one more waiting pin is visited
       pub swept-more : {w′ : List ℕ} {k′ : ℕ} → Visited C m gates w k p w′ k′ → Swept C m n gates w₀ (i + 1) w′ k′
       unfolding thread
       swept-more v = record {

@@ -23,8 +23,8 @@ shared-slice-read-list-cell c = search needs
 list-cell-requires : tie.Need-list-cell-requires Inv-loop μ-loop
 list-cell-requires c κs = search needs
 
-add-p : tie.Need-add-p Inv-loop μ-loop
-add-p c = search needs
+add-c : tie.Need-add-c Inv-loop μ-loop
+add-c c = search needs
 
 loop-less : tie.Need-loop-less Inv-loop μ-loop
 loop-less c = search needs
@@ -45,7 +45,7 @@ list-cells-spec =
     mul-list-cell
     shared-slice-read-list-cell
     list-cell-requires
-    add-p
+    add-c
     loop-less
     loop-again
     returns)

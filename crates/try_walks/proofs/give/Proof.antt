@@ -17,17 +17,14 @@ abbrev μ-loop : tie.MeasureT-loop
 loop-holds : tie.Need-loop-holds Inv-loop μ-loop
 loop-holds c = (given-none (c .before .before .pre), omega arith)
 
-mul-wide : tie.Need-mul-wide Inv-loop μ-loop
-mul-wide c = search needs
+mul-t5 : tie.Need-mul-t5 Inv-loop μ-loop
+mul-t5 c = search needs
 
-shared-slice-read-wide : tie.Need-shared-slice-read-wide Inv-loop μ-loop
-shared-slice-read-wide c = search needs
-
-wide-requires : tie.Need-wide-requires Inv-loop μ-loop
-wide-requires c κs = search needs
+shared-slice-read-t11 : tie.Need-shared-slice-read-t11 Inv-loop μ-loop
+shared-slice-read-t11 c = search needs
 
 set-field-requires : tie.Need-set-field-requires Inv-loop μ-loop
-set-field-requires c κs = omega (arith, c .wide .ensures, c .before .before .before .before .before .before .before .pre .pins _ (c .before .before .before .loop-test .taken), c .before .before .before .before .before .before .before .pre .area .room, c .before .before .before .before .loop .inv .0 .frame .len)
+set-field-requires c κs = omega (arith, c .before .before .before .before .before .before .pre .pins _ (c .before .before .loop-test .taken), c .before .before .before .before .before .before .pre .area .room, c .before .before .before .loop .inv .0 .frame .len)
 
 add-i : tie.Need-add-i Inv-loop μ-loop
 add-i c = search needs
@@ -36,7 +33,7 @@ loop-less : tie.Need-loop-less Inv-loop μ-loop
 loop-less c = search needs
 
 loop-again : tie.Need-loop-again Inv-loop μ-loop
-loop-again c = (given-more (c .before .before .before .before .before .before .before .before .before .before .pre) (c .before .before .before .before .before .before .before .loop .inv .0) _ _ (omega (arith, c .before .before .before .wide .ensures, c .before .before .before .before .before .before .before .before .before .before .pre .pins _ (c .before .before .before .before .before .before .loop-test .taken))) (c .before .before .set-field .ensures), omega arith)
+loop-again c = (given-more (c .before .before .before .before .before .before .before .before .before .pre) (c .before .before .before .before .before .before .loop .inv .0) _ _ (omega (arith, c .before .before .before .before .before .before .before .before .before .pre .pins _ (c .before .before .before .before .before .loop-test .taken))) (c .before .before .set-field .ensures), omega arith)
 
 same-length : tie.Need-same-length Inv-loop μ-loop
 same-length c = c .before .loop .inv .0 .frame .len
@@ -51,9 +48,8 @@ give-spec =
     Inv-loop
     μ-loop
     loop-holds
-    mul-wide
-    shared-slice-read-wide
-    wide-requires
+    mul-t5
+    shared-slice-read-t11
     set-field-requires
     add-i
     loop-less

@@ -17,17 +17,14 @@ abbrev μ-loop : tie.MeasureT-loop
 loop-holds : tie.Need-loop-holds Inv-loop μ-loop
 loop-holds c = (waiting-none (c .before .before .pre), omega arith)
 
-mul-wide : tie.Need-mul-wide Inv-loop μ-loop
-mul-wide c = search needs
+mul-t6 : tie.Need-mul-t6 Inv-loop μ-loop
+mul-t6 c = search needs
 
-shared-slice-read-wide : tie.Need-shared-slice-read-wide Inv-loop μ-loop
-shared-slice-read-wide c = search needs
-
-wide-requires : tie.Need-wide-requires Inv-loop μ-loop
-wide-requires c κs = search needs
+shared-slice-read-t11 : tie.Need-shared-slice-read-t11 Inv-loop μ-loop
+shared-slice-read-t11 c = search needs
 
 wait-requires : tie.Need-wait-requires Inv-loop μ-loop
-wait-requires c κs = waiting-at (c .before .before .before .before .before .before .before .pre) (c .before .before .before .before .loop .inv .0) _ (omega (arith, c .wide .ensures, c .before .before .before .before .before .before .before .pre .pins _ (c .before .before .before .loop-test .taken)))
+wait-requires c κs = waiting-at (c .before .before .before .before .before .before .pre) (c .before .before .before .loop .inv .0) _ (omega (arith, c .before .before .before .before .before .before .pre .pins _ (c .before .before .loop-test .taken)))
 
 add-i : tie.Need-add-i Inv-loop μ-loop
 add-i c = search needs
@@ -36,7 +33,7 @@ loop-less : tie.Need-loop-less Inv-loop μ-loop
 loop-less c = search needs
 
 loop-again : tie.Need-loop-again Inv-loop μ-loop
-loop-again c = (waiting-more (c .before .before .before .before .before .before .before .before .before .before .pre) (c .before .before .before .before .before .before .before .loop .inv .0) _ (c .before .before .wait .ensures), omega arith)
+loop-again c = (waiting-more (c .before .before .before .before .before .before .before .before .before .pre) (c .before .before .before .before .before .before .loop .inv .0) _ (c .before .before .wait .ensures), omega arith)
 
 same-length : tie.Need-same-length Inv-loop μ-loop
 same-length c = c .before .loop .inv .0 .frame .len
@@ -51,9 +48,8 @@ list-spec =
     Inv-loop
     μ-loop
     loop-holds
-    mul-wide
-    shared-slice-read-wide
-    wide-requires
+    mul-t6
+    shared-slice-read-t11
     wait-requires
     add-i
     loop-less

@@ -25,8 +25,8 @@ slice-aggregate-write-all c = search needs
 write-all-requires-2 : tie.Need-write-all-requires-2 Inv-loop μ-loop
 write-all-requires-2 c κs = search needs
 
-get-requires : tie.Need-get-requires Inv-loop μ-loop
-get-requires c κs = omega (arith, c .before .before .before .before .before .before .before .pre, c .before .before .loop-test .taken)
+number-at-requires : tie.Need-number-at-requires Inv-loop μ-loop
+number-at-requires c κs = omega (arith, c .before .before .before .before .before .before .before .pre, c .before .before .loop-test .taken)
 
 print-decimal-requires : tie.Need-print-decimal-requires Inv-loop μ-loop
 print-decimal-requires c κs = search needs
@@ -59,7 +59,7 @@ row-spec =
     loop-holds
     slice-aggregate-write-all
     write-all-requires-2
-    get-requires
+    number-at-requires
     print-decimal-requires
     add-i
     loop-less

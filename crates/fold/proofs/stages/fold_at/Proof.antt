@@ -50,7 +50,7 @@ same-length : tie.Need-same-length
 same-length c = search needs
 
 returns : tie.Need-returns
-returns c = let a = c .before .before .before .before .before .before .before .before .before .before .before .args in let e : a .at + c .before .before .before .before .before .before .before .stage-size .result - a .at ≡ 2 ^ (a .height + 1) = omega (arith, size-there _ _ (c .before .before .before .before .before .before .before .before .before .before .before .pre .passed .height) (c .before .before .before .before .before .before .before .stage-size .ensures)) in rw (e, c .before .before .before .before .before .before .pin-count .ensures) at (c .before .before .fold-next .ensures)
+returns c = let a = c .before .before .before .before .before .before .before .before .before .before .before .args in let e : a .at + c .before .before .before .before .before .before .before .stage-size .result - a .at ≡ 2 ^ (a .height .0 + 1) = omega (arith, size-there _ _ (c .before .before .before .before .before .before .before .before .before .before .before .pre .passed .height) (c .before .before .before .before .before .before .before .stage-size .ensures)) in rw (e, c .before .before .before .before .before .before .pin-count .ensures) at (c .before .before .fold-next .ensures)
 
 pub fold-at-spec : {M : Type 1} → statement M
 fold-at-spec =

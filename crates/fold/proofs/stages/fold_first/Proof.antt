@@ -23,7 +23,7 @@ same-length : tie.Need-same-length
 same-length c = search needs
 
 returns : tie.Need-returns
-returns c = let s = c .before .before .before .before .before .before .before .before .before .before .before .before .before .before .before .before .before .before .before .before .before in let f = c .before .before .before .before .before .before .before .before .before .before .before .before .before .before .first-loads .ensures in first-folds _ _ _ _ _ _ _ _ _ _ (s .pre .pins) f (folds _ _ _ _ _ _ _ _ (area-kept _ _ _ _ _ _ _ (f .len) (s .pre .area)) (graph-length _ ∙ sym (s .pre .pins)) (c .before .before .before .before .before .before .before .before .before .before .fold-stage .ensures) _ _ (c .before .before .before .before .before .before .no-loads .ensures) (c .before .before .remember .ensures))
+returns c = let f = c .before .before .before .before .before .before .before .before .before .before .before .before .before .before .first-loads .ensures in first-folds _ _ _ _ _ _ _ _ _ _ (c .before .before .before .before .before .before .before .before .before .before .before .before .before .before .before .before .before .before .before .before .before .pre .pins) f (folds _ _ _ _ _ _ _ _ (area-kept _ _ _ _ _ _ _ (f .len) (c .before .before .before .before .before .before .before .before .before .before .before .before .before .before .before .before .before .before .before .before .before .pre .area)) (graph-length _ ∙ sym (c .before .before .before .before .before .before .before .before .before .before .before .before .before .before .before .before .before .before .before .before .before .pre .pins)) (c .before .before .before .before .before .before .before .before .before .before .fold-stage .ensures) _ _ (c .before .before .before .before .before .before .no-loads .ensures) (c .before .before .remember .ensures))
 
 pub fold-first-spec : {M : Type 1} → statement M
 fold-first-spec =

@@ -10,7 +10,7 @@ use Rattle.fold.proofs.stages.fold_stages.Statement.{statement}
 use Rattle.fold.proofs.stages.fold_stages.Tie as tie
 
 abbrev Inv-loop : tie.InvT-loop
-Inv-loop height plan gates given bits result₀ size pins at₀ result at = Standing height (graphOf gates) (firstLoad (graphOf gates) given (take (pinCount gates) bits)) plan pins result₀ at result
+Inv-loop height plan gates given bits result₀ size pins at₀ result at = Standing (height .0) (graphOf gates) (firstLoad (graphOf gates) given (take (pinCount gates) bits)) plan pins result₀ at result
 
 abbrev μ-loop : tie.MeasureT-loop
 μ-loop height plan gates given bits result₀ size pins at₀ result at = length plan - at

@@ -8,11 +8,11 @@ use Rattle.fold_stage.proofs.bits.fold_cell.Tie as tie
 wide-requires : tie.Need-wide-requires
 wide-requires c κs = search needs
 
-mul-n : tie.Need-mul-n
-mul-n c = search needs
+mul-held : tie.Need-mul-held
+mul-held c = search needs
 
-shared-slice-read-n : tie.Need-shared-slice-read-n
-shared-slice-read-n c = search needs
+shared-slice-read-held : tie.Need-shared-slice-read-held
+shared-slice-read-held c = search needs
 
 returns : tie.Need-returns
 returns c = folds-empty _ _ _ _ (c .before .before .before .before .before .before .pre) _ (c .before .before .wide .ensures) (c .if1 .taken)
@@ -91,8 +91,8 @@ fold-cell-spec =
     tie.close
     (tie.spec
     wide-requires
-    mul-n
-    shared-slice-read-n
+    mul-held
+    shared-slice-read-held
     returns
     row-start-requires
     wide-requires-2

@@ -1,7 +1,9 @@
 -- `fold_stage::loads::forget` meets its contract: the pins that stand from position p on have 0. Assumes nothing.
-use mathlib.Core.Path.{refl}
-use Prim.Native.Nat.{ℕ}
+use mathlib.Core.Path.{_≡_, refl}
+use Prim.Native.Nat.{ℕ, _^_, _≤_}
 use native.Mathlib.Omega.{arith}
+use lib.ListN.{length}
+use Rattle.fold_stage.specs.Loads.{ForgetAt}
 use Rattle.fold_stage.proofs.Laws.Cells.{width-there}
 use Rattle.fold_stage.proofs.Laws.Loads.{SpreadFrom, spread-none, spread-pass, spread-more, spread-done}
 use borrow.Author.Needs.{needs}
@@ -9,28 +11,28 @@ use Rattle.fold_stage.proofs.loads.forget.Statement.{statement}
 use Rattle.fold_stage.proofs.loads.forget.Tie as tie
 
 abbrev Inv-loop : tie.InvT-loop
-Inv-loop height cells result₀ looks pins p₀ result p = SpreadFrom height cells looks pins (λ (q : ℕ). 0) result₀ p result
+Inv-loop cells result₀ looks pins c₀ result c = (length result ≡ length result₀) × (c ≤ length cells) × ((K : ℕ) → ForgetAt K cells looks pins result₀ → c₀ ≡ 2 ^ K → SpreadFrom K cells looks pins (λ (q : ℕ). 0) result₀ c result)
 
 abbrev μ-loop : tie.MeasureT-loop
-μ-loop height cells result₀ looks pins p₀ result p = p
+μ-loop cells result₀ looks pins c₀ result c = c
 
 width-requires : tie.Need-width-requires Inv-loop μ-loop
 width-requires c κs = search needs
 
 loop-holds : tie.Need-loop-holds Inv-loop μ-loop
-loop-holds c = spread-none _ _ (c .before .before .before .pre .stage) _ _ _ _ _ (width-there (c .before .before .before .pre .stage) (c .width .ensures))
+loop-holds c = let s = c .before .before .before .pre .stage in let e = width-there s (c .width .ensures) in (refl, omega (arith, s .size, s .double), λ K A e. spread-none _ _ (A .stage) _ _ _ _ _ e)
 
-sub-p : tie.Need-sub-p Inv-loop μ-loop
-sub-p c = search needs
+sub-c : tie.Need-sub-c Inv-loop μ-loop
+sub-c c = search needs
 
-mul-wide : tie.Need-mul-wide Inv-loop μ-loop
-mul-wide c = search needs
+mul-t9 : tie.Need-mul-t9 Inv-loop μ-loop
+mul-t9 c = search needs
 
-shared-slice-read-wide : tie.Need-shared-slice-read-wide Inv-loop μ-loop
-shared-slice-read-wide c = search needs
+shared-slice-read-t11 : tie.Need-shared-slice-read-t11 Inv-loop μ-loop
+shared-slice-read-t11 c = search needs
 
-wide-requires : tie.Need-wide-requires Inv-loop μ-loop
-wide-requires c κs = search needs
+index-requires : tie.Need-index-requires Inv-loop μ-loop
+index-requires c κs = search needs
 
 add-result : tie.Need-add-result Inv-loop μ-loop
 add-result c = search needs
@@ -45,19 +47,19 @@ loop-less : tie.Need-loop-less Inv-loop μ-loop
 loop-less c = search needs
 
 loop-again : tie.Need-loop-again Inv-loop μ-loop
-loop-again c = spread-more _ _ (c .before .before .before .before .before .before .before .before .pre .stage) _ _ _ _ _ _ (c .before .before .before .before .loop .inv) _ (omega arith) (omega arith) _ (c .before .wide .ensures) (c .if1 .taken) (c .before .before .before .before .before .before .before .before .pre .room) _ refl
+loop-again c = (search needs, search needs, λ K A e. spread-more _ _ (A .stage) _ _ _ _ _ _ (c .before .before .before .before .loop .inv .2 K A e) _ (omega arith) (omega arith) _ (c .before .index .ensures) (c .if1 .taken) (A .room) _ refl)
 
 loop-less-2 : tie.Need-loop-less-2 Inv-loop μ-loop
 loop-less-2 c = search needs
 
 loop-again-2 : tie.Need-loop-again-2 Inv-loop μ-loop
-loop-again-2 c = spread-pass _ _ (c .before .before .before .before .before .before .before .before .pre .stage) _ _ _ _ _ _ (c .before .before .before .before .loop .inv) _ (omega arith) (omega arith) _ (c .before .wide .ensures) (c .if1 .left)
+loop-again-2 c = (search needs, search needs, λ K A e. spread-pass _ _ (A .stage) _ _ _ _ _ _ (c .before .before .before .before .loop .inv .2 K A e) _ (omega arith) (omega arith) _ (c .before .index .ensures) (c .if1 .left))
 
 same-length : tie.Need-same-length Inv-loop μ-loop
 same-length c = search needs
 
 returns : tie.Need-returns Inv-loop μ-loop
-returns c = spread-done _ _ (c .before .before .before .before .before .pre .stage) _ _ _ _ _ _ (c .before .loop .inv) (c .loop-test .left)
+returns c = spread-done _ _ (c .before .before .before .before .before .pre .stage) _ _ _ _ _ _ (c .before .loop .inv .2 _ (c .before .before .before .before .before .pre) (width-there (c .before .before .before .before .before .pre .stage) (c .before .before .width .ensures))) (c .loop-test .left)
 
 pub forget-spec : {M : Type 1} → statement M
 forget-spec =
@@ -67,10 +69,10 @@ forget-spec =
     μ-loop
     width-requires
     loop-holds
-    sub-p
-    mul-wide
-    shared-slice-read-wide
-    wide-requires
+    sub-c
+    mul-t9
+    shared-slice-read-t11
+    index-requires
     add-result
     mul-result
     slice-write-result

@@ -5,9 +5,6 @@ use borrow.Author.Needs.{needs}
 use Rattle.fold_stage.proofs.loads.leaf_bit.Statement.{statement}
 use Rattle.fold_stage.proofs.loads.leaf_bit.Tie as tie
 
-cast-t5 : tie.Need-cast-t5
-cast-t5 c = search needs
-
 node-at-requires : tie.Need-node-at-requires
 node-at-requires c κs = search needs
 
@@ -30,5 +27,4 @@ returns-2 c = rw (← c .before .before .node-at .ensures, c .enum-told2 .given 
 
 pub leaf-bit-spec : {M : Type 1} → statement M
 leaf-bit-spec =
-    tie.close
-    (tie.spec cast-t5 node-at-requires enum-told own-bit-requires enum-told-2 returns returns-2)
+    tie.close (tie.spec node-at-requires enum-told own-bit-requires enum-told-2 returns returns-2)

@@ -15,6 +15,9 @@ abbrev μ-loop : tie.MeasureT-loop
 loop-holds : tie.Need-loop-holds Inv-loop μ-loop
 loop-holds c = leaves-none _ _ _
 
+cast-t8 : tie.Need-cast-t8 Inv-loop μ-loop
+cast-t8 c = search needs
+
 leaf-bit-requires : tie.Need-leaf-bit-requires Inv-loop μ-loop
 leaf-bit-requires c κs = search needs
 
@@ -49,6 +52,7 @@ leaf-loads-spec =
     Inv-loop
     μ-loop
     loop-holds
+    cast-t8
     leaf-bit-requires
     as-number-requires
     mul-looks

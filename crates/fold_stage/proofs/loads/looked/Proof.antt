@@ -4,11 +4,11 @@ use borrow.Author.Needs.{needs}
 use Rattle.fold_stage.proofs.loads.looked.Statement.{statement}
 use Rattle.fold_stage.proofs.loads.looked.Tie as tie
 
-wide-requires : tie.Need-wide-requires
-wide-requires c κs = search needs
+index-requires : tie.Need-index-requires
+index-requires c κs = search needs
 
 returns : tie.Need-returns
-returns c = held-past _ _ _ _ _ (c .before .wide .ensures) (c .if1 .taken)
+returns c = held-past _ _ _ _ _ (c .before .index .ensures) (c .if1 .taken)
 
 add-result : tie.Need-add-result
 add-result c = search needs
@@ -20,9 +20,9 @@ shared-slice-read-result : tie.Need-shared-slice-read-result
 shared-slice-read-result c = search needs
 
 returns-2 : tie.Need-returns-2
-returns-2 c = held-there _ _ _ _ _ (c .before .before .wide .ensures) (c .before .if1 .left)
+returns-2 c = held-there _ _ _ _ _ (c .before .before .index .ensures) (c .before .if1 .left)
 
 pub looked-spec : {M : Type 1} → statement M
 looked-spec =
     tie.close
-    (tie.spec wide-requires returns add-result mul-result shared-slice-read-result returns-2)
+    (tie.spec index-requires returns add-result mul-result shared-slice-read-result returns-2)

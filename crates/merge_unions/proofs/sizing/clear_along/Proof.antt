@@ -1,4 +1,5 @@
 -- `merge_unions::sizing::clear_along` meets its contract: the listed pins from i on are still to be cleared. Assumes nothing.
+use native.Mathlib.Omega.{arith}
 use Prim.Native.Nat.{_-_}
 use Rattle.columns.specs.Lists.{list}
 use Rattle.merge_unions.proofs.Laws.Sizing.{Clearing, along-none, along-room, along-to, along-more, along-done}
@@ -15,11 +16,11 @@ abbrev μ-loop : tie.MeasureT-loop
 loop-holds : tie.Need-loop-holds Inv-loop μ-loop
 loop-holds c = along-none (c .before .pre)
 
-get-requires : tie.Need-get-requires Inv-loop μ-loop
-get-requires c κs = along-room (c .before .before .before .before .pre) (c .before .before .loop .inv) (c .before .loop-test .taken)
+pin-at-requires : tie.Need-pin-at-requires Inv-loop μ-loop
+pin-at-requires c κs = along-room (c .before .before .before .before .pre) (c .before .before .loop .inv) (c .before .loop-test .taken)
 
 set-field-requires : tie.Need-set-field-requires Inv-loop μ-loop
-set-field-requires c κs = along-to (c .before .before .before .before .before .before .pre) (c .before .before .before .before .loop .inv) (c .before .before .before .loop-test .taken) (c .before .get .ensures)
+set-field-requires c κs = (along-to (c .before .before .before .before .before .before .pre) (c .before .before .before .before .loop .inv) (c .before .before .before .loop-test .taken) (c .before .pin-at .ensures), omega arith)
 
 add-i : tie.Need-add-i Inv-loop μ-loop
 add-i c = search needs
@@ -28,7 +29,7 @@ loop-less : tie.Need-loop-less Inv-loop μ-loop
 loop-less c = search needs
 
 loop-again : tie.Need-loop-again Inv-loop μ-loop
-loop-again c = along-more (c .before .before .before .before .before .before .before .before .before .pre) (c .before .before .before .before .before .before .before .loop .inv) (c .before .before .before .before .before .before .loop-test .taken) (c .before .before .before .before .get .ensures) (c .before .before .set-field .ensures)
+loop-again c = along-more (c .before .before .before .before .before .before .before .before .before .pre) (c .before .before .before .before .before .before .before .loop .inv) (c .before .before .before .before .before .before .loop-test .taken) (c .before .before .before .before .pin-at .ensures) (c .before .before .set-field .ensures)
 
 same-length : tie.Need-same-length Inv-loop μ-loop
 same-length c = c .before .loop .inv .frame .len
@@ -43,7 +44,7 @@ clear-along-spec =
     Inv-loop
     μ-loop
     loop-holds
-    get-requires
+    pin-at-requires
     set-field-requires
     add-i
     loop-less

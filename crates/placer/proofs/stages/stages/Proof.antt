@@ -8,25 +8,26 @@ use lib.ListN.{length}
 use native.Mathlib.Omega.{arith}
 use mathlib.Core.Path.{_≡_, refl, _∙_}
 use Prim.Native.Nat.{_-_}
+use Rattle.rules.specs.Cells.{rowAt}
 use borrow.Author.Needs.{needs}
 use Rattle.placer.proofs.stages.stages.Statement.{statement}
 use Rattle.placer.proofs.stages.stages.Tie as tie
 
 abbrev Inv-loop : tie.InvT-loop
-Inv-loop gates plan₀ words₀ counts₀ work₀ m height half rule rooms n room limit tally₀ k₀ left₀ plan words counts work tally k left =
-    Every (λ C. StagesAt C m height half rule rooms 0 0 n room gates plan₀ words₀ counts₀ work₀) (λ C. StagesAt C m height half rule rooms k (tally .spent) left room gates plan words counts work) × (length plan ≡ length plan₀) × (length words ≡ length words₀) × (length counts ≡ length counts₀) × (length work ≡ length work₀) × Counted tally × (bound tally ≡ room)
+Inv-loop gates plan₀ words₀ counts₀ work₀ m height rule rooms n room limit tally₀ k₀ left₀ plan words counts work tally k left =
+    Every (λ C. StagesAt C m (height .0) (rowAt (height .0) 1) rule rooms 0 0 n room gates plan₀ words₀ counts₀ work₀) (λ C. StagesAt C m (height .0) (rowAt (height .0) 1) rule rooms k (tally .spent) left room gates plan words counts work) × (length plan ≡ length plan₀) × (length words ≡ length words₀) × (length counts ≡ length counts₀) × (length work ≡ length work₀) × Counted tally × (bound tally ≡ room)
 
 abbrev μ-loop : tie.MeasureT-loop
-μ-loop gates plan₀ words₀ counts₀ work₀ m height half rule rooms n room limit tally₀ k₀ left₀ plan words counts work tally k left = rooms - k
+μ-loop gates plan₀ words₀ counts₀ work₀ m height rule rooms n room limit tally₀ k₀ left₀ plan words counts work tally k left = rooms - k
 
-sub-t19 : tie.Need-sub-t19 Inv-loop μ-loop
-sub-t19 c = room-within (c .before .before .before .before .before .pre .at)
+sub-t18 : tie.Need-sub-t18 Inv-loop μ-loop
+sub-t18 c = room-within (c .before .before .before .before .before .pre .at)
 
 loop-holds : tie.Need-loop-holds Inv-loop μ-loop
 loop-holds c = (record { all = λ C A. A }, refl, refl, refl, refl, record { within = omega arith; spent = omega arith; small = omega (arith, c .before .before .before .before .before .good .1 .1 .0 .1) }, omega (arith, room-within (c .before .before .before .before .before .pre .at)))
 
-add-t21 : tie.Need-add-t21 Inv-loop μ-loop
-add-t21 c = let s = c .before .before .before .before .before .before .before .before .pre in let A = c .before .before .loop .inv .0 .all (s .it) (s .at) in omega (arith, A .now .few, A .all, A .short)
+add-t20 : tie.Need-add-t20 Inv-loop μ-loop
+add-t20 c = let s = c .before .before .before .before .before .before .before .before .pre in let A = c .before .before .loop .inv .0 .all (s .it) (s .at) in omega (arith, A .now .few, A .all, A .short)
 
 same-length : tie.Need-same-length Inv-loop μ-loop
 same-length c = search needs
@@ -97,9 +98,9 @@ stages-spec =
     (tie.spec
     Inv-loop
     μ-loop
-    sub-t19
+    sub-t18
     loop-holds
-    add-t21
+    add-t20
     same-length
     same-length-2
     same-length-3

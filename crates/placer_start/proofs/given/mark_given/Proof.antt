@@ -1,5 +1,7 @@
 -- `placer_start::given::mark_given` meets its contract: it marks the pins one after the other. Assumes nothing.
+use mathlib.Core.Path.{refl}
 use Prim.Native.Nat.{_-_}
+use native.Mathlib.Omega.{arith}
 use lib.ListN.{length}
 use Rattle.placer_start.proofs.Laws.Given.{Marking, marking-none, given-pin, marking-more, marking-done}
 use borrow.Author.Needs.{needs}
@@ -15,17 +17,14 @@ abbrev μ-loop : tie.MeasureT-loop
 loop-holds : tie.Need-loop-holds Inv-loop μ-loop
 loop-holds c = marking-none (c .before .before .pre)
 
-mul-wide : tie.Need-mul-wide Inv-loop μ-loop
-mul-wide c = search needs
+mul-t5 : tie.Need-mul-t5 Inv-loop μ-loop
+mul-t5 c = search needs
 
-shared-slice-read-wide : tie.Need-shared-slice-read-wide Inv-loop μ-loop
-shared-slice-read-wide c = search needs
-
-wide-requires : tie.Need-wide-requires Inv-loop μ-loop
-wide-requires c κs = search needs
+shared-slice-read-t11 : tie.Need-shared-slice-read-t11 Inv-loop μ-loop
+shared-slice-read-t11 c = search needs
 
 set-field-requires : tie.Need-set-field-requires Inv-loop μ-loop
-set-field-requires c κs = given-pin (c .before .before .before .before .before .before .before .pre) (c .before .before .before .before .loop .inv) _ (c .before .before .before .loop-test .taken) (c .wide .ensures) .1
+set-field-requires c κs = (given-pin (c .before .before .before .before .before .before .pre) (c .before .before .before .loop .inv) _ (c .before .before .loop-test .taken) refl .1, omega arith)
 
 add-i : tie.Need-add-i Inv-loop μ-loop
 add-i c = search needs
@@ -34,7 +33,7 @@ loop-less : tie.Need-loop-less Inv-loop μ-loop
 loop-less c = search needs
 
 loop-again : tie.Need-loop-again Inv-loop μ-loop
-loop-again c = marking-more (c .before .before .before .before .before .before .before .before .before .before .pre) (c .before .before .before .before .before .before .before .loop .inv) _ (c .before .before .before .before .before .before .loop-test .taken) (c .before .before .before .wide .ensures) (c .before .before .set-field .ensures)
+loop-again c = marking-more (c .before .before .before .before .before .before .before .before .before .pre) (c .before .before .before .before .before .before .loop .inv) _ (c .before .before .before .before .before .loop-test .taken) refl (c .before .before .set-field .ensures)
 
 same-length : tie.Need-same-length Inv-loop μ-loop
 same-length c = c .before .loop .inv .frame .len
@@ -49,9 +48,8 @@ mark-given-spec =
     Inv-loop
     μ-loop
     loop-holds
-    mul-wide
-    shared-slice-read-wide
-    wide-requires
+    mul-t5
+    shared-slice-read-t11
     set-field-requires
     add-i
     loop-less

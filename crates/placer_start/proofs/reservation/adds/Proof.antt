@@ -1,4 +1,5 @@
 -- `placer_start::reservation::adds` meets its contract, kind by kind. Assumes nothing.
+use mathlib.Core.Path.{refl}
 use native.Mathlib.Omega.{arith}
 use Rattle.placer_start.proofs.Laws.Counts.{record-inside, flip-inside, record-known, record-memory, record-output, record-flip, record-staged}
 use borrow.Author.Needs.{needs}
@@ -50,9 +51,6 @@ flip-flop-requires c κs = search needs
 enum-told-4 : tie.Need-enum-told-4
 enum-told-4 c = search needs
 
-wide-requires : tie.Need-wide-requires
-wide-requires c κs = search needs
-
 enum-told-5 : tie.Need-enum-told-5
 enum-told-5 c = search needs
 
@@ -66,7 +64,7 @@ returns-3 : tie.Need-returns-3
 returns-3 c = record-flip (c .before .before .before .before .before .before .before .before .pre) (c .before .before .before .before .before .kind-of .ensures) (c .before .before .enum-told3 .given .1) (c .flip-flop .ensures)
 
 returns-4 : tie.Need-returns-4
-returns-4 c = record-staged (c .before .before .before .before .before .before .before .pre) (c .before .before .before .before .kind-of .ensures) (c .before .enum-told4 .given .1) _ (c .wide .ensures)
+returns-4 c = record-staged (c .before .before .before .before .before .before .pre) (c .before .before .before .kind-of .ensures) (c .enum-told4 .given .1) _ refl
 
 returns-5 : tie.Need-returns-5
 returns-5 c = record-known (c .before .before .before .before .before .before .pre) (c .before .before .before .kind-of .ensures) (c .enum-told5 .given .1)
@@ -90,7 +88,6 @@ adds-spec =
     shared-slice-read-t16
     flip-flop-requires
     enum-told-4
-    wide-requires
     enum-told-5
     returns
     returns-2

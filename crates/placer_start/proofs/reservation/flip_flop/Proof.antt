@@ -11,23 +11,20 @@ pin-of-requires c κs = search needs
 wide-requires : tie.Need-wide-requires
 wide-requires c κs = search needs
 
-wide-requires-2 : tie.Need-wide-requires-2
-wide-requires-2 c κs = search needs
-
-mul-t6 : tie.Need-mul-t6
-mul-t6 c = search needs
+mul-t5 : tie.Need-mul-t5
+mul-t5 c = search needs
 
 inversion-of-requires : tie.Need-inversion-of-requires
 inversion-of-requires c κs = search needs
 
-wide-requires-3 : tie.Need-wide-requires-3
-wide-requires-3 c κs = search needs
+wide-requires-2 : tie.Need-wide-requires-2
+wide-requires-2 c κs = search needs
 
-add-t9 : tie.Need-add-t9
-add-t9 c = search needs
+add-t8 : tie.Need-add-t8
+add-t8 c = search needs
 
 returns : tie.Need-returns
-returns c = adds-flip-flop _ _ _ _ _ (c .before .before .before .wide .ensures ∙ c .before .before .before .before .pin-of .ensures) (c .before .before .wide2 .ensures) (c .wide3 .ensures ∙ c .before .inversion-of .ensures)
+returns c = adds-flip-flop _ _ _ _ _ (c .before .before .before .pin-of .ensures) (c .before .before .wide .ensures) (c .wide2 .ensures ∙ c .before .inversion-of .ensures)
 
 pub flip-flop-spec : {M : Type 1} → statement M
 flip-flop-spec =
@@ -35,9 +32,8 @@ flip-flop-spec =
     (tie.spec
     pin-of-requires
     wide-requires
-    wide-requires-2
-    mul-t6
+    mul-t5
     inversion-of-requires
-    wide-requires-3
-    add-t9
+    wide-requires-2
+    add-t8
     returns)

@@ -31,17 +31,17 @@ cast-tail-set-2 c = omega arith
 tail-set-requires-2 : tie.Need-tail-set-requires-2
 tail-set-requires-2 c κs = omega arith
 
-add-push : tie.Need-add-push
-add-push c = omega arith
+add-set-field : tie.Need-add-set-field
+add-set-field c = omega arith
 
-push-requires : tie.Need-push-requires
-push-requires c κs = search needs
+set-field-requires : tie.Need-set-field-requires
+set-field-requires c κs = search needs
 
 same-length : tie.Need-same-length
 same-length c = search needs
 
 returns : tie.Need-returns
-returns c = record { is = rw (c .before .before .push .ensures, c .before .before .before .before .before .before .tail-set2 .ensures, c .before .before .before .before .before .before .before .before .before .before .tail-set .ensures) }
+returns c = record { is = rw (c .before .before .set-field .ensures, c .before .before .before .before .before .before .tail-set2 .ensures, c .before .before .before .before .before .before .before .before .before .before .tail-set .ensures) }
 
 pub link-spec : {M : Type 1} → statement M
 link-spec =
@@ -56,7 +56,7 @@ link-spec =
     add-tail-set-3
     cast-tail-set-2
     tail-set-requires-2
-    add-push
-    push-requires
+    add-set-field
+    set-field-requires
     same-length
     returns)

@@ -8,22 +8,18 @@ use Rattle.placer_start.proofs.reservation.output.Tie as tie
 pin-of-requires : tie.Need-pin-of-requires
 pin-of-requires c κs = search needs
 
-wide-requires : tie.Need-wide-requires
-wide-requires c κs = search needs
-
 inversion-of-requires : tie.Need-inversion-of-requires
 inversion-of-requires c κs = search needs
 
-wide-requires-2 : tie.Need-wide-requires-2
-wide-requires-2 c κs = search needs
+wide-requires : tie.Need-wide-requires
+wide-requires c κs = search needs
 
-add-t6 : tie.Need-add-t6
-add-t6 c = search needs
+add-t5 : tie.Need-add-t5
+add-t5 c = search needs
 
 returns : tie.Need-returns
-returns c = adds-output _ _ _ (c .before .before .wide .ensures ∙ c .before .before .before .pin-of .ensures) (c .wide2 .ensures ∙ c .before .inversion-of .ensures)
+returns c = adds-output _ _ _ (c .before .before .pin-of .ensures) (c .wide .ensures ∙ c .before .inversion-of .ensures)
 
 pub output-spec : {M : Type 1} → statement M
 output-spec =
-    tie.close
-    (tie.spec pin-of-requires wide-requires inversion-of-requires wide-requires-2 add-t6 returns)
+    tie.close (tie.spec pin-of-requires inversion-of-requires wide-requires add-t5 returns)

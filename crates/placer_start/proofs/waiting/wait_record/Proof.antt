@@ -1,5 +1,4 @@
 -- `placer_start::waiting::wait_record` meets its contract: the record's pins wait one after the other. Assumes nothing.
-use mathlib.Core.Path.{_∙_}
 use Prim.Native.Nat.{_-_}
 use Rattle.placer_start.proofs.Laws.Waiting.{Listing, listing-none, listing-at, listing-more, listing-done}
 use borrow.Author.Needs.{needs}
@@ -21,11 +20,8 @@ loop-holds c = listing-none (c .before .before .before .pre) (c .size-at .ensure
 endpoint-requires : tie.Need-endpoint-requires Inv-loop μ-loop
 endpoint-requires c κs = search needs
 
-wide-requires : tie.Need-wide-requires Inv-loop μ-loop
-wide-requires c κs = search needs
-
 wait-pin-requires : tie.Need-wait-pin-requires Inv-loop μ-loop
-wait-pin-requires c κs = listing-at (c .before .before .before .before .before .before .before .before .pre) (c .before .before .before .before .before .size-at .ensures) (c .before .before .before .before .loop .inv) (c .before .before .before .loop-test .taken) _ (c .wide .ensures ∙ c .before .endpoint .ensures)
+wait-pin-requires c κs = listing-at (c .before .before .before .before .before .before .before .pre) (c .before .before .before .before .size-at .ensures) (c .before .before .before .loop .inv) (c .before .before .loop-test .taken) _ (c .endpoint .ensures)
 
 add-i : tie.Need-add-i Inv-loop μ-loop
 add-i c = search needs
@@ -34,7 +30,7 @@ loop-less : tie.Need-loop-less Inv-loop μ-loop
 loop-less c = search needs
 
 loop-again : tie.Need-loop-again Inv-loop μ-loop
-loop-again c = listing-more (c .before .before .before .before .before .before .before .before .before .before .before .pre) (c .before .before .before .before .before .before .before .before .size-at .ensures) (c .before .before .before .before .before .before .before .loop .inv) (c .before .before .before .before .before .before .loop-test .taken) _ (c .before .before .before .wide .ensures ∙ c .before .before .before .before .endpoint .ensures) (c .before .before .wait-pin .ensures)
+loop-again c = listing-more (c .before .before .before .before .before .before .before .before .before .before .pre) (c .before .before .before .before .before .before .before .size-at .ensures) (c .before .before .before .before .before .before .loop .inv) (c .before .before .before .before .before .loop-test .taken) _ (c .before .before .before .endpoint .ensures) (c .before .before .wait-pin .ensures)
 
 same-length : tie.Need-same-length Inv-loop μ-loop
 same-length c = c .before .loop .inv .frame .len
@@ -51,7 +47,6 @@ wait-record-spec =
     size-at-requires
     loop-holds
     endpoint-requires
-    wide-requires
     wait-pin-requires
     add-i
     loop-less

@@ -4,11 +4,14 @@ use Rattle.stage.proofs.finish.finish_rest.Statement.{statement}
 use Rattle.stage.proofs.finish.finish_rest.Tie as tie
 use borrow.Author.Needs.{needs}
 
+level-one-size-requires : tie.Need-level-one-size-requires
+level-one-size-requires c κs = search needs
+
 fill-rest-requires : tie.Need-fill-rest-requires
-fill-rest-requires c κs = record { it = _; at = rest-at (c .before .before .before .before .before .before .pre .at) }
+fill-rest-requires c κs = record { it = _; at = rest-at (c .before .before .before .before .before .before .before .pre .at) (c .level-one-size .ensures) }
 
 finish-last-requires : tie.Need-finish-last-requires
-finish-last-requires c κs = record { it = _; at = lasting-at (c .before .before .before .before .before .before .before .before .before .before .before .before .before .before .before .pre .at) (c .before .before .before .before .before .before .before .before .fill-rest .ensures .all _ (rest-at (c .before .before .before .before .before .before .before .before .before .before .before .before .before .before .before .pre .at))) (c .before .before .before .if1 .taken) }
+finish-last-requires c κs = let A = c .before .before .before .before .before .before .before .before .before .before .before .before .before .before .before .before .pre .at in record { it = _; at = lasting-at A (c .before .before .before .before .before .before .before .before .fill-rest .ensures .all _ (rest-at A (c .before .before .before .before .before .before .before .before .before .level-one-size .ensures))) (c .before .before .before .if1 .taken) }
 
 same-length : tie.Need-same-length
 same-length c = search needs
@@ -20,7 +23,7 @@ same-length-3 : tie.Need-same-length-3
 same-length-3 c = search needs
 
 returns : tie.Need-returns
-returns c = record { all = λ x A. ends-rest A (c .before .before .before .before .before .before .before .before .before .before .before .before .before .fill-rest .ensures .all (x .C) (rest-at A)) (c .before .before .before .before .finish-last .ensures .all x (lasting-at A (c .before .before .before .before .before .before .before .before .before .before .before .before .before .fill-rest .ensures .all (x .C) (rest-at A)) (c .before .before .before .before .before .before .before .before .if1 .taken))) }
+returns c = record { all = λ x A. let F = c .before .before .before .before .before .before .before .before .before .before .before .before .before .fill-rest .ensures .all (x .C) (rest-at A (c .before .before .before .before .before .before .before .before .before .before .before .before .before .before .level-one-size .ensures)) in ends-rest A F (c .before .before .before .before .finish-last .ensures .all x (lasting-at A F (c .before .before .before .before .before .before .before .before .if1 .taken))) }
 
 same-length-4 : tie.Need-same-length-4
 same-length-4 c = search needs
@@ -29,12 +32,13 @@ same-length-5 : tie.Need-same-length-5
 same-length-5 c = search needs
 
 returns-2 : tie.Need-returns-2
-returns-2 c = record { all = λ x A. ends-eight A (c .before .before .before .before .before .fill-rest .ensures .all (x .C) (rest-at A)) (c .if1 .left) }
+returns-2 c = record { all = λ x A. ends-eight A (c .before .before .before .before .before .fill-rest .ensures .all (x .C) (rest-at A (c .before .before .before .before .before .before .level-one-size .ensures))) (c .if1 .left) }
 
 pub finish-rest-spec : {M : Type 1} → statement M
 finish-rest-spec =
     tie.close
     (tie.spec
+    level-one-size-requires
     fill-rest-requires
     finish-last-requires
     same-length

@@ -19,11 +19,11 @@ abbrev μ-loop : tie.MeasureT-loop
 loop-holds : tie.Need-loop-holds Inv-loop μ-loop
 loop-holds c = (retired-none, omega arith)
 
-get-requires : tie.Need-get-requires Inv-loop μ-loop
-get-requires c κs = let R = c .before .before .loop .inv .0 in omega (arith, R .frame .len, c .before .before .before .before .pre .area .room, c .before .before .before .before .pre .order .few)
+pin-at-requires : tie.Need-pin-at-requires Inv-loop μ-loop
+pin-at-requires c κs = let R = c .before .before .loop .inv .0 in omega (arith, R .frame .len, c .before .before .before .before .pre .area .room, c .before .before .before .before .pre .order .few)
 
 retire-requires : tie.Need-retire-requires Inv-loop μ-loop
-retire-requires c κs = order-pin (c .before .before .before .before .before .before .pre) (c .before .before .before .before .loop .inv .0) (c .before .before .before .loop-test .taken) _ (c .before .get .ensures)
+retire-requires c κs = order-pin (c .before .before .before .before .before .before .pre) (c .before .before .before .before .loop .inv .0) (c .before .before .before .loop-test .taken) _ (c .before .pin-at .ensures)
 
 add-i : tie.Need-add-i Inv-loop μ-loop
 add-i c = search needs
@@ -32,7 +32,7 @@ loop-less : tie.Need-loop-less Inv-loop μ-loop
 loop-less c = search needs
 
 loop-again : tie.Need-loop-again Inv-loop μ-loop
-loop-again c = (retired-more (c .before .before .before .before .before .before .before .before .before .pre) (c .before .before .before .before .before .before .before .loop .inv .0) (c .before .before .before .before .before .before .loop-test .taken) _ (c .before .before .before .before .get .ensures) (c .before .before .retire .ensures), omega arith)
+loop-again c = (retired-more (c .before .before .before .before .before .before .before .before .before .pre) (c .before .before .before .before .before .before .before .loop .inv .0) (c .before .before .before .before .before .before .loop-test .taken) _ (c .before .before .before .before .pin-at .ensures) (c .before .before .retire .ensures), omega arith)
 
 same-length : tie.Need-same-length Inv-loop μ-loop
 same-length c = c .before .loop .inv .0 .frame .len
@@ -47,7 +47,7 @@ retire-all-spec =
     Inv-loop
     μ-loop
     loop-holds
-    get-requires
+    pin-at-requires
     retire-requires
     add-i
     loop-less

@@ -26,8 +26,8 @@ write-requires c κs = record { it = _; at = write-at (c .before .before .before
 realise-all-requires : tie.Need-realise-all-requires
 realise-all-requires c κs = realise-at (c .before .before .before .before .before .before .before .before .before .before .before .before .before .before .before .before .pre) (c .before .before .before .before .before .before .before .before .before .before .before .collect .ensures) (c .before .before .before .before .before .before .before .before .if1 .left) (c .before .before .before .before .before .write .ensures .all _ (write-at (c .before .before .before .before .before .before .before .before .before .before .before .before .before .before .before .before .pre) (c .before .before .before .before .before .before .before .before .before .before .before .collect .ensures) (c .before .before .before .before .before .before .before .before .if1 .left)))
 
-add-t17 : tie.Need-add-t17
-add-t17 c = search needs
+add-t16 : tie.Need-add-t16
+add-t16 c = search needs
 
 same-length-2 : tie.Need-same-length-2
 same-length-2 c = search needs
@@ -49,7 +49,7 @@ last-words-spec =
     add-write
     write-requires
     realise-all-requires
-    add-t17
+    add-t16
     same-length-2
     same-length-3
     returns-2)

@@ -17,23 +17,23 @@ abbrev μ-loop : tie.MeasureT-loop
 loop-holds : tie.Need-loop-holds Inv-loop μ-loop
 loop-holds c = record { all = λ C A. resting-none A }
 
-get-requires : tie.Need-get-requires Inv-loop μ-loop
-get-requires c κs = let B = c .before .before .loop .inv .all _ (c .before .before .before .before .before .before .pre .at) in omega (arith, B .stands .base .area .room, c .before .before .before .before .before .before .pre .at .needed .few)
+pin-at-requires : tie.Need-pin-at-requires Inv-loop μ-loop
+pin-at-requires c κs = let B = c .before .before .loop .inv .all _ (c .before .before .before .before .before .before .pre .at) in omega (arith, B .stands .base .area .room, c .before .before .before .before .before .before .pre .at .needed .few)
 
 put-pin-requires : tie.Need-put-pin-requires Inv-loop μ-loop
-put-pin-requires c κs = record { it = _; at = resting-pin (c .before .before .before .before .before .before .before .before .before .pre .at) (c .before .before .before .before .before .loop .inv .all _ (c .before .before .before .before .before .before .before .before .before .pre .at)) (c .before .before .before .before .loop-test .taken) (c .before .before .get .ensures) }
+put-pin-requires c κs = record { it = _; at = resting-pin (c .before .before .before .before .before .before .before .before .before .pre .at) (c .before .before .before .before .before .loop .inv .all _ (c .before .before .before .before .before .before .before .before .before .pre .at)) (c .before .before .before .before .loop-test .taken) (c .before .before .pin-at .ensures) }
 
 mul-if1 : tie.Need-mul-if1 Inv-loop μ-loop
-mul-if1 c = omega (arith, half-few (resting-pin (c .before .before .before .before .before .before .before .before .before .before .before .before .before .before .pre .at) (c .before .before .before .before .before .before .before .before .before .before .loop .inv .all _ (c .before .before .before .before .before .before .before .before .before .before .before .before .before .before .pre .at)) (c .before .before .before .before .before .before .before .before .before .loop-test .taken) (c .before .before .before .before .before .before .before .get .ensures)))
+mul-if1 c = omega (arith, half-few (resting-pin (c .before .before .before .before .before .before .before .before .before .before .before .before .before .before .pre .at) (c .before .before .before .before .before .before .before .before .before .before .loop .inv .all _ (c .before .before .before .before .before .before .before .before .before .before .before .before .before .before .pre .at)) (c .before .before .before .before .before .before .before .before .before .loop-test .taken) (c .before .before .before .before .before .before .before .pin-at .ensures)))
 
 same-length : tie.Need-same-length Inv-loop μ-loop
-same-length c = let A = c .before .before .before .before .before .before .before .before .before .before .before .before .before .before .before .pre .at in resting-full A (c .before .before .before .before .before .before .before .before .before .before .before .loop .inv .all _ A) (c .before .before .before .before .before .before .before .before .before .before .loop-test .taken) (c .before .before .before .before .before .before .before .before .get .ensures) (c .before .before .before .before .before .put-pin .ensures .all _ (resting-pin A (c .before .before .before .before .before .before .before .before .before .before .before .loop .inv .all _ A) (c .before .before .before .before .before .before .before .before .before .before .loop-test .taken) (c .before .before .before .before .before .before .before .before .get .ensures))) (c .if1 .taken) .size
+same-length c = let A = c .before .before .before .before .before .before .before .before .before .before .before .before .before .before .before .pre .at in resting-full A (c .before .before .before .before .before .before .before .before .before .before .before .loop .inv .all _ A) (c .before .before .before .before .before .before .before .before .before .before .loop-test .taken) (c .before .before .before .before .before .before .before .before .pin-at .ensures) (c .before .before .before .before .before .put-pin .ensures .all _ (resting-pin A (c .before .before .before .before .before .before .before .before .before .before .before .loop .inv .all _ A) (c .before .before .before .before .before .before .before .before .before .before .loop-test .taken) (c .before .before .before .before .before .before .before .before .pin-at .ensures))) (c .if1 .taken) .size
 
 same-length-2 : tie.Need-same-length-2 Inv-loop μ-loop
-same-length-2 c = let A = c .before .before .before .before .before .before .before .before .before .before .before .before .before .before .before .pre .at in resting-full A (c .before .before .before .before .before .before .before .before .before .before .before .loop .inv .all _ A) (c .before .before .before .before .before .before .before .before .before .before .loop-test .taken) (c .before .before .before .before .before .before .before .before .get .ensures) (c .before .before .before .before .before .put-pin .ensures .all _ (resting-pin A (c .before .before .before .before .before .before .before .before .before .before .before .loop .inv .all _ A) (c .before .before .before .before .before .before .before .before .before .before .loop-test .taken) (c .before .before .before .before .before .before .before .before .get .ensures))) (c .if1 .taken) .kept .frame .len
+same-length-2 c = let A = c .before .before .before .before .before .before .before .before .before .before .before .before .before .before .before .pre .at in resting-full A (c .before .before .before .before .before .before .before .before .before .before .before .loop .inv .all _ A) (c .before .before .before .before .before .before .before .before .before .before .loop-test .taken) (c .before .before .before .before .before .before .before .before .pin-at .ensures) (c .before .before .before .before .before .put-pin .ensures .all _ (resting-pin A (c .before .before .before .before .before .before .before .before .before .before .before .loop .inv .all _ A) (c .before .before .before .before .before .before .before .before .before .before .loop-test .taken) (c .before .before .before .before .before .before .before .before .pin-at .ensures))) (c .if1 .taken) .kept .frame .len
 
 returns : tie.Need-returns Inv-loop μ-loop
-returns c = record { all = λ C A. resting-full A (c .before .before .before .before .before .before .before .before .before .before .before .loop .inv .all C A) (c .before .before .before .before .before .before .before .before .before .before .loop-test .taken) (c .before .before .before .before .before .before .before .before .get .ensures) (c .before .before .before .before .before .put-pin .ensures .all C (resting-pin A (c .before .before .before .before .before .before .before .before .before .before .before .loop .inv .all C A) (c .before .before .before .before .before .before .before .before .before .before .loop-test .taken) (c .before .before .before .before .before .before .before .before .get .ensures))) (c .if1 .taken) }
+returns c = record { all = λ C A. resting-full A (c .before .before .before .before .before .before .before .before .before .before .before .loop .inv .all C A) (c .before .before .before .before .before .before .before .before .before .before .loop-test .taken) (c .before .before .before .before .before .before .before .before .pin-at .ensures) (c .before .before .before .before .before .put-pin .ensures .all C (resting-pin A (c .before .before .before .before .before .before .before .before .before .before .before .loop .inv .all C A) (c .before .before .before .before .before .before .before .before .before .before .loop-test .taken) (c .before .before .before .before .before .before .before .before .pin-at .ensures))) (c .if1 .taken) }
 
 add-i : tie.Need-add-i Inv-loop μ-loop
 add-i c = search needs
@@ -42,7 +42,7 @@ loop-less : tie.Need-loop-less Inv-loop μ-loop
 loop-less c = search needs
 
 loop-again : tie.Need-loop-again Inv-loop μ-loop
-loop-again c = record { all = λ C A. resting-more A (c .before .before .before .before .before .before .before .before .before .before .before .loop .inv .all C A) (c .before .before .before .before .before .before .before .before .before .before .loop-test .taken) (c .before .before .before .before .before .before .before .before .get .ensures) (c .before .before .before .before .before .put-pin .ensures .all C (resting-pin A (c .before .before .before .before .before .before .before .before .before .before .before .loop .inv .all C A) (c .before .before .before .before .before .before .before .before .before .before .loop-test .taken) (c .before .before .before .before .before .before .before .before .get .ensures))) (c .if1 .left) }
+loop-again c = record { all = λ C A. resting-more A (c .before .before .before .before .before .before .before .before .before .before .before .loop .inv .all C A) (c .before .before .before .before .before .before .before .before .before .before .loop-test .taken) (c .before .before .before .before .before .before .before .before .pin-at .ensures) (c .before .before .before .before .before .put-pin .ensures .all C (resting-pin A (c .before .before .before .before .before .before .before .before .before .before .before .loop .inv .all C A) (c .before .before .before .before .before .before .before .before .before .before .loop-test .taken) (c .before .before .before .before .before .before .before .before .pin-at .ensures))) (c .if1 .left) }
 
 same-length-3 : tie.Need-same-length-3 Inv-loop μ-loop
 same-length-3 c = c .before .loop .inv .all _ (c .before .before .before .before .before .pre .at) .size
@@ -60,7 +60,7 @@ put-rest-spec =
     Inv-loop
     μ-loop
     loop-holds
-    get-requires
+    pin-at-requires
     put-pin-requires
     mul-if1
     same-length

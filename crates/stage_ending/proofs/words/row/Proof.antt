@@ -19,8 +19,8 @@ loop-holds c = record { all = λ ws R. going-none R }
 cell-requires : tie.Need-cell-requires Inv-loop μ-loop
 cell-requires c κs = record { it = _; at = row-cell (c .before .before .before .before .before .pre .at) (c .before .before .loop .inv .all _ (c .before .before .before .before .before .pre .at)) (c .before .loop-test .taken) }
 
-add-p : tie.Need-add-p Inv-loop μ-loop
-add-p c = search needs
+add-c : tie.Need-add-c Inv-loop μ-loop
+add-c c = search needs
 
 loop-less : tie.Need-loop-less Inv-loop μ-loop
 loop-less c = search needs
@@ -42,7 +42,7 @@ row-spec =
     μ-loop
     loop-holds
     cell-requires
-    add-p
+    add-c
     loop-less
     loop-again
     same-length

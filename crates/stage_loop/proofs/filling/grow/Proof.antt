@@ -13,11 +13,14 @@ needed-requires c κs = record { it = record { C = _; pl = _ }; at = grow-count 
 row-at-requires : tie.Need-row-at-requires
 row-at-requires c κs = row-at (c .before .before .before .before .before .before .before .before .pre .at)
 
+level-one-size-requires : tie.Need-level-one-size-requires
+level-one-size-requires c κs = search needs
+
 sub-lean : tie.Need-sub-lean
 sub-lean c = search needs
 
 lean-requires : tie.Need-lean-requires
-lean-requires c κs = let A = c .before .before .before .before .before .before .before .before .before .before .before .pre .at in record { it = _; at = grow-lean A (c .before .before .before .before .before .before .before .if1 .left) (c .before .before .before .before .before .needed .ensures .all (record { C = _; pl = _ }) (grow-count A)) (c .before .before .row-at .ensures) }
+lean-requires c κs = let A = c .before .before .before .before .before .before .before .before .before .before .before .before .pre .at in record { it = _; at = grow-lean A (c .before .before .before .before .before .before .before .before .if1 .left) (c .before .before .before .before .before .before .needed .ensures .all (record { C = _; pl = _ }) (grow-count A)) (c .before .before .before .row-at .ensures) (c .before .before .level-one-size .ensures) }
 
 same-length : tie.Need-same-length
 same-length c = search needs
@@ -26,7 +29,7 @@ same-length-2 : tie.Need-same-length-2
 same-length-2 c = search needs
 
 returns-2 : tie.Need-returns-2
-returns-2 c = record { all = λ C A. let N = c .before .before .before .before .before .before .before .before .before .before .needed .ensures .all (record { C = C; pl = _ }) (grow-count A) in grown A (c .before .before .before .before .before .before .before .before .before .before .before .before .if1 .left) N (c .before .before .before .before .before .before .before .row-at .ensures) (c .before .before .before .before .lean .ensures .all C (grow-lean A (c .before .before .before .before .before .before .before .before .before .before .before .before .if1 .left) N (c .before .before .before .before .before .before .before .row-at .ensures))) }
+returns-2 c = record { all = λ C A. let N = c .before .before .before .before .before .before .before .before .before .before .before .needed .ensures .all (record { C = C; pl = _ }) (grow-count A) in grown A (c .before .before .before .before .before .before .before .before .before .before .before .before .before .if1 .left) N (c .before .before .before .before .before .before .before .before .row-at .ensures) (c .before .before .before .before .before .before .before .level-one-size .ensures) (c .before .before .before .before .lean .ensures .all C (grow-lean A (c .before .before .before .before .before .before .before .before .before .before .before .before .before .if1 .left) N (c .before .before .before .before .before .before .before .before .row-at .ensures) (c .before .before .before .before .before .before .before .level-one-size .ensures))) }
 
 pub grow-spec : {M : Type 1} → statement M
 grow-spec =
@@ -35,6 +38,7 @@ grow-spec =
     returns
     needed-requires
     row-at-requires
+    level-one-size-requires
     sub-lean
     lean-requires
     same-length

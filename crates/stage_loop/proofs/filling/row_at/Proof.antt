@@ -4,9 +4,6 @@ use borrow.Author.Needs.{needs}
 use Rattle.stage_loop.proofs.filling.row_at.Statement.{statement}
 use Rattle.stage_loop.proofs.filling.row_at.Tie as tie
 
-cast-t3 : tie.Need-cast-t3
-cast-t3 c = search needs
-
 cast-row-at : tie.Need-cast-row-at
 cast-row-at c = search needs
 
@@ -17,4 +14,4 @@ returns : tie.Need-returns
 returns c = row-there (c .before .pre) (c .row-at .ensures)
 
 pub row-at-spec : {M : Type 1} → statement M
-row-at-spec = tie.close (tie.spec cast-t3 cast-row-at row-at-requires returns)
+row-at-spec = tie.close (tie.spec cast-row-at row-at-requires returns)

@@ -4,7 +4,7 @@ use lib.ListN.{length}
 use native.Mathlib.Omega.{arith}
 use Rattle.rules.specs.Inside.Some.{Every}
 use Rattle.stage_loop.specs.Loop.{LeanAt, Leaning}
-use Rattle.stage_loop.proofs.Laws.Loop.{leaning-none, lean-width, lean-go, lean-down, leaning-then, leaned}
+use Rattle.stage_loop.proofs.Laws.Levels.{leaning-none, lean-width, lean-go, lean-down, leaning-then, leaned}
 use borrow.Author.Needs.{needs}
 use Rattle.stage_loop.proofs.lean.lean.Statement.{statement}
 use Rattle.stage_loop.proofs.lean.lean.Tie as tie
@@ -18,20 +18,20 @@ abbrev μ-loop : tie.MeasureT-loop
 loop-holds : tie.Need-loop-holds Inv-loop μ-loop
 loop-holds c = (record { all = λ C A. leaning-none A }, refl, refl)
 
-add-get : tie.Need-add-get Inv-loop μ-loop
-add-get c = let A = c .before .before .loop .inv .0 .all (c .before .before .before .before .before .before .pre .it) (c .before .before .before .before .before .before .pre .at) .at in omega (arith, A .deep, A .plan .set .begun .base .area .small)
+add-number-at : tie.Need-add-number-at Inv-loop μ-loop
+add-number-at c = let A = c .before .before .loop .inv .0 .all (c .before .before .before .before .before .before .pre .it) (c .before .before .before .before .before .before .pre .at) .at in omega (arith, A .deep, A .plan .set .begun .base .area .small)
 
-get-requires : tie.Need-get-requires Inv-loop μ-loop
-get-requires c κs = let A = c .before .before .loop .inv .0 .all (c .before .before .before .before .before .before .pre .it) (c .before .before .before .before .before .before .pre .at) .at in omega (arith, A .deep, A .plan .set .begun .base .area .room)
+number-at-requires : tie.Need-number-at-requires Inv-loop μ-loop
+number-at-requires c κs = let A = c .before .before .loop .inv .0 .all (c .before .before .before .before .before .before .pre .it) (c .before .before .before .before .before .before .pre .at) .at in omega (arith, A .deep, A .plan .set .begun .base .area .room)
 
-add-get-2 : tie.Need-add-get-2 Inv-loop μ-loop
-add-get-2 c = let A = c .before .before .before .before .loop .inv .0 .all (c .before .before .before .before .before .before .before .before .pre .it) (c .before .before .before .before .before .before .before .before .pre .at) .at in omega (arith, A .deep, A .plan .set .begun .base .area .small)
+add-number-at-2 : tie.Need-add-number-at-2 Inv-loop μ-loop
+add-number-at-2 c = let A = c .before .before .before .before .loop .inv .0 .all (c .before .before .before .before .before .before .before .before .pre .it) (c .before .before .before .before .before .before .before .before .pre .at) .at in omega (arith, A .deep, A .plan .set .begun .base .area .small)
 
-get-requires-2 : tie.Need-get-requires-2 Inv-loop μ-loop
-get-requires-2 c κs = let A = c .before .before .before .before .loop .inv .0 .all (c .before .before .before .before .before .before .before .before .pre .it) (c .before .before .before .before .before .before .before .before .pre .at) .at in omega (arith, A .deep, A .plan .set .begun .base .area .room)
+number-at-requires-2 : tie.Need-number-at-requires-2 Inv-loop μ-loop
+number-at-requires-2 c κs = let A = c .before .before .before .before .loop .inv .0 .all (c .before .before .before .before .before .before .before .before .pre .it) (c .before .before .before .before .before .before .before .before .pre .at) .at in omega (arith, A .deep, A .plan .set .begun .base .area .room)
 
 sweep-requires : tie.Need-sweep-requires Inv-loop μ-loop
-sweep-requires c κs = let A = c .before .before .before .before .before .before .before .loop .inv .0 .all (c .before .before .before .before .before .before .before .before .before .before .before .pre .it) (c .before .before .before .before .before .before .before .before .before .before .before .pre .at) .at in record { it = c .before .before .before .before .before .before .before .before .before .before .before .pre .it; at = lean-go A (c .before .before .before .before .before .before .loop-test .taken) _ _ (c .before .before .before .before .get .ensures) (c .before .before .get2 .ensures) }
+sweep-requires c κs = let A = c .before .before .before .before .before .before .before .loop .inv .0 .all (c .before .before .before .before .before .before .before .before .before .before .before .pre .it) (c .before .before .before .before .before .before .before .before .before .before .before .pre .at) .at in record { it = c .before .before .before .before .before .before .before .before .before .before .before .pre .it; at = lean-go A (c .before .before .before .before .before .before .loop-test .taken) _ _ (c .before .before .before .before .number-at .ensures) (c .before .before .number-at2 .ensures) }
 
 sub-l : tie.Need-sub-l Inv-loop μ-loop
 sub-l c = search needs
@@ -43,7 +43,7 @@ loop-less : tie.Need-loop-less Inv-loop μ-loop
 loop-less c = search needs
 
 loop-again : tie.Need-loop-again Inv-loop μ-loop
-loop-again c = (record { all = λ C A. let L = c .before .before .before .before .before .before .before .before .before .before .before .before .loop .inv .0 .all C A in leaning-then L (lean-down (L .at) (c .before .before .before .before .before .before .before .before .before .before .before .loop-test .taken) _ _ (c .before .before .before .before .before .before .before .before .before .get .ensures) (c .before .before .before .before .before .before .before .get2 .ensures) (c .before .before .before .before .sweep .ensures .all C (lean-go (L .at) (c .before .before .before .before .before .before .before .before .before .before .before .loop-test .taken) _ _ (c .before .before .before .before .before .before .before .before .before .get .ensures) (c .before .before .before .before .before .before .before .get2 .ensures)))) }, search needs, search needs)
+loop-again c = (record { all = λ C A. let L = c .before .before .before .before .before .before .before .before .before .before .before .before .loop .inv .0 .all C A in leaning-then L (lean-down (L .at) (c .before .before .before .before .before .before .before .before .before .before .before .loop-test .taken) _ _ (c .before .before .before .before .before .before .before .before .before .number-at .ensures) (c .before .before .before .before .before .before .before .number-at2 .ensures) (c .before .before .before .before .sweep .ensures .all C (lean-go (L .at) (c .before .before .before .before .before .before .before .before .before .before .before .loop-test .taken) _ _ (c .before .before .before .before .before .before .before .before .before .number-at .ensures) (c .before .before .before .before .before .before .before .number-at2 .ensures)))) }, search needs, search needs)
 
 same-length : tie.Need-same-length Inv-loop μ-loop
 same-length c = search needs
@@ -61,10 +61,10 @@ lean-spec =
     Inv-loop
     μ-loop
     loop-holds
-    add-get
-    get-requires
-    add-get-2
-    get-requires-2
+    add-number-at
+    number-at-requires
+    add-number-at-2
+    number-at-requires-2
     sweep-requires
     sub-l
     mul-w

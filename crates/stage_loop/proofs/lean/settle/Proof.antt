@@ -1,16 +1,13 @@
 -- `stage_loop::lean::settle` meets its contract: the needed pins, by an earlier count or a new one, have room or not. Assumes nothing.
 use mathlib.Core.Path.{sym, _∙_}
 use native.Mathlib.Omega.{arith}
-use Rattle.stage_loop.proofs.Laws.Loop.{needed-at, counted, settled-bound, settled-count, settled-full}
+use Rattle.stage_loop.proofs.Laws.Tries.{needed-at, counted, settled-bound, settled-count, settled-full}
 use borrow.Author.Needs.{needs}
 use Rattle.stage_loop.proofs.lean.settle.Statement.{statement}
 use Rattle.stage_loop.proofs.lean.settle.Tie as tie
 
 room-requires : tie.Need-room-requires
 room-requires c κs = record { area = c .before .before .before .before .pre .at .set .begun .base .area; few = c .before .before .before .before .pre .at .few }
-
-add-result : tie.Need-add-result
-add-result c = search needs
 
 same-length : tie.Need-same-length
 same-length c = search needs
@@ -23,9 +20,6 @@ needed-requires c κs = record { it = record { C = c .before .before .before .be
 
 room-requires-2 : tie.Need-room-requires-2
 room-requires-2 c κs = let A = c .before .before .before .before .before .before .before .before .before .before .before .pre in let N = counted (A .at) (c .before .before .before .needed .ensures .all (record { C = (A .it); pl = _ }) (needed-at (A .at))) in record { area = record { small = A .at .set .begun .base .area .small; room = omega (arith, N .kept .frame .len, A .at .set .begun .base .area .room) }; few = N .few }
-
-add-result-2 : tie.Need-add-result-2
-add-result-2 c = let A = c .before .before .before .before .before .before .before .before .before .before .before .before .before .pre in omega (arith, counted (A .at) (c .before .before .before .before .before .needed .ensures .all (record { C = (A .it); pl = _ }) (needed-at (A .at))) .few)
 
 same-length-2 : tie.Need-same-length-2
 same-length-2 c = search needs
@@ -44,12 +38,10 @@ settle-spec =
     tie.close
     (tie.spec
     room-requires
-    add-result
     same-length
     returns
     needed-requires
     room-requires-2
-    add-result-2
     same-length-2
     returns-2
     same-length-3

@@ -4,7 +4,7 @@ use mathlib.Core.Path.{_≡_, refl}
 use lib.ListN.{length}
 use Rattle.rules.specs.Inside.Some.{Every}
 use Rattle.stage_loop.specs.Loop.{At, Gone}
-use Rattle.stage_loop.proofs.Laws.Loop.{gone-none, gone-next, gone-stop, gone-then, gone-end, every-pos}
+use Rattle.stage_loop.proofs.Laws.Turns.{gone-none, gone-next, gone-stop, gone-then, gone-end}
 use borrow.Author.Needs.{needs}
 use Rattle.stage_loop.proofs.lean.sweep.Statement.{statement}
 use Rattle.stage_loop.proofs.lean.sweep.Tie as tie
@@ -21,6 +21,9 @@ loop-holds c = (record { all = λ C A. gone-none A }, refl, refl)
 turn-requires : tie.Need-turn-requires Inv-loop μ-loop
 turn-requires c κs = let A = c .before .before .before .before .before .before .before .pre in record { it = A .it; at = gone-next (c .before .before .before .loop .inv .0 .all (A .it) (A .at)) (c .before .before .loop-test .taken) }
 
+enum-told : tie.Need-enum-told Inv-loop μ-loop
+enum-told c = search needs
+
 same-length : tie.Need-same-length Inv-loop μ-loop
 same-length c = search needs
 
@@ -28,10 +31,10 @@ same-length-2 : tie.Need-same-length-2 Inv-loop μ-loop
 same-length-2 c = search needs
 
 returns : tie.Need-returns Inv-loop μ-loop
-returns c = record { all = λ C A. let G = c .before .before .before .before .before .before .before .before .before .loop .inv .0 .all C A in gone-stop G (c .before .before .before .before .before .turn .ensures .all C (gone-next G (c .before .before .before .before .before .before .before .before .loop-test .taken)) .stop (c .if1 .taken)) }
+returns c = record { all = λ C A. let G = c .before .before .before .before .before .before .before .before .before .before .loop .inv .0 .all C A in gone-stop G ((rw (c .enum-told .given .1) at (c .before .before .before .before .before .before .turn .ensures .all C (gone-next G (c .before .before .before .before .before .before .before .before .before .loop-test .taken)))) .stop refl) }
 
-sub-b : tie.Need-sub-b Inv-loop μ-loop
-sub-b c = search needs
+enum-known-bound : tie.Need-enum-known-bound Inv-loop μ-loop
+enum-known-bound c = search needs
 
 add-i : tie.Need-add-i Inv-loop μ-loop
 add-i c = search needs
@@ -40,7 +43,7 @@ loop-less : tie.Need-loop-less Inv-loop μ-loop
 loop-less c = search needs
 
 loop-again : tie.Need-loop-again Inv-loop μ-loop
-loop-again c = (record { all = λ C A. let G = c .before .before .before .before .before .before .before .before .before .loop .inv .0 .all C A in gone-then G (c .before .before .before .before .before .turn .ensures .all C (gone-next G (c .before .before .before .before .before .before .before .before .loop-test .taken)) .on (every-pos _ (c .if1 .left))) }, search needs, search needs)
+loop-again c = (record { all = λ C A. let G = c .before .before .before .before .before .before .before .before .before .before .before .loop .inv .0 .all C A in gone-then G ((rw (c .before .bound .given .1) at (c .before .before .before .before .before .before .before .turn .ensures .all C (gone-next G (c .before .before .before .before .before .before .before .before .before .before .loop-test .taken)))) .on _ refl) }, search needs, search needs)
 
 same-length-3 : tie.Need-same-length-3 Inv-loop μ-loop
 same-length-3 c = search needs
@@ -59,10 +62,11 @@ sweep-spec =
     μ-loop
     loop-holds
     turn-requires
+    enum-told
     same-length
     same-length-2
     returns
-    sub-b
+    enum-known-bound
     add-i
     loop-less
     loop-again

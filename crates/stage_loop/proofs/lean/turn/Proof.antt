@@ -1,31 +1,28 @@
 -- `stage_loop::lean::turn` meets its contract: one candidate and one empty cell. Assumes nothing.
 use mathlib.Core.Path.{sym, _∙_}
 use native.Mathlib.Omega.{arith}
-use Rattle.stage_loop.proofs.Laws.Loop.{marked-some, marked-none, pin-small, turned-skip, width, turned-no-cell, try-at, turned-try}
+use Rattle.stage_loop.proofs.Laws.Turns.{marked-some, marked-none, pin-small, turned-skip, width, turned-no-cell, try-at, turned-try}
 use borrow.Author.Needs.{needs}
 use Rattle.stage_loop.proofs.lean.turn.Statement.{statement}
 use Rattle.stage_loop.proofs.lean.turn.Tie as tie
 
-get-requires : tie.Need-get-requires
-get-requires c κs = let A = c .before .before .before .before .pre .at in omega (arith, A .more, A .at .inside, A .at .set .begun .base .area .room)
+pin-at-requires : tie.Need-pin-at-requires
+pin-at-requires c κs = let A = c .before .before .before .before .pre .at in omega (arith, A .more, A .at .inside, A .at .set .begun .base .area .room)
 
 is-in-requires : tie.Need-is-in-requires
-is-in-requires c κs = let A = c .before .before .before .before .before .before .pre .at in omega (arith, pin-small A _ (c .before .get .ensures), A .at .set .begun .base .area .room)
-
-add-result : tie.Need-add-result
-add-result c = let A = c .before .before .before .before .before .before .before .before .pre .at in omega (arith, A .at .few, A .at .set .begun .base .area .small)
+is-in-requires c κs = let A = c .before .before .before .before .before .before .pre .at in omega (arith, pin-small A _ (c .before .pin-at .ensures), A .at .set .begun .base .area .room)
 
 same-length : tie.Need-same-length
 same-length c = search needs
 
 returns : tie.Need-returns
-returns c = record { all = λ C A. turned-skip A _ (c .before .before .before .get .ensures) (marked-some _ (sym (c .before .is-in .ensures) ∙ c .if1 .taken)) }
+returns c = record { all = λ C A. turned-skip A _ (c .before .before .before .pin-at .ensures) (marked-some _ (sym (c .before .is-in .ensures) ∙ c .if1 .taken)) }
 
 mul-end : tie.Need-mul-end
-mul-end c = omega (arith, width (c .before .before .before .before .before .before .before .before .pre .at) _ (c .before .before .before .get .ensures))
+mul-end c = omega (arith, width (c .before .before .before .before .before .before .before .before .pre .at) _ (c .before .before .before .pin-at .ensures))
 
 first-empty-requires : tie.Need-first-empty-requires
-first-empty-requires c κs = record { upto = omega arith; inside = omega (arith, width (c .before .before .before .before .before .before .before .before .before .pre .at) _ (c .before .before .before .before .get .ensures)) }
+first-empty-requires c κs = record { upto = omega arith; inside = omega (arith, width (c .before .before .before .before .before .before .before .before .before .pre .at) _ (c .before .before .before .before .pin-at .ensures)) }
 
 same-length-2 : tie.Need-same-length-2
 same-length-2 c = search needs
@@ -34,13 +31,13 @@ same-length-3 : tie.Need-same-length-3
 same-length-3 c = search needs
 
 returns-2 : tie.Need-returns-2
-returns-2 c = record { all = λ C A. turned-no-cell A _ (c .before .before .before .before .before .before .get .ensures) (marked-none _ (sym (c .before .before .before .before .is-in .ensures) ∙ c .before .before .before .if1 .left)) _ (c .before .first-empty .ensures) (c .if2 .taken) }
+returns-2 c = record { all = λ C A. turned-no-cell A _ (c .before .before .before .before .before .before .pin-at .ensures) (marked-none _ (sym (c .before .before .before .before .is-in .ensures) ∙ c .before .before .before .if1 .left)) _ (c .before .first-empty .ensures) (c .if2 .taken) }
 
 add-attempt : tie.Need-add-attempt
 add-attempt c = search needs
 
 attempt-requires : tie.Need-attempt-requires
-attempt-requires c κs = record { it = c .before .before .before .before .before .before .before .before .before .before .before .before .before .pre .it; at = try-at (c .before .before .before .before .before .before .before .before .before .before .before .before .before .pre .at) _ (c .before .before .before .before .before .before .before .before .get .ensures) (marked-none _ (sym (c .before .before .before .before .before .before .is-in .ensures) ∙ c .before .before .before .before .before .if1 .left)) _ (c .before .before .before .first-empty .ensures) (c .before .before .if2 .left) }
+attempt-requires c κs = record { it = c .before .before .before .before .before .before .before .before .before .before .before .before .before .pre .it; at = try-at (c .before .before .before .before .before .before .before .before .before .before .before .before .before .pre .at) _ (c .before .before .before .before .before .before .before .before .pin-at .ensures) (marked-none _ (sym (c .before .before .before .before .before .before .is-in .ensures) ∙ c .before .before .before .before .before .if1 .left)) _ (c .before .before .before .first-empty .ensures) (c .before .before .if2 .left) }
 
 same-length-4 : tie.Need-same-length-4
 same-length-4 c = search needs
@@ -49,15 +46,14 @@ same-length-5 : tie.Need-same-length-5
 same-length-5 c = search needs
 
 returns-3 : tie.Need-returns-3
-returns-3 c = record { all = λ C A. let z = marked-none _ (sym (c .before .before .before .before .before .before .before .before .before .before .before .is-in .ensures) ∙ c .before .before .before .before .before .before .before .before .before .before .if1 .left) in turned-try A _ (c .before .before .before .before .before .before .before .before .before .before .before .before .before .get .ensures) z _ (c .before .before .before .before .before .before .before .before .first-empty .ensures) (c .before .before .before .before .before .before .before .if2 .left) (c .before .before .before .before .attempt .ensures .all C (try-at A _ (c .before .before .before .before .before .before .before .before .before .before .before .before .before .get .ensures) z _ (c .before .before .before .before .before .before .before .before .first-empty .ensures) (c .before .before .before .before .before .before .before .if2 .left))) }
+returns-3 c = record { all = λ C A. let z = marked-none _ (sym (c .before .before .before .before .before .before .before .before .before .before .before .is-in .ensures) ∙ c .before .before .before .before .before .before .before .before .before .before .if1 .left) in turned-try A _ (c .before .before .before .before .before .before .before .before .before .before .before .before .before .pin-at .ensures) z _ (c .before .before .before .before .before .before .before .before .first-empty .ensures) (c .before .before .before .before .before .before .before .if2 .left) (c .before .before .before .before .attempt .ensures .all C (try-at A _ (c .before .before .before .before .before .before .before .before .before .before .before .before .before .pin-at .ensures) z _ (c .before .before .before .before .before .before .before .before .first-empty .ensures) (c .before .before .before .before .before .before .before .if2 .left))) }
 
 pub turn-spec : {M : Type 1} → statement M
 turn-spec =
     tie.close
     (tie.spec
-    get-requires
+    pin-at-requires
     is-in-requires
-    add-result
     same-length
     returns
     mul-end

@@ -16,11 +16,11 @@ abbrev μ-loop : tie.MeasureT-loop
 loop-holds : tie.Need-loop-holds Inv-loop μ-loop
 loop-holds c = splitting-none (c .before .pre)
 
-get-requires : tie.Need-get-requires Inv-loop μ-loop
-get-requires c κs = let S = c .before .before .loop .inv in omega (arith, S .frame .len, c .before .before .before .before .pre .area .room, c .before .before .before .before .pre .waiting .few)
+pin-at-requires : tie.Need-pin-at-requires Inv-loop μ-loop
+pin-at-requires c κs = let S = c .before .before .loop .inv in omega (arith, S .frame .len, c .before .before .before .before .pre .area .room, c .before .before .before .before .pre .waiting .few)
 
 class-requires : tie.Need-class-requires Inv-loop μ-loop
-class-requires c κs = class-at (c .before .before .before .before .before .before .pre) (c .before .before .before .before .loop .inv) (c .before .before .before .loop-test .taken) _ (c .before .get .ensures)
+class-requires c κs = class-at (c .before .before .before .before .before .before .pre) (c .before .before .before .before .loop .inv) (c .before .before .before .loop-test .taken) _ (c .before .pin-at .ensures)
 
 add-i : tie.Need-add-i Inv-loop μ-loop
 add-i c = search needs
@@ -29,7 +29,7 @@ loop-less : tie.Need-loop-less Inv-loop μ-loop
 loop-less c = search needs
 
 loop-again : tie.Need-loop-again Inv-loop μ-loop
-loop-again c = splitting-more (c .before .before .before .before .before .before .before .before .before .pre) (c .before .before .before .before .before .before .before .loop .inv) (c .before .before .before .before .before .before .loop-test .taken) _ (c .before .before .before .before .get .ensures) (c .before .before .class .ensures)
+loop-again c = splitting-more (c .before .before .before .before .before .before .before .before .before .pre) (c .before .before .before .before .before .before .before .loop .inv) (c .before .before .before .before .before .before .loop-test .taken) _ (c .before .before .before .before .pin-at .ensures) (c .before .before .class .ensures)
 
 same-length : tie.Need-same-length Inv-loop μ-loop
 same-length c = c .before .loop .inv .frame .len
@@ -44,7 +44,7 @@ split-waiting-spec =
     Inv-loop
     μ-loop
     loop-holds
-    get-requires
+    pin-at-requires
     class-requires
     add-i
     loop-less

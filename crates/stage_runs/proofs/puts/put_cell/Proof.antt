@@ -9,23 +9,23 @@ use Rattle.stage_runs.proofs.puts.put_cell.Tie as tie
 returns : tie.Need-returns
 returns c = record { all = λ C A. put-idle (A .now) _ (c .if1 .taken) }
 
-mul-c : tie.Need-mul-c
-mul-c c = omega (arith, cell-inside (c .before .before .before .before .pre .at))
+mul-t16 : tie.Need-mul-t16
+mul-t16 c = omega (arith, cell-inside (c .before .before .before .before .pre .at))
 
-slice-read-c : tie.Need-slice-read-c
-slice-read-c c = cell-inside (c .before .before .before .before .before .pre .at)
+slice-read-t18 : tie.Need-slice-read-t18
+slice-read-t18 c = cell-inside (c .before .before .before .before .before .pre .at)
 
-get-requires : tie.Need-get-requires
-get-requires c κs = next-at (c .before .before .before .before .before .before .before .pre .at) (c .before .before .before .if1 .left) refl
+pin-at-requires : tie.Need-pin-at-requires
+pin-at-requires c κs = next-at (c .before .before .before .before .before .before .before .before .pre .at) (c .before .before .before .before .if1 .left) refl
 
 place-bit-requires : tie.Need-place-bit-requires
-place-bit-requires c κs = record { it = _; at = fill-at (c .before .before .before .before .before .before .before .before .before .before .pre .at) (c .before .before .before .before .before .before .if1 .left) (c .before .before .get .ensures) (c .before .before .before .before .if2 .taken) }
+place-bit-requires c κs = record { it = _; at = fill-at (c .before .before .before .before .before .before .before .before .before .before .before .pre .at) (c .before .before .before .before .before .before .before .if1 .left) (c .before .before .pin-at .ensures) (c .before .before .before .before .if2 .taken) }
 
 enlist-requires : tie.Need-enlist-requires
-enlist-requires c κs = fill-enlist (c .before .before .before .before .before .before .before .before .before .before .before .before .before .before .before .before .pre .at) (c .before .before .before .before .before .before .before .before .before .before .before .before .if1 .left) (c .before .before .before .before .before .before .before .before .get .ensures) (c .before .before .before .before .before .before .before .before .before .before .if2 .taken) (c .before .before .before .before .before .place-bit .ensures .all _ (fill-at (c .before .before .before .before .before .before .before .before .before .before .before .before .before .before .before .before .pre .at) (c .before .before .before .before .before .before .before .before .before .before .before .before .if1 .left) (c .before .before .before .before .before .before .before .before .get .ensures) (c .before .before .before .before .before .before .before .before .before .before .if2 .taken)))
+enlist-requires c κs = fill-enlist (c .before .before .before .before .before .before .before .before .before .before .before .before .before .before .before .before .before .pre .at) (c .before .before .before .before .before .before .before .before .before .before .before .before .before .if1 .left) (c .before .before .before .before .before .before .before .before .pin-at .ensures) (c .before .before .before .before .before .before .before .before .before .before .if2 .taken) (c .before .before .before .before .before .place-bit .ensures .all _ (fill-at (c .before .before .before .before .before .before .before .before .before .before .before .before .before .before .before .before .before .pre .at) (c .before .before .before .before .before .before .before .before .before .before .before .before .before .if1 .left) (c .before .before .before .before .before .before .before .before .pin-at .ensures) (c .before .before .before .before .before .before .before .before .before .before .if2 .taken)))
 
-add-t29 : tie.Need-add-t29
-add-t29 c = search needs
+add-t28 : tie.Need-add-t28
+add-t28 c = search needs
 
 same-length : tie.Need-same-length
 same-length c = search needs
@@ -34,44 +34,40 @@ same-length-2 : tie.Need-same-length-2
 same-length-2 c = search needs
 
 returns-2 : tie.Need-returns-2
-returns-2 c = record { all = λ C A. put-filled A (c .before .before .before .before .before .before .before .before .before .before .before .before .before .before .before .if1 .left) (c .before .before .before .before .before .before .before .before .before .before .before .get .ensures) (c .before .before .before .before .before .before .before .before .before .before .before .before .before .if2 .taken) (c .before .before .before .before .before .before .before .before .place-bit .ensures .all _ (fill-at A (c .before .before .before .before .before .before .before .before .before .before .before .before .before .before .before .if1 .left) (c .before .before .before .before .before .before .before .before .before .before .before .get .ensures) (c .before .before .before .before .before .before .before .before .before .before .before .before .before .if2 .taken))) (c .before .before .enlist .ensures) }
-
-wide-requires : tie.Need-wide-requires
-wide-requires c κs = search needs
+returns-2 c = record { all = λ C A. put-filled A (c .before .before .before .before .before .before .before .before .before .before .before .before .before .before .before .before .if1 .left) (c .before .before .before .before .before .before .before .before .before .before .before .pin-at .ensures) (c .before .before .before .before .before .before .before .before .before .before .before .before .before .if2 .taken) (c .before .before .before .before .before .before .before .before .place-bit .ensures .all _ (fill-at A (c .before .before .before .before .before .before .before .before .before .before .before .before .before .before .before .before .if1 .left) (c .before .before .before .before .before .before .before .before .before .before .before .pin-at .ensures) (c .before .before .before .before .before .before .before .before .before .before .before .before .before .if2 .taken))) (c .before .before .enlist .ensures) }
 
 is-in-requires : tie.Need-is-in-requires
-is-in-requires c κs = omega (arith, met-pin (c .before .before .before .before .before .before .before .before .pre .at) (c .before .before .before .before .if1 .left) refl (c .before .before .if2 .left) (c .before .wide .ensures), c .before .before .before .before .before .before .before .before .pre .at .now .stands .base .area .room)
+is-in-requires c κs = omega (arith, met-pin (c .before .before .before .before .before .before .before .before .pre .at) (c .before .before .before .before .if1 .left) refl (c .before .if2 .left) refl, c .before .before .before .before .before .before .before .before .pre .at .now .stands .base .area .room)
 
 enlist-requires-2 : tie.Need-enlist-requires-2
-enlist-requires-2 c κs = met-enlist (c .before .before .before .before .before .before .before .before .before .before .before .pre .at) (c .before .before .before .before .before .before .before .if1 .left) refl (c .before .before .before .before .before .if2 .left) (c .before .before .before .before .wide .ensures)
+enlist-requires-2 c κs = met-enlist (c .before .before .before .before .before .before .before .before .before .before .before .pre .at) (c .before .before .before .before .before .before .before .if1 .left) refl (c .before .before .before .before .if2 .left) refl
 
 same-length-3 : tie.Need-same-length-3
 same-length-3 c = search needs
 
 returns-3 : tie.Need-returns-3
-returns-3 c = record { all = λ C A. put-met-waits A (c .before .before .before .before .before .before .before .before .before .before .if1 .left) refl (c .before .before .before .before .before .before .before .before .if2 .left) (c .before .before .before .before .before .before .before .wide .ensures) (c .before .before .before .before .before .is-in .ensures) (c .before .before .before .before .if3 .taken) (c .before .before .enlist2 .ensures) }
+returns-3 c = record { all = λ C A. put-met-waits A (c .before .before .before .before .before .before .before .before .before .before .if1 .left) refl (c .before .before .before .before .before .before .before .if2 .left) refl (c .before .before .before .before .before .is-in .ensures) (c .before .before .before .before .if3 .taken) (c .before .before .enlist2 .ensures) }
 
 same-length-4 : tie.Need-same-length-4
 same-length-4 c = search needs
 
 returns-4 : tie.Need-returns-4
-returns-4 c = record { all = λ C A. put-met-not A (c .before .before .before .before .before .before .if1 .left) refl (c .before .before .before .before .if2 .left) (c .before .before .before .wide .ensures) (c .before .is-in .ensures) (c .if3 .left) }
+returns-4 c = record { all = λ C A. put-met-not A (c .before .before .before .before .before .before .if1 .left) refl (c .before .before .before .if2 .left) refl (c .before .is-in .ensures) (c .if3 .left) }
 
 pub put-cell-spec : {M : Type 1} → statement M
 put-cell-spec =
     tie.close
     (tie.spec
     returns
-    mul-c
-    slice-read-c
-    get-requires
+    mul-t16
+    slice-read-t18
+    pin-at-requires
     place-bit-requires
     enlist-requires
-    add-t29
+    add-t28
     same-length
     same-length-2
     returns-2
-    wide-requires
     is-in-requires
     enlist-requires-2
     same-length-3

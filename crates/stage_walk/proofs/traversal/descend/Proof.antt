@@ -3,8 +3,8 @@ use borrow.Author.Needs.{needs}
 use Rattle.stage_walk.proofs.traversal.descend.Statement.{statement}
 use Rattle.stage_walk.proofs.traversal.descend.Tie as tie
 
-push-requires : tie.Need-push-requires
-push-requires c κs = search needs
+put-number-requires : tie.Need-put-number-requires
+put-number-requires c κs = search needs
 
 add-enter : tie.Need-add-enter
 add-enter c = search needs
@@ -19,4 +19,5 @@ returns : tie.Need-returns
 returns c = cc
 
 pub descend-spec : {M : Type 1} → statement M
-descend-spec = tie.close (tie.spec push-requires add-enter enter-requires same-length returns)
+descend-spec =
+    tie.close (tie.spec put-number-requires add-enter enter-requires same-length returns)

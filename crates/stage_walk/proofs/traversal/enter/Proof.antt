@@ -6,8 +6,8 @@ use Rattle.stage_walk.proofs.traversal.enter.Tie as tie
 push-requires : tie.Need-push-requires
 push-requires c κs = search needs
 
-set-field-requires : tie.Need-set-field-requires
-set-field-requires c κs = search needs
+put-number-requires : tie.Need-put-number-requires
+put-number-requires c κs = search needs
 
 same-length : tie.Need-same-length
 same-length c = search needs
@@ -16,4 +16,4 @@ returns : tie.Need-returns
 returns c = cc
 
 pub enter-spec : {M : Type 1} → statement M
-enter-spec = tie.close (tie.spec push-requires set-field-requires same-length returns)
+enter-spec = tie.close (tie.spec push-requires put-number-requires same-length returns)

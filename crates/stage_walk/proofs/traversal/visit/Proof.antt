@@ -6,7 +6,7 @@ use Rattle.stage_walk.proofs.traversal.visit.Statement.{statement}
 use Rattle.stage_walk.proofs.traversal.visit.Tie as tie
 
 enter-requires : tie.Need-enter-requires
-enter-requires c κs = let s = c .before .before .before .pre .at in (omega (arith, s .pin, s .going .reads .base .area .room), omega (arith, s .pin, s .going .reads .base .area .small))
+enter-requires c κs = let s = c .before .before .before .pre .at in omega (arith, s .pin, s .going .reads .base .area .room)
 
 run-requires : tie.Need-run-requires
 run-requires c κs = let s = c .before .before .before .before .before .before .before .pre in record { it = s .it; at = visit-going (s .at) _ (c .before .before .before .enter .ensures) }

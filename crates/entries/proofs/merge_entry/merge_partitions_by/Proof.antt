@@ -1,0 +1,74 @@
+-- `entries::merge_entry::merge_partitions_by` meets its contract. Assumes nothing.
+use Rattle.entries.proofs.Laws.Merge.{by-none, by-rule}
+use borrow.Author.Needs.{needs}
+use Rattle.entries.proofs.merge_entry.merge_partitions_by.Statement.{statement}
+use Rattle.entries.proofs.merge_entry.merge_partitions_by.Tie as tie
+
+rule-named-requires : tie.Need-rule-named-requires
+rule-named-requires c κs = search needs
+
+enum-told : tie.Need-enum-told
+enum-told c = search needs
+
+no-rule-requires : tie.Need-no-rule-requires
+no-rule-requires c κs = search needs
+
+enum-known-asked : tie.Need-enum-known-asked
+enum-known-asked c = search needs
+
+enter-requires : tie.Need-enter-requires
+enter-requires c κs = search needs
+
+same-length : tie.Need-same-length
+same-length c = search needs
+
+returns : tie.Need-returns
+returns c = by-none _ _ _ _ _ _ _ _ _ _ _ _ _ _ _ (c .before .before .before .before .before .before .rule-named .ensures) (c .before .before .before .before .enum-told .given .1) _ _ (c .before .before .no-rule .ensures)
+
+same-length-2 : tie.Need-same-length-2
+same-length-2 c = search needs
+
+same-length-3 : tie.Need-same-length-3
+same-length-3 c = search needs
+
+same-length-4 : tie.Need-same-length-4
+same-length-4 c = search needs
+
+same-length-5 : tie.Need-same-length-5
+same-length-5 c = search needs
+
+same-length-6 : tie.Need-same-length-6
+same-length-6 c = search needs
+
+same-length-7 : tie.Need-same-length-7
+same-length-7 c = search needs
+
+same-length-8 : tie.Need-same-length-8
+same-length-8 c = search needs
+
+same-length-9 : tie.Need-same-length-9
+same-length-9 c = search needs
+
+returns-2 : tie.Need-returns-2
+returns-2 c = by-rule _ _ _ _ _ _ _ _ _ _ _ _ _ _ _ (c .before .before .before .before .before .before .before .before .before .before .before .before .before .before .before .before .before .before .before .before .before .before .before .before .before .before .before .before .rule-named .ensures) _ (c .before .before .before .before .before .before .before .before .before .before .before .before .before .before .before .before .before .before .before .before .before .before .before .before .before .before .asked .given .1) _ _ _ _ _ _ _ _ _ (c .before .before .before .before .before .before .before .before .before .before .before .before .before .before .before .before .enter .ensures)
+
+pub merge-partitions-by-spec : {M : Type 1} → statement M
+merge-partitions-by-spec =
+    tie.close
+    (tie.spec
+    rule-named-requires
+    enum-told
+    no-rule-requires
+    enum-known-asked
+    enter-requires
+    same-length
+    returns
+    same-length-2
+    same-length-3
+    same-length-4
+    same-length-5
+    same-length-6
+    same-length-7
+    same-length-8
+    same-length-9
+    returns-2)

@@ -1,0 +1,3 @@
+// Every entry for other languages: numbers and slices only. One static library holds them all.
+mod build_entry;
+mod merge_entry;

@@ -1,0 +1,37 @@
+// The scope document's refusals, by their numbers. 0 is no refusal.
+
+// A height outside 6..13.
+pub const NO_HEIGHT: u32 = 1;
+
+// A lent area has the wrong size.
+pub const WRONG_SIZE: u32 = 2;
+
+// The number of pins or a gate breaks the input rules.
+pub const WRONG_GRAPH: u32 = 3;
+
+// A record is unknown, cut, over size, or names a pin above N.
+pub const WRONG_RECORD: u32 = 4;
+
+// A given pin is above N.
+pub const WRONG_GIVEN: u32 = 5;
+
+// The reservation is over.
+pub const OVER_RESERVED: u32 = 6;
+
+// The written words exceed those that are not reserved.
+pub const OVER_WORDS: u32 = 7;
+
+// Level 1 has no cell for a needed pin, or none stays empty.
+pub const NO_CELL: u32 = 8;
+
+// Pins wait, and no room is left.
+pub const NO_ROOM: u32 = 9;
+
+// A merge's partitions, group indices or allowed extra stages.
+pub const WRONG_GROUPS: u32 = 10;
+
+// A file that is no job, or a job that no file holds.
+pub const NO_JOB: u32 = 11;
+
+// A loop of gates.
+pub const LOOP: u32 = 23;

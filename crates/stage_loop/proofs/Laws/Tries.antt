@@ -1,0 +1,199 @@
+-- What the loop changes, the needed pins counted, rule 7, and one try of a pin at a cell. Assumes nothing.
+use Prim.Native.Nat.{ℕ, _+_, _-_, _*_, _≤_, _<_}
+use mathlib.Core.Path.{_≡_, refl, sym, ap, _∙_}
+use mathlib.Core.Bool.{true, false}
+use mathlib.Core.List.{List, []}
+use native.Mathlib.Omega.{arith}
+use lib.ListN.{length, getD}
+use Rattle.rules.specs.Lists.{nothing, found}
+use Rattle.rules.specs.Cells.{levelOneSize}
+use Rattle.rules.specs.Placing.{placed}
+use Rattle.rules.specs.Inside.Lean.{wanted, roomFor, recount}
+use Rattle.rules.specs.Inside.Plans.{Fair}
+use Rattle.rules.proofs.Lists.Parts.{part-same}
+use Rattle.rules.proofs.Tree.Fair.{fair-kept, bare}
+use Rattle.rules.proofs.Tree.Back.{taken-back}
+use Rattle.rules.proofs.Lean.Turns.{recount-bound, recount-count, recount-full}
+use Rattle.columns.specs.Fields.{CELLS, RANKED, STARTS, ENDS, MARK, ONES, PINS}
+use Rattle.columns.specs.Lists.{Marks}
+use Rattle.stage_needed.specs.Needed.{NeededAt, Needed}
+use Rattle.columns.proofs.Area.Frames.{frame-none, frame-then, frame-more, frame-col, frame-room}
+use Rattle.columns.proofs.Lists.Entries.{holds-frame}
+use Rattle.columns.proofs.Lists.Marks.{marks-frame}
+use Rattle.columns.proofs.Lists.Places.{placed-frame}
+use Rattle.stage_walk.specs.Stands.{Context, Set, Tally, ranked}
+use Rattle.stage_walk.proofs.Contexts.{work}
+use Rattle.stage_tree.specs.Counts as counts
+use Rattle.stage_tree.specs.Counts.{roomIn}
+use Rattle.stage_tree.specs.Bits as bits
+use Rattle.stage_loop.specs.Loop.{Kept, Counted, SettleAt, Settled, TryAt, Tried}
+
+-- ---- the frame
+
+-- nothing changed, so nothing but counts and needed pins did
+pub kept-none : (m : ℕ) (w : List ℕ) → Kept m w w
+kept-none m w = record { frame = frame-none; rest = λ j a b c. refl }
+
+-- two changes of the counts and needed pins are one
+pub kept-then : {m : ℕ} {u v w : List ℕ} → Kept m u v → Kept m v w → Kept m u w
+kept-then a b = record { frame = frame-then (a .frame) (b .frame); rest = λ j x y z. b .rest j x y z ∙ a .rest j x y z }
+
+-- placing and taking back change the counts alone
+pub kept-counts : {m : ℕ} {w w′ : List ℕ} → counts.Kept m w w′ → Kept m w w′
+kept-counts k = record { frame = frame-more refl (k .frame); rest = k .rest }
+
+-- a change of counts and needed pins leaves the ranked lists
+pub ranked-kept : {m : ℕ} {w w′ : List ℕ} → Kept m w w′ → (i e : ℕ) → i ≤ e → e ≤ m → ranked m w′ i e ≡ ranked m w i e
+unfolding ranked
+ranked-kept {m} {w} {w′} k i e a b = part-same (e - i) (RANKED * m + i) w′ w (k .frame .len)
+    (λ j c d. let z : j ≡ RANKED * m + (j - RANKED * m) = omega arith in ap (λ (x : ℕ). getD w′ x 0) z ∙ k .frame .cell RANKED refl (omega arith) (j - RANKED * m) (omega arith) ∙ sym (ap (λ (x : ℕ). getD w x 0) z))
+
+-- and all that the stage starts from
+pub set-kept : {C : Context} {m n k : ℕ} {gates w w′ : List ℕ} → Kept m w w′ → Set C m n k gates w → Set C m n k gates w′
+set-kept {C} {m} {n} {k} {gates} {w} {w′} f S =
+    let at : (g h : ℕ) → g ≡ STARTS → h < m → getD w′ (g * m + h) 0 ≡ getD w (g * m + h) 0 = λ g h e b. rw e (f .frame .cell STARTS refl (omega arith) h b) in
+    let at2 : (h : ℕ) → h < m → getD w′ (ENDS * m + h) 0 ≡ getD w (ENDS * m + h) 0 = λ h b. f .frame .cell ENDS refl (omega arith) h b in
+    record {
+      begun = record {
+        base = record { area = frame-room (f .frame) (S .begun .base .area); size = S .begun .base .size; graph = S .begun .base .graph; pair = S .begun .base .pair };
+        done = marks-frame (S .begun .done) (f .frame) refl (omega arith);
+        waiting = placed-frame (S .begun .waiting) (f .frame) refl refl (omega arith) (omega arith);
+      };
+      ordered = record { order = holds-frame (S .ordered .order) (f .frame) refl (omega arith) };
+      levelled = record { levels = frame-col (f .frame) 2 refl (omega arith) ∙ S .levelled .levels };
+      listed = record {
+        lists = λ h a b c. rw (at STARTS h refl c, at2 h c) (ranked-kept f (getD w (STARTS * m + h) 0) (getD w (ENDS * m + h) 0) (S .listed .spans h a b c .0) (S .listed .spans h a b c .1) ∙ S .listed .lists h a b c);
+        spans = λ h a b c. rw (at STARTS h refl c, at2 h c) (S .listed .spans h a b c);
+      };
+    }
+
+-- and marks that mark nothing
+pub clear-kept : {m : ℕ} {w w′ : List ℕ} → Kept m w w′ → Marks MARK m [] w → Marks MARK m [] w′
+clear-kept k c = marks-frame c (k .frame) refl (omega arith)
+
+-- ---- the needed pins
+
+module _ {C : Context} {m n k half most : ℕ} {gates pl w : List ℕ} (A : SettleAt C m n k half most gates pl w) where
+  -- the needed pins of the plan may be counted
+  pub needed-at : NeededAt C pl m n k gates w
+  needed-at = record { begun = A .set .begun; ordered = A .set .ordered; levelled = A .set .levelled; cells = A .tally .cells; unmarked = A .clear }
+
+  -- their count is told, and nothing else that the loop reads is changed
+  pub counted : {w′ : List ℕ} {r : ℕ} → Needed C pl m w w′ r → Counted C m pl w w′ r
+  counted N = record {
+    count = sym (N .list .count);
+    few = N .list .few;
+    kept = record { frame = frame-more refl (N .frame); rest = λ j a b c. N .frame .past refl j a };
+    tally = record {
+      cells = λ x b. N .frame .cell CELLS refl (omega arith) x b ∙ A .tally .cells x b;
+      ones = N .frame .past refl (16 * m + ONES) (omega arith) ∙ A .tally .ones;
+      pins = N .frame .past refl (16 * m + PINS) (omega arith) ∙ A .tally .pins;
+    };
+  }
+
+-- ---- rule 7
+
+-- rule 7's test by the counts is the one of the rules
+pub room-is : (C : Context) (m half b : ℕ) (pl w : List ℕ) → Tally C m pl w → half ≡ levelOneSize (C .X .K) → roomIn m half b w ≡ roomFor (C .X) b pl
+unfolding roomFor roomIn
+room-is C m half b pl w t e = rw (t .ones, t .pins, e)
+
+-- a bound found is that bound
+pub found-is : {a b : ℕ} → found a ≡ found b → a ≡ b
+found-is e = cc
+
+-- a bound found is not none
+pub not-found : {a : ℕ} {P : Type 0} → found a ≡ nothing → P
+not-found e = absurd (let z : _≡_ {A = ℕ} 0 1 = cc in omega arith)
+
+module _ {C : Context} {m n k half most : ℕ} {gates pl w : List ℕ} (A : SettleAt C m n k half most gates pl w) where
+  -- room for the bound: it serves again
+  pub settled-bound : roomIn m half most w ≡ true → Settled C m most pl w w (found most)
+  settled-bound t =
+      let e : recount (C .X) most pl ≡ found most = recount-bound (C .X) most pl (sym (room-is C m half most pl w (A .tally) (A .cap)) ∙ t) in
+      record { is = sym e; few = λ b d. omega (arith, found-is d, A .few); kept = kept-none m w; tally = A .tally }
+
+  module _ {w′ : List ℕ} {c : ℕ} (t : roomIn m half most w ≡ false) (N₀ : Counted C m pl w w′ c) where
+    no-bound : roomFor (C .X) most pl ≡ false
+    no-bound = sym (room-is C m half most pl w (A .tally) (A .cap)) ∙ t
+
+    -- no room for the bound, but for the count: the count is the new bound
+    pub settled-count : roomIn m half c w′ ≡ true → Settled C m most pl w w′ (found c)
+    settled-count s =
+        let e : recount (C .X) most pl ≡ found (length (wanted (C .X) pl)) = recount-count (C .X) most pl no-bound (rw (N₀ .count) at (sym (room-is C m half c pl w′ (N₀ .tally) (A .cap)) ∙ s)) in
+        record { is = rw (N₀ .count) (sym e); few = λ b d. omega (arith, found-is d, N₀ .few); kept = N₀ .kept; tally = N₀ .tally }
+
+    -- no room for the count either: the pin must go
+    pub settled-full : roomIn m half c w′ ≡ false → Settled C m most pl w w′ nothing
+    settled-full s =
+        let e : recount (C .X) most pl ≡ nothing = recount-full (C .X) most pl no-bound (rw (N₀ .count) at (sym (room-is C m half c pl w′ (N₀ .tally) (A .cap)) ∙ s)) in
+        record { is = sym e; few = λ b d. not-found (sym d); kept = N₀ .kept; tally = N₀ .tally }
+
+-- ---- one try
+
+module _ {C : Context} {m n k h wd half p q most : ℕ} {gates pl w : List ℕ} (A : TryAt C m n k h wd half p q most gates pl w) where
+  spot : bits.Spot C m h p pl w
+  spot = record {
+    area = A .plan .set .begun .base .area;
+    size = A .plan .set .begun .base .size;
+    tally = A .plan .tally;
+    len = A .plan .fair .len;
+    high = A .wide .high;
+    from = A .able .row;
+    to = A .able .end;
+  }
+
+  -- the pin may be placed at the cell
+  pub place-at : bits.PlaceAt C m h wd p q gates pl w
+  place-at = record {
+    spot = spot;
+    base = A .plan .set .begun .base;
+    levelled = A .plan .set .levelled;
+    row = A .wide .row;
+    under = rw (A .wide .row) (bare (work C) h p q (A .plan .fair) (A .able));
+    listed = A .able .listed;
+  }
+
+  module _ {pl1 w1 : List ℕ} (P : bits.Placed C m h wd p q pl w pl1 w1) where
+    plan-is : pl1 ≡ placed (C .X) h p q pl
+    unfolding placed
+    plan-is = rw (A .wide .row) at (P .plan)
+
+    fair-after : Fair (C .X) h pl1
+    fair-after = rw plan-is (fair-kept (work C) h p q (A .plan .fair) (A .able))
+
+    -- the pin placed, the needed pins may be settled
+    pub after-place : SettleAt C m n k half most gates pl1 w1
+    after-place = record { set = set-kept (kept-counts (P .kept)) (A .plan .set); clear = clear-kept (kept-counts (P .kept)) (A .plan .clear); tally = P .tally; cap = A .cap; few = A .few }
+
+    -- where the needed pins have room the pin stays
+    pub tried-some : {w2 : List ℕ} {b : ℕ} → Settled C m most pl1 w1 w2 (found b) → Tried C m h p q most pl w pl1 w2 (found b)
+    tried-some T = record { is = rw plan-is at (T .is); few = T .few; none = λ e. not-found e; some = λ d e. plan-is; kept = kept-then (kept-counts (P .kept)) (T .kept); tally = T .tally }
+
+    module _ {w2 : List ℕ} (T : Settled C m most pl1 w1 w2 nothing) where
+      -- where they have none the pin may be taken back
+      pub back-at : bits.PurgeAt C m h wd p pl1 w2
+      back-at = record {
+        spot = record {
+          area = set-kept (T .kept) (set-kept (kept-counts (P .kept)) (A .plan .set)) .begun .base .area;
+          size = A .plan .set .begun .base .size;
+          tally = T .tally;
+          len = fair-after .len;
+          high = A .wide .high;
+          from = A .able .row;
+          to = A .able .end;
+        };
+        row = A .wide .row;
+        tall = fair-after .tall;
+      }
+
+      -- the pin taken back, the plan is as before
+      pub tried-none : {pl3 w3 : List ℕ} → bits.Purged C m h wd p pl1 w2 pl3 w3 → Tried C m h p q most pl w pl3 w3 nothing
+      tried-none B = record {
+        is = rw plan-is at (T .is);
+        few = T .few;
+        none = λ e. B .plan ∙ rw (plan-is, A .wide .row) (taken-back (work C) h p q (A .plan .fair) (A .able));
+        some = λ d e. not-found (sym e);
+        kept = kept-then (kept-counts (P .kept)) (kept-then (T .kept) (kept-counts (B .kept)));
+        tally = B .tally;
+      }

@@ -1,0 +1,204 @@
+-- One turn at a level, and a sweep of turns down its candidates. Assumes nothing.
+use Prim.Native.Nat.{ℕ, zero, suc, _+_, _-_, _*_, _≤_, _<_}
+use mathlib.Core.Path.{_≡_, refl, sym, _∙_}
+use mathlib.Core.Bool.{true, false, not, true≢false}
+use mathlib.Core.List.{List, _∷_}
+use native.Mathlib.Omega.{arith}
+use native.Mathlib.Numerals.{add-one}
+use lib.Dec.{ltb, eqb}
+use lib.ListN.{length, getD}
+use borrow.Author.Tests.{lt-ltb, le-ltb, ne-eqb}
+use Rattle.rules.specs.Lists.{Found, nothing, found, mem, In, Out}
+use Rattle.rules.specs.Cells.{row, rowAt, firstEmpty}
+use Rattle.rules.specs.Traversal.{levelAt}
+use Rattle.rules.specs.Placing.{treeOf, cellAt, placed}
+use Rattle.rules.specs.Inside.Lean.{wanted}
+use Rattle.rules.proofs.Lists.Members.{in-here, in-append-right}
+use Rattle.rules.specs.Inside.Plans.{Fair, Placeable, Going}
+use Rattle.rules.proofs.Tree.Fair.{fair-kept, fair-down, listed-filled}
+use Rattle.rules.proofs.Tree.Invariant.{row-empty}
+use Rattle.rules.proofs.Tree.Loads.{rows, wide}
+use Rattle.rules.proofs.Tree.Tally.{tree-cells}
+use Rattle.rules.proofs.Stage.Staged.{two-step}
+use Rattle.rules.proofs.Lean.Pick.{candidate}
+use Rattle.rules.proofs.Lean.Lean.{going-skip, going-placed, fewer-needed, recount-found}
+use Rattle.rules.proofs.Lean.Turns.{onward-end, onward-skip, onward-no-cell, onward-no-room, onward-placed}
+use Rattle.columns.specs.Fields.{CELLS, RANKED}
+use Rattle.stage_walk.specs.Stands.{Context, Set, ranked}
+use Rattle.stage_walk.proofs.Contexts.{work}
+use Rattle.stage_walk.proofs.Ranked.{ranked-cons, ranked-end}
+use Rattle.stage_tree.specs.Search.{First, part}
+use Rattle.stage_loop.specs.Loop.{TryAt, Tried, At, Next, Ended, Gone, Turned}
+use Rattle.stage_loop.proofs.Laws.Tries.{found-is, not-found, kept-none, kept-then, ranked-kept, set-kept, clear-kept}
+
+-- ---- one turn
+module _ {C : Context} {m n k l wd half : ℕ} {gates pl w : List ℕ} {i e b : ℕ} (N : Next C m n k l wd half gates pl w i e b) (q : ℕ) (pin : q ≡ getD w (RANKED * m + i) 0) where
+  R : Set C m n k gates w
+  R = N .at .set
+
+  now-list : ranked m w i e ≡ q ∷ ranked m w (i + 1) e
+  now-list = rw pin (ranked-cons m w i e (N .more) (N .at .inside) (omega (arith, R .begun .base .area .room)))
+
+  G : Going (C .X) (suc l) (q ∷ ranked m w (i + 1) e) b pl
+  G = rw now-list at (N .at .going)
+
+  head-in : In q (C .X .seen) × (levelAt (C .X) q ≡ suc l)
+  head-in = candidate (work C) (suc l) q (rw (G .whole) (in-append-right q (G .before) (q ∷ ranked m w (i + 1) e) (in-here q (ranked m w (i + 1) e))))
+
+  -- a candidate is a pin of the area
+  pub pin-small : q < m
+  pin-small = omega (arith, C .S .bound q (head-in .0), R .begun .base .size)
+
+  in-tree : mem q (treeOf (C .X) pl) ≡ ltb 0 (getD w (CELLS * m + q) 0)
+  unfolding treeOf
+  in-tree = rw (N .at .tally .cells q pin-small) (tree-cells (C .X .K) pl q (listed-filled (work C) q (head-in .0)))
+
+  -- a candidate that is in the tree already is passed over
+  pub turned-skip : 0 < getD w (CELLS * m + q) 0 → Turned C m n k l wd half gates pl w i e b pl w (found b)
+  turned-skip pos =
+      let t : In q (treeOf (C .X) pl) = in-tree ∙ lt-ltb 0 (getD w (CELLS * m + q) 0) pos in
+      record {
+        stop = λ x. not-found x;
+        on = λ d x. record {
+          same = rw (now-list, ← found-is x) (onward-skip (C .X) l b pl q (ranked m w (i + 1) e) t);
+          kept = kept-none m w;
+          at = record {
+            set = R;
+            clear = N .at .clear;
+            tally = N .at .tally;
+            going = rw (← found-is x) (going-skip (work C) G t);
+            wide = N .at .wide;
+            cap = N .at .cap;
+            before = omega (arith, N .more);
+            inside = N .at .inside;
+            few = omega (arith, found-is x, N .at .few);
+          };
+        };
+      }
+
+  -- the row stands in the stage
+  pub width : wd + wd ≤ length pl
+  width = omega (arith, N .at .wide .row, rows (C .X .K) (suc l) (N .at .wide .high), two-step (C .X .K), N .at .going .fair .len, wide (rowAt (C .X .K) (suc l)) (suc l))
+
+  module _ (out : getD w (CELLS * m + q) 0 ≡ 0) (p : ℕ) (F : First pl wd (2 * wd) p) where
+    not-in : Out q (treeOf (C .X) pl)
+    not-in = in-tree ∙ le-ltb 0 (getD w (CELLS * m + q) 0) (omega arith)
+
+    cell-is : cellAt (C .X) (suc l) pl ≡ firstEmpty wd (part pl wd (2 * wd))
+    unfolding cellAt row part
+    cell-is = let z : 2 * wd - wd ≡ wd = omega arith in rw (z, N .at .wide .row)
+
+    -- no empty cell: the level ends
+    pub turned-no-cell : 2 * wd ≤ p → Turned C m n k l wd half gates pl w i e b pl w nothing
+    turned-no-cell none = record {
+      stop = λ x. record {
+        same = rw now-list (onward-no-cell (C .X) l b pl q (ranked m w (i + 1) e) not-in (cell-is ∙ F .none none));
+        fair = fair-down (work C) l (N .at .going .fair);
+        enough = N .at .going .enough;
+        few = N .at .few;
+        kept = kept-none m w;
+        tally = N .at .tally;
+      };
+      on = λ d x. not-found (sym x);
+    }
+
+    module _ (some : p < 2 * wd) where
+      at-cell : cellAt (C .X) (suc l) pl ≡ found p
+      at-cell = cell-is ∙ F .at some
+
+      able : Placeable (C .X) pl (suc l) p q
+      unfolding cellAt
+      able = let c = row-empty (C .X .K) (suc l) pl p at-cell in record { low = omega arith; high = N .at .wide .high; row = c .0; end = c .1; free = c .2; listed = head-in .0; level = omega (arith, head-in .1) }
+
+      try : TryAt C m n k (suc l) wd half p q b gates pl w
+      try = record { plan = record { set = R; clear = N .at .clear; tally = N .at .tally; fair = N .at .going .fair }; wide = N .at .wide; able = able; cap = N .at .cap; few = N .at .few }
+
+      -- an empty cell: the candidate may be tried there
+      pub try-at : TryAt C m n k (l + 1) wd half p q b gates pl w
+      try-at = rw (add-one l) try
+
+      -- the candidate stays, or the level ends
+      pub turned-try : {pl′ w′ : List ℕ} {c : Found} → Tried C m (l + 1) p q b pl w pl′ w′ c → Turned C m n k l wd half gates pl w i e b pl′ w′ c
+      turned-try {pl′} {w′} {c} T₀ = record { stop = stop; on = on }
+        where
+          T : Tried C m (suc l) p q b pl w pl′ w′ c
+          T = rw (add-one l) at T₀
+
+          pl1 : List ℕ
+          pl1 = placed (C .X) (suc l) p q pl
+
+          F2 : Fair (C .X) (suc l) pl1
+          F2 = fair-kept (work C) (suc l) p q (N .at .going .fair) able
+
+          few-one : length (wanted (C .X) pl1) ≤ b
+          few-one = omega (arith, fewer-needed (work C) (N .at .going .fair) able, N .at .going .enough)
+
+          stop : c ≡ nothing → Ended C m l pl w i e b pl′ w′ b
+          stop z = record {
+            same = rw (now-list, T .none z) (onward-no-room (C .X) l b pl q (ranked m w (i + 1) e) p not-in at-cell (sym (T .is) ∙ z));
+            fair = rw (T .none z) (fair-down (work C) l (N .at .going .fair));
+            enough = rw (T .none z) (N .at .going .enough);
+            few = N .at .few;
+            kept = T .kept;
+            tally = T .tally;
+          }
+
+          on : (d : ℕ) → c ≡ found d → Gone C m n k l wd half gates pl w i e b pl′ w′ (i + 1) d
+          on f z =
+              let enough = recount-found (work C) F2 b f few-one (sym (T .is) ∙ z) in
+              let d : ranked m w′ (i + 1) e ≡ ranked m w (i + 1) e = ranked-kept (T .kept) (i + 1) e (omega (arith, N .more)) (N .at .inside) in
+              record {
+                same = rw (now-list, d, T .some f z) (onward-placed (C .X) l b pl q (ranked m w (i + 1) e) p f not-in at-cell (sym (T .is) ∙ z));
+                kept = T .kept;
+                at = record {
+                  set = set-kept (T .kept) R;
+                  clear = clear-kept (T .kept) (N .at .clear);
+                  tally = T .tally;
+                  going = rw (d, T .some f z) (going-placed (work C) G p f able (enough .1));
+                  wide = N .at .wide;
+                  cap = N .at .cap;
+                  before = omega (arith, N .more);
+                  inside = N .at .inside;
+                  few = T .few f z;
+                };
+              }
+
+-- ---- a sweep: what stands at the start, and after some turns
+module _ {C : Context} {m n k l wd half : ℕ} {gates pl w : List ℕ} {i e b : ℕ} where
+  -- before the first turn nothing is gone through
+  pub gone-none : At C m n k l wd half gates pl w i e b → Gone C m n k l wd half gates pl w i e b pl w i b
+  gone-none A = record { same = refl; kept = kept-none m w; at = A }
+
+  module _ {pl′ w′ : List ℕ} {j b′ : ℕ} (A : Gone C m n k l wd half gates pl w i e b pl′ w′ j b′) where
+    -- while candidates are left there is a next turn
+    pub gone-next : j < e → Next C m n k l wd half gates pl′ w′ j e b′
+    gone-next t = record { at = A .at; more = t }
+
+    -- some turns and some more
+    pub gone-then : {pl2 w2 : List ℕ} {d b2 : ℕ} → Gone C m n k l wd half gates pl′ w′ j e b′ pl2 w2 d b2 → Gone C m n k l wd half gates pl w i e b pl2 w2 d b2
+    gone-then B = record { same = A .same ∙ B .same; kept = kept-then (A .kept) (B .kept); at = B .at }
+
+    -- a turn that ends the level ends the sweep
+    pub gone-stop : {pl2 w2 : List ℕ} → Ended C m l pl′ w′ j e b′ pl2 w2 b′ → Ended C m l pl w i e b pl2 w2 b′
+    gone-stop E = record { same = A .same ∙ E .same; fair = E .fair; enough = E .enough; few = E .few; kept = kept-then (A .kept) (E .kept); tally = E .tally }
+
+    -- a sweep ends with the last candidate too
+    pub gone-end : e ≤ j → Ended C m l pl w i e b pl′ w′ b′
+    gone-end t = record {
+      same = A .same ∙ rw (ranked-end m w′ j e t) (onward-end (C .X) l b′ pl′);
+      fair = fair-down (work C) l (A .at .going .fair);
+      enough = A .at .going .enough;
+      few = A .at .few;
+      kept = A .kept;
+      tally = A .at .tally;
+    }
+
+-- a test for marks, as numbers
+pub marked-some : (x : ℕ) → not (eqb x 0) ≡ true → 0 < x
+marked-some zero e = absurd (true≢false (sym e))
+marked-some (suc x) e = omega arith
+
+-- a test for marks that fails, as numbers
+pub marked-none : (x : ℕ) → not (eqb x 0) ≡ false → x ≡ 0
+marked-none zero e = refl
+marked-none (suc x) e = absurd (true≢false (rw (ne-eqb (suc x) 0 (λ d. omega arith)) at e))
