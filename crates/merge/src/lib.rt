@@ -1,5 +1,6 @@
 // Partitions merged while their stages stay few: `process_partitions`, with every area lent.
 use cells::Height;
+use columns::RECORDS;
 use graph::Pin;
 use graph::pin_count;
 use merge_checks::merge_refusal;
@@ -106,7 +107,7 @@ fn join(
                 most + extra,
                 ranks,
             );
-            let left = lay_out(indices, lengths, stages, work, 16 * m + 512, base);
+            let left = lay_out(indices, lengths, stages, work, 16 * m + RECORDS, base);
             Answer {
                 number: 0,
                 stages: left.stages,
@@ -142,7 +143,7 @@ fn place(
 {
     empty_all(plan, words, counts, work);
     let m = pin_count(gates);
-    let table = 16 * m + 512 + 8 * indices.len();
+    let table = 16 * m + RECORDS + 8 * indices.len();
     let base = table + 8 * records.len();
     locate(records, work, table);
     let a = join(
@@ -216,7 +217,7 @@ pub fn merge_by(
     let limit = Height(height).word_limit();
     let rooms = Height(height).rooms(plan.len());
     let own = 8 * lengths.len() + 8 * indices.len();
-    let need = 16 * pin_count(gates) + 8 * records.len() + 512 + own;
+    let need = 16 * pin_count(gates) + 8 * records.len() + RECORDS + own;
     place(
         Height(height),
         rule,

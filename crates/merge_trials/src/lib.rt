@@ -1,5 +1,6 @@
 // What merging into one slot does again and again: the later slots ranked for it, and the trial of one union.
 use cells::Height;
+use columns::RECORDS;
 use merge_slots::BAR;
 use merge_slots::key_slot;
 use merge_slots::start_of;
@@ -190,7 +191,7 @@ fn join(
     ensures { λ _. ⌜ Joins m table base i j stages words (now (indices .entry)) (now (lengths .entry)) (now (work .entry)) (now (indices .exit)) (now (lengths .exit)) (now (work .exit)) ⌝ }
 {
     let n = lengths.len();
-    let spare = 16 * m + 512;
+    let spare = 16 * m + RECORDS;
     take_in(indices, lengths, &mut work[spare..table], i, j);
     let end = base + 8 * n;
     store_union(&mut work[base..end], n, i, j, stages, words);

@@ -1,6 +1,7 @@
 // What a merge asks of a union of two partitions, each a list of group indices: its build, and the size of its traversal. Both leave the
 // work area as they find it: what a build reads before it writes is 0, and nothing from the table on is changed.
 use cells::Height;
+use columns::RECORDS;
 use columns::wide;
 use graph::Pin;
 use placer::Answer;
@@ -82,7 +83,7 @@ fn attempt(
         Opening::Ready(reserved, n) => {
             let rooms = counts.len();
             let room = limit - reserved;
-            let size = 16 * m + 512;
+            let size = 16 * m + RECORDS;
             stages(
                 gates,
                 plan,
@@ -134,7 +135,7 @@ pub fn build_union(
         m,
         table,
     );
-    let size = 16 * m + 512;
+    let size = 16 * m + RECORDS;
     empty_all(plan, words, counts, &mut work[0..size]);
     a
 }

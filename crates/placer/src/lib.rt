@@ -3,6 +3,7 @@ use areas::empty_all;
 use areas::tidy;
 use cells::Height;
 use checks::check;
+use columns::RECORDS;
 use graph::Pin;
 use graph::pin_count;
 use placer_start::Opening;
@@ -144,7 +145,7 @@ pub fn build_by(
     }
     let limit = Height(height).word_limit();
     let rooms = Height(height).rooms(plan.len());
-    let need = 16 * pin_count(gates) + 8 * records.len() + 512;
+    let need = 16 * pin_count(gates) + 8 * records.len() + RECORDS;
     place(
         Height(height),
         rule,
