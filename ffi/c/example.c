@@ -1,43 +1,88 @@
-/* Two of the scope document's bench examples at height 6. A build: pins 1 to 4 are leaves, 5 = (2, 4), 6 = (6, 9), 7 = (10, 12), output 14;
- * then under the rule that writes idle runs too, and under a number that names no rule. A merge: the leaf outputs 2 and 4, a partition each,
- * no extra stages. */
+/* Two of the scope document's bench examples at height 6. Pins 1 to 4 are leaves, 5 = (2, 4), 6 = (6, 9), 7 = (10, 12), output 14: as a job
+ * file, which is read back, built and listed; and built under the rule that writes idle runs too, with too few counts, and under a number
+ * that names no rule. A merge: the leaf outputs 2 and 4, a partition each, no extra stages. */
 #include "placer.h"
 #include <stdio.h>
+#include <stdlib.h>
 
 #define E PLACER_EMPTY
 
-static uint32_t first(uint32_t rule) {
-    const uint32_t gates[16] = {E, E, E, E, E, E, E, E, E, E, 2, 4, 6, 9, 10, 12};
-    const uint32_t given[1] = {0};
-    const uint32_t records[2] = {1, 14};
-    uint32_t plan[128], words[2], counts[1], work[16 * 8 + 8 * 2 + 512];
-    size_t answer[5];
-    uint32_t number = placer_build_by(rule, 6, gates, 16, given, 0, records, 2, plan, 128, words, 2, counts, 1, work,
-                                      sizeof work / sizeof *work, answer, 5);
-    if (number != 0)
+static const uint32_t gates[16] = {E, E, E, E, E, E, E, E, E, E, 2, 4, 6, 9, 10, 12};
+static const uint32_t given[1] = {0}; /* none, but no pointer may be null */
+static const uint32_t records[2] = {1, 14};
+
+/* An area of so many elements, at least one, so that its pointer is not null. */
+static void *lent(size_t count, size_t size) {
+    void *area = calloc(count + 1, size);
+    if (area == NULL)
+        exit(1);
+    return area;
+}
+
+static void *numbers(size_t count) { return lent(count, sizeof(uint32_t)); }
+
+/* The file of the job, and the job of the file, which is built and listed. */
+static uint32_t job(void) {
+    static uint8_t file[PLACER_JOB_BYTES];
+    static uint32_t g[PLACER_JOB_GATES], v[PLACER_JOB_GIVEN], r[PLACER_JOB_RECORDS];
+    size_t wrote[PLACER_WRITE_LEN], read[PLACER_READ_LEN], built[PLACER_BUILD_LEN], listed[PLACER_LIST_LEN];
+    const size_t rooms = 4;
+    uint32_t number = write_job(6, gates, 16, given, 0, records, 2, file, sizeof file, wrote, PLACER_WRITE_LEN);
+    if (number != PLACER_DONE)
         return number;
-    printf("rule %u: stages %zu words %zu\n", rule, answer[1], answer[2]);
-    for (size_t p = 0; p < 128; p++)
-        if (plan[p] != E)
-            printf("%zu %u\n", p, plan[p]);
-    return 0;
+    printf("file of %zu bytes\n", wrote[PLACER_WRITE_LENGTH]);
+
+    number = read_job(file, wrote[PLACER_WRITE_LENGTH], g, PLACER_JOB_GATES, v, PLACER_JOB_GIVEN, r, PLACER_JOB_RECORDS, read, PLACER_READ_LEN);
+    if (number != PLACER_DONE)
+        return number;
+    uint32_t height = (uint32_t)read[PLACER_READ_HEIGHT];
+    size_t gs = read[PLACER_READ_GATES], vs = read[PLACER_READ_GIVEN], rs = read[PLACER_READ_RECORDS];
+
+    size_t plan_len = placer_plan_size(height, rooms), words_len = placer_words_size(height), work_len = placer_build_work_size(gs, rs);
+    uint32_t *plan = numbers(plan_len), *words = numbers(words_len), *counts = numbers(rooms), *work = numbers(work_len);
+    number = placer_build(height, g, gs, v, vs, r, rs, plan, plan_len, words, words_len, counts, rooms, work, work_len, built, PLACER_BUILD_LEN);
+
+    size_t out_len = placer_listing_size(height, built[PLACER_BUILD_STAGES], built[PLACER_BUILD_WORDS]);
+    uint8_t *out = lent(out_len, 1);
+    number = list_answer(height, number, built[PLACER_BUILD_STAGES], built[PLACER_BUILD_STAGE], (uint32_t)built[PLACER_BUILD_PIN], plan, plan_len,
+                         words, words_len, counts, rooms, out, out_len, listed, PLACER_LIST_LEN);
+    fwrite(out, 1, listed[PLACER_LIST_LENGTH], stdout);
+    free(out), free(work), free(counts), free(words), free(plan);
+    return number;
+}
+
+/* The same by the number of a word rule, with so many counts, at most one. */
+static uint32_t first(uint32_t rule, size_t counts_len, size_t *answer) {
+    uint32_t plan[128], words[2], counts[1], work[16 * 8 + 8 * 2 + 512];
+    return placer_build_by(rule, 6, gates, 16, given, 0, records, 2, plan, 128, words, 2, counts, counts_len, work,
+                           sizeof work / sizeof *work, answer, PLACER_BUILD_LEN);
+}
+
+static uint32_t show(uint32_t rule, size_t counts_len) {
+    size_t answer[PLACER_BUILD_LEN];
+    uint32_t number = first(rule, counts_len, answer);
+    if (number == PLACER_DONE)
+        printf("rule %u: stages %zu words %zu\n", rule, answer[PLACER_BUILD_STAGES], answer[PLACER_BUILD_WORDS]);
+    else
+        printf("rule %u: refused %u: %s\n", rule, number, placer_describe(number));
+    return number;
 }
 
 static void merging(void) {
-    const uint32_t gates[6] = {E, E, E, E, E, E};
-    const uint32_t given[1] = {0};
-    const uint32_t records[4] = {1, 2, 1, 4};
+    const uint32_t leaves[6] = {E, E, E, E, E, E};
+    const uint32_t outputs[4] = {1, 2, 1, 4};
     uint32_t indices[2] = {0, 1}, lengths[2] = {1, 1}, stages[2];
     uint32_t plan[128], words[2], counts[1], work[16 * 3 + 8 * 4 + 512 + 8 * 2 + 8 * 2];
-    size_t answer[8];
-    uint32_t number = merge_partitions(6, gates, 6, given, 0, records, 4, indices, 2, lengths, 2, stages, 2, 0, plan,
-                                       128, words, 2, counts, 1, work, sizeof work / sizeof *work, answer, 8);
-    printf("number %u partitions %zu trials %zu\n", number, answer[4], answer[5]);
+    size_t answer[PLACER_MERGE_LEN];
+    uint32_t number = merge_partitions(6, leaves, 6, given, 0, outputs, 4, indices, 2, lengths, 2, stages, 2, 0, plan, 128, words, 2, counts, 1,
+                                       work, sizeof work / sizeof *work, answer, PLACER_MERGE_LEN);
+    printf("number %u partitions %zu trials %zu\n", number, answer[PLACER_MERGE_PARTITIONS], answer[PLACER_MERGE_TRIALS]);
     printf("groups %u %u stages %u\n", indices[0], indices[1], stages[0]);
 }
 
 int main(void) {
-    uint32_t needed = first(PLACER_NEEDED_RUNS), every = first(PLACER_EVERY_RUN), none = first(2);
+    size_t answer[PLACER_BUILD_LEN];
+    uint32_t whole = job(), every = show(PLACER_EVERY_RUN, 1), small = show(PLACER_NEEDED_RUNS, 0), none = first(2, 1, answer);
     merging();
-    return needed != 0 || every != 0 || none != 2;
+    return whole != PLACER_DONE || every != PLACER_DONE || small != PLACER_WRONG_SIZE || none != PLACER_WRONG_SIZE;
 }

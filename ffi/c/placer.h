@@ -1,9 +1,17 @@
-/* The placer, for C. Link libentries.a, which `rt staticlib entries` writes.
+/* The placer, for C: builds, merges, folds, listings and job files. Link libentries.a, which ffi/library writes (x86-64, Linux).
  *
- * Every call returns, whatever it is handed; the caller checks nothing beforehand. Each area is a pointer and a number of
- * elements. An area of no elements may have any pointer that is not null and is aligned. No two areas may overlap.
- * Where the gates are not in order (a gate has an operand above it), a call takes up to 1 MiB of stack: the search for a loop has its marks
- * there, since what is lent must stay unchanged. Else it takes a few kilobytes. */
+ * Every call returns, whatever numbers it is handed: it answers, or refuses with a number, and each contract says for all of them what is
+ * returned and left. The caller checks nothing beforehand. What the caller owes is the memory:
+ *
+ * Areas.   Each is a pointer and a number of elements. The pointer is not null, not even for no elements, and is aligned for its element.
+ * Overlap. An area that is written (its pointer is not to const) overlaps no other area of the call. Those that are only read may overlap.
+ * Before.  Areas that are filled or scratch (plan, words, counts, work, result, out) need not be cleared.
+ * Threads. The library keeps nothing between calls and has no variables of its own. While a call runs, no thread writes its areas, and none
+ *          reads those that it writes.
+ * Stack.   Where the gates are not in order (a gate has an operand above it), a build, merge or fold takes up to 1 MiB of stack: the search
+ *          for a loop has its marks there, since what is lent must stay unchanged. Else a call takes a few kilobytes.
+ * Rooms.   A room is the memory of one stage: 2^(height + 1) numbers of the plan and one of counts. A build fills as many as it has stages.
+ *          D + 1 rooms are enough, D the most gates on a way from an endpoint down to a leaf; with fewer a build may be refused with 9. */
 #ifndef PLACER_H
 #define PLACER_H
 
@@ -14,23 +22,109 @@
 extern "C" {
 #endif
 
+/* An empty cell of a plan, an unused word, and each literal of a leaf. */
 #define PLACER_EMPTY 4294967295u
+
+/* What a call returns. 1 to 5, 10, 11 and 23 leave everything lent as it was, but for the answer; after 6 to 9 plan and words are empty marks,
+ * counts and work 0. The first that applies is given, in the order 1, 2, 3, 23, 4, 5, 10, 6, then for each stage 9, 7, 8; of a file 11, then 2. */
+enum placer_refusal {
+    PLACER_DONE = 0,          /* not refused */
+    PLACER_NO_HEIGHT = 1,     /* the height is not 6 to 13 */
+    PLACER_WRONG_SIZE = 2,    /* a lent area has the wrong size, the slice for the answer is too short, or no such word rule */
+    PLACER_WRONG_GRAPH = 3,   /* more than 65,535 pins, none at all, or a gate whose operands aren't above 0 and at most N; pin 0 is no gate */
+    PLACER_WRONG_RECORD = 4,  /* a record is of an unknown kind, cut, or names a pin above N; or more than 65,536 numbers of records */
+    PLACER_WRONG_GIVEN = 5,   /* a given pin is above N */
+    PLACER_OVER_RESERVED = 6, /* memories and duplicate activations need more words than may be reserved */
+    PLACER_OVER_WORDS = 7,    /* the stage writes more words than are left */
+    PLACER_NO_CELL = 8,       /* level 1 has no cell for a needed pin of the stage, or none would stay empty */
+    PLACER_NO_ROOM = 9,       /* pins wait, and no room is left for the stage */
+    PLACER_WRONG_GROUPS = 10, /* a merge of no partitions or more than 1,024, a group index out of range, or more than 255 extra stages */
+    PLACER_NO_JOB = 11,       /* the bytes are no job file, or no file holds the job */
+    PLACER_LOOP = 23          /* a loop of gates, given or not; the answer shows the smallest pin on any */
+};
+
+/* A line on a number that a call returned, for people. */
+static inline const char *placer_describe(uint32_t number) {
+    switch (number) {
+    case PLACER_DONE: return "not refused";
+    case PLACER_NO_HEIGHT: return "the height is not 6 to 13";
+    case PLACER_WRONG_SIZE: return "a lent area has the wrong size";
+    case PLACER_WRONG_GRAPH: return "the number of pins or a gate breaks the rules";
+    case PLACER_WRONG_RECORD: return "a record is unknown, cut, over size or names a pin above N";
+    case PLACER_WRONG_GIVEN: return "a given pin is above N";
+    case PLACER_OVER_RESERVED: return "more words to reserve than may be";
+    case PLACER_OVER_WORDS: return "the stage writes more words than are left";
+    case PLACER_NO_CELL: return "level 1 has no cell left for a pin of the stage";
+    case PLACER_NO_ROOM: return "no room is left for the stage";
+    case PLACER_WRONG_GROUPS: return "the partitions, group indices or extra stages of a merge";
+    case PLACER_NO_JOB: return "no job file, or no file for the job";
+    case PLACER_LOOP: return "a loop of gates";
+    default: return "no number of the placer";
+    }
+}
+
+/* ---- Sizes, in elements. What does not fit a size_t is SIZE_MAX, which no memory has; so is any size for a height that is none. */
+
+static inline size_t placer_sum(size_t a, size_t b) { return a > SIZE_MAX - b ? SIZE_MAX : a + b; }
+
+static inline size_t placer_product(size_t a, size_t b) { return b != 0 && a > SIZE_MAX / b ? SIZE_MAX : a * b; }
+
+/* A stage, which is a room of the plan. */
+static inline size_t placer_stage_size(uint32_t height) {
+    return height < 6 || height > 13 ? SIZE_MAX : (size_t)2 << height;
+}
+
+/* plan: exactly a multiple of a stage; counts: at least as many numbers as rooms. */
+static inline size_t placer_plan_size(uint32_t height, size_t rooms) { return placer_product(rooms, placer_stage_size(height)); }
+
+/* words: at least this. */
+static inline size_t placer_words_size(uint32_t height) {
+    return height < 6 || height > 13 ? SIZE_MAX : (size_t)1 << (height - 5);
+}
+
+/* work of a build: at least this. */
+static inline size_t placer_build_work_size(size_t gates_len, size_t records_len) {
+    return placer_sum(placer_sum(placer_product(16, gates_len / 2), placer_product(8, records_len)), 512);
+}
+
+/* work of a merge: at least this. */
+static inline size_t placer_merge_work_size(size_t gates_len, size_t records_len, size_t indices_len, size_t lengths_len) {
+    return placer_sum(placer_build_work_size(gates_len, records_len), placer_product(8, placer_sum(indices_len, lengths_len)));
+}
+
+/* bits and work of a fold: at least this each, a number a pin. Its result: at least as many as the plan. */
+static inline size_t placer_fold_work_size(size_t gates_len) { return gates_len / 2; }
+
+/* The bytes that hold any listing of so many stages and words, and any refusal's line: 17 a position, 11 a word, and what stands around them. */
+static inline size_t placer_listing_size(uint32_t height, size_t stages, size_t words) {
+    size_t stage = placer_sum(48, placer_product(17, placer_stage_size(height)));
+    return placer_sum(64, placer_sum(placer_product(stages, stage), placer_product(11, words)));
+}
+
+/* No job file has more bytes, and no job of one more numbers in its lists. */
+enum { PLACER_JOB_BYTES = 8192, PLACER_JOB_GATES = 1002, PLACER_JOB_GIVEN = 4096, PLACER_JOB_RECORDS = 512 };
+
+/* ---- A build */
 
 /* The word rules. Once nothing is untouched, rule 8 writes no run after the last needed waiting pin; or every sparse run, idle ones too,
  * as the published Rust does. The first is that of placer_build and merge_partitions; placer_build_by and merge_partitions_by take either,
  * and return 2 for any other number. */
 enum placer_word_rule { PLACER_NEEDED_RUNS = 0, PLACER_EVERY_RUN = 1 };
 
-/* gates:   two literals a pin from pin 0 on, both PLACER_EMPTY for a leaf; in any order, without a loop
+/* The answer of a build: what is returned; the plan's stages and written words; with 7, 8 and 9 the refused stage, from 1; with 23 the pin.
+ * What does not apply is 0. */
+enum placer_build_answer { PLACER_BUILD_NUMBER, PLACER_BUILD_STAGES, PLACER_BUILD_WORDS, PLACER_BUILD_STAGE, PLACER_BUILD_PIN, PLACER_BUILD_LEN };
+
+/* gates:   two literals a pin from pin 0 on, both PLACER_EMPTY for a leaf, in any order; a literal is 2 * pin, and 1 more if inverted
  * given:   pins whose value is given
  * records: endpoint records, each a kind (1 output, 2 flip-flop, 3 memory, 4 staged pin) and its numbers
- * plan:    a multiple of 2^(height + 1) numbers, one multiple a room
- * words:   at least 2^(height - 5) numbers
- * counts:  at least a number a room
- * work:    at least 16 * (pins + 1) + 8 * records_len + 512 numbers
- * answer:  at least 5 numbers: the number, the stages, the words, the refused stage, and with 23 the smallest pin on any loop of gates
+ * plan:    placer_plan_size(height, rooms) numbers, for the pins in their cells, stage after stage
+ * words:   at least placer_words_size(height) numbers, for the written words, stage after stage
+ * counts:  at least a number a room, for how many words each stage writes
+ * work:    at least placer_build_work_size(gates_len, records_len) numbers; scratch, 0 afterwards
+ * answer:  at least PLACER_BUILD_LEN numbers
  *
- * Returns the number: 0 for a whole plan, else what refuses it; 2 also where `answer` is too short, and then nothing is changed. */
+ * Returns the number. Where `answer` is too short that is 2, and nothing is changed. */
 uint32_t placer_build(uint32_t height, const uint32_t *gates, size_t gates_len, const uint32_t *given, size_t given_len,
                       const uint32_t *records, size_t records_len, uint32_t *plan, size_t plan_len, uint32_t *words,
                       size_t words_len, uint32_t *counts, size_t counts_len, uint32_t *work, size_t work_len, size_t *answer,
@@ -41,17 +135,32 @@ uint32_t placer_build_by(uint32_t rule, uint32_t height, const uint32_t *gates, 
                          uint32_t *words, size_t words_len, uint32_t *counts, size_t counts_len, uint32_t *work, size_t work_len,
                          size_t *answer, size_t answer_len);
 
-/* Merges partitions of the records while no union takes more stages than the greatest of them and `extra` more. As above, and:
+/* ---- A merge */
+
+/* The answer of a merge: what is returned; the sums of stages and words; the refused stage; the partitions left; the unions examined; the
+ * lowest refused partition, from 1; with 23 the pin. What does not apply is 0. */
+enum placer_merge_answer {
+    PLACER_MERGE_NUMBER,
+    PLACER_MERGE_STAGES,
+    PLACER_MERGE_WORDS,
+    PLACER_MERGE_STAGE,
+    PLACER_MERGE_PARTITIONS,
+    PLACER_MERGE_TRIALS,
+    PLACER_MERGE_REFUSED,
+    PLACER_MERGE_PIN,
+    PLACER_MERGE_LEN
+};
+
+/* Merges partitions of the records while no union takes more stages than the greatest of them and `extra` more. As a build, and:
  * indices: the partitions' records, counted from 0, partition after partition
  * lengths: how many of them each partition has; 1 to 1,024 partitions
  * stages:  a number a partition, for the stages that it takes
  * extra:   at most 255
- * work:    at least 16 * (pins + 1) + 8 * records_len + 512 + 8 * lengths_len + 8 * indices_len numbers
- * answer:  at least 8 numbers: the number; the sums of stages and words; the refused stage; the partitions left; the unions examined;
- *          the refused partition from 1; the pin, as above
+ * work:    at least placer_merge_work_size(gates_len, records_len, indices_len, lengths_len) numbers
+ * answer:  at least PLACER_MERGE_LEN numbers
  *
  * After 0 the three lists hold the merged partitions in their final order, and 0 for those that are gone; else they are unchanged.
- * Plan, words, counts and work are scratch. Returns the number, 2 also where `answer` is too short. */
+ * Plan, words, counts and work are scratch. Returns the number. Where `answer` is too short that is 2, and nothing is changed. */
 uint32_t merge_partitions(uint32_t height, const uint32_t *gates, size_t gates_len, const uint32_t *given, size_t given_len,
                           const uint32_t *records, size_t records_len, uint32_t *indices, size_t indices_len, uint32_t *lengths,
                           size_t lengths_len, uint32_t *stages, size_t stages_len, size_t extra, uint32_t *plan, size_t plan_len,
@@ -63,6 +172,63 @@ uint32_t merge_partitions_by(uint32_t rule, uint32_t height, const uint32_t *gat
                              uint32_t *lengths, size_t lengths_len, uint32_t *stages, size_t stages_len, size_t extra, uint32_t *plan,
                              size_t plan_len, uint32_t *words, size_t words_len, uint32_t *counts, size_t counts_len, uint32_t *work,
                              size_t work_len, size_t *answer, size_t answer_len);
+
+/* ---- A fold */
+
+/* The answer of a fold: what is returned (0, 1, 2, 3, 23 or 5), and with 23 the pin. */
+enum placer_fold_answer { PLACER_FOLD_NUMBER, PLACER_FOLD_PIN, PLACER_FOLD_LEN };
+
+/* Folds any plan, for the bits of leaves and given pins, to one bit a position.
+ * plan, gates, given: as a build had and left them
+ * bits:    at least a number a pin from pin 0 on, 0 or not 0: placer_fold_work_size(gates_len)
+ * result:  at least plan_len numbers, for 0 or 1 a position
+ * work:    at least placer_fold_work_size(gates_len) numbers; scratch, 0 afterwards
+ * answer:  at least PLACER_FOLD_LEN numbers
+ *
+ * Returns the number. Where `answer` is too short that is 2, and nothing is changed. */
+uint32_t fold_plan(uint32_t height, const uint32_t *plan, size_t plan_len, const uint32_t *gates, size_t gates_len,
+                   const uint32_t *given, size_t given_len, const uint32_t *bits, size_t bits_len, uint32_t *result,
+                   size_t result_len, uint32_t *work, size_t work_len, size_t *answer, size_t answer_len);
+
+/* ---- A listing */
+
+/* The answers of a listing and of a job written: what is returned, and how many bytes the text or file has, 0 on refusal. */
+enum placer_list_answer { PLACER_LIST_NUMBER, PLACER_LIST_LENGTH, PLACER_LIST_LEN };
+enum placer_write_answer { PLACER_WRITE_NUMBER, PLACER_WRITE_LENGTH, PLACER_WRITE_LEN };
+
+/* The text of what a build answered and left: the listing of its plan, or `refused NUMBER stage STAGE` and the pin if there is one.
+ * number, stages, stage, pin: of the build's answer
+ * plan, words, counts: as it left them
+ * out:     for the text, which has no byte 0 at its end; placer_listing_size(height, stages, the words in all) bytes hold it
+ * answer:  at least PLACER_LIST_LEN numbers
+ *
+ * Returns 0, 1 for a height that is none, 2 where an area holds less than so many stages or `out` is too short for the text, and then `out`
+ * is unchanged. Where `answer` is too short that is 2 too, and nothing is changed. */
+uint32_t list_answer(uint32_t height, uint32_t number, size_t stages, size_t stage, uint32_t pin, const uint32_t *plan,
+                     size_t plan_len, const uint32_t *words, size_t words_len, const uint32_t *counts, size_t counts_len,
+                     uint8_t *out, size_t out_len, size_t *answer, size_t answer_len);
+
+/* ---- Job files */
+
+/* The answer of a job read: what is returned, the height, and how many numbers stand in gates, given and records; 0 each on refusal. */
+enum placer_read_answer { PLACER_READ_NUMBER, PLACER_READ_HEIGHT, PLACER_READ_GATES, PLACER_READ_GIVEN, PLACER_READ_RECORDS, PLACER_READ_LEN };
+
+/* The job of a file's bytes, as a build takes it.
+ * gates, given, records: areas of PLACER_JOB_GATES, PLACER_JOB_GIVEN and PLACER_JOB_RECORDS numbers hold any job
+ * answer:  at least PLACER_READ_LEN numbers
+ *
+ * Returns 0, 11 where the bytes are no job, 2 where an area is too short for the job, and then no area is changed. Where `answer` is too
+ * short that is 2 too, and nothing is changed. */
+uint32_t read_job(const uint8_t *bytes, size_t bytes_len, uint32_t *gates, size_t gates_len, uint32_t *given, size_t given_len,
+                  uint32_t *records, size_t records_len, size_t *answer, size_t answer_len);
+
+/* The file of a job. PLACER_JOB_BYTES bytes hold any; `answer` has at least PLACER_WRITE_LEN numbers.
+ *
+ * Returns 0, 11 where no file holds the job, 2 where the bytes are too few, and then they are unchanged. Where `answer` is too short that is
+ * 2 too, and nothing is changed. */
+uint32_t write_job(uint32_t height, const uint32_t *gates, size_t gates_len, const uint32_t *given, size_t given_len,
+                   const uint32_t *records, size_t records_len, uint8_t *bytes, size_t bytes_len, size_t *answer,
+                   size_t answer_len);
 
 #ifdef __cplusplus
 }

@@ -1,19 +1,46 @@
-//! Two of the scope document's bench examples at height 6. A build: pins 1 to 4 are leaves, 5 = (2, 4), 6 = (6, 9), 7 = (10, 12), output 14,
-//! under each word rule. A merge: the leaf outputs 2 and 4, a partition each, no extra stages.
+//! Two of the scope document's bench examples at height 6. Pins 1 to 4 are leaves, 5 = (2, 4), 6 = (6, 9), 7 = (10, 12), output 14: as a job
+//! file, which is read back, built and listed; and built under the rule that writes idle runs too, and with too few counts. A merge: the leaf
+//! outputs 2 and 4, a partition each, no extra stages.
 #[allow(dead_code)] // not all of it is shown
 #[path = "placer.rs"]
 mod placer;
 
-use placer::{build_by, merge, Areas, Groups, WordRule, EMPTY as E};
+use placer::{build, build_by, list_answer, merge, read_job, write_job, Areas, Groups, Refusal, WordRule, EMPTY as E};
 
-fn first(rule: WordRule) {
-    let gates = [E, E, E, E, E, E, E, E, E, E, 2, 4, 6, 9, 10, 12];
-    let (mut plan, mut words, mut counts, mut work) = ([0; 128], [0; 2], [0; 1], [0; 16 * 8 + 8 * 2 + 512]);
+const GATES: [u32; 16] = [E, E, E, E, E, E, E, E, E, E, 2, 4, 6, 9, 10, 12];
+const RECORDS: [u32; 2] = [1, 14];
+
+/// The file of the job, and the job of the file, which is built and listed.
+fn job() {
+    let mut file = [0; placer::JOB_BYTES];
+    let wrote = write_job(6, &GATES, &[], &RECORDS, &mut file);
+    println!("file of {} bytes", wrote.length);
+
+    let (mut gates, mut given, mut records) = ([0; placer::JOB_GATES], [0; placer::JOB_GIVEN], [0; placer::JOB_RECORDS]);
+    let read = read_job(&file[..wrote.length], &mut gates, &mut given, &mut records);
+    let (height, rooms) = (read.height, 4);
+    let (gates, given, records) = (&gates[..read.gates], &given[..read.given], &records[..read.records]);
+
+    let mut plan = vec![0; placer::plan_size(height, rooms)];
+    let mut words = vec![0; placer::words_size(height)];
+    let mut counts = vec![0; rooms];
+    let mut work = vec![0; placer::build_work_size(gates.len(), records.len())];
     let areas = Areas { plan: &mut plan, words: &mut words, counts: &mut counts, work: &mut work };
-    let answer = build_by(rule, 6, &gates, &[], &[1, 14], areas);
-    println!("rule {}: stages {} words {}", rule as u32, answer.stages, answer.words);
-    for (p, pin) in plan.iter().enumerate().filter(|(_, pin)| **pin != E) {
-        println!("{p} {pin}");
+    let built = build(height, gates, given, records, areas);
+
+    let mut out = vec![0; placer::listing_size(height, built.stages, built.words)];
+    let listed = list_answer(height, &built, &plan, &words, &counts, &mut out);
+    print!("{}", String::from_utf8_lossy(&out[..listed.length]));
+}
+
+/// The same by a word rule, with so many counts.
+fn first(rule: WordRule, counts: usize) {
+    let (mut plan, mut words, mut counts, mut work) = ([0; 128], [0; 2], vec![0; counts], [0; 16 * 8 + 8 * 2 + 512]);
+    let areas = Areas { plan: &mut plan, words: &mut words, counts: &mut counts, work: &mut work };
+    let answer = build_by(rule, 6, &GATES, &[], &RECORDS, areas);
+    match Refusal::of(answer.number) {
+        None => println!("rule {}: stages {} words {}", rule as u32, answer.stages, answer.words),
+        Some(refusal) => println!("rule {}: {refusal}", rule as u32),
     }
 }
 
@@ -28,7 +55,8 @@ fn merging() {
 }
 
 fn main() {
-    first(WordRule::NeededRuns);
-    first(WordRule::EveryRun);
+    job();
+    first(WordRule::EveryRun, 1);
+    first(WordRule::NeededRuns, 0);
     merging();
 }

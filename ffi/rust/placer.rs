@@ -1,8 +1,139 @@
-//! The placer, for Rust. Link `libentries.a`, which `rt staticlib entries` writes.
-//! No crate beyond `core` is needed. Where the gates are not in order a call takes up to 1 MiB of its thread's stack, else a few kilobytes.
+//! The placer, for Rust: builds, merges, folds, listings and job files. Link `libentries.a`, which `ffi/library` writes (x86-64, Linux).
+//! No crate beyond `core` is needed. Every function takes any numbers and slices, and answers or refuses; none panics.
+//!
+//! A room is the memory of one stage: `stage_size(height)` numbers of the plan and one of the counts. A build fills as many as it has stages.
+//! D + 1 rooms are enough, D the most gates on a way from an endpoint down to a leaf; with fewer a build may be refused with `NoRoom`.
+//!
+//! The library keeps nothing between calls, so threads may call it at once. Where the gates are not in order (a gate has an operand above it) a
+//! build, merge or fold takes up to 1 MiB of its thread's stack, else a few kilobytes.
+
+use core::fmt;
 
 /// An empty cell of a plan, an unused word, and each literal of a leaf.
 pub const EMPTY: u32 = u32::MAX;
+
+/// Why a call was refused. All but `OverReserved` to `NoRoom` leave every slice as it was; after those plan and words are `EMPTY`, counts and
+/// work 0.
+#[derive(Clone, Copy, Debug, PartialEq, Eq)]
+#[repr(u32)]
+pub enum Refusal {
+    /// The height is not 6 to 13.
+    NoHeight = 1,
+    /// A slice has the wrong size.
+    WrongSize = 2,
+    /// More than 65,535 pins, none at all, or a gate whose operands aren't above 0 and at most N; pin 0 is no gate.
+    WrongGraph = 3,
+    /// A record is of an unknown kind, cut, or names a pin above N; or there are more than 65,536 numbers of records.
+    WrongRecord = 4,
+    /// A given pin is above N.
+    WrongGiven = 5,
+    /// Memories and duplicate activations need more words than may be reserved.
+    OverReserved = 6,
+    /// The stage writes more words than are left.
+    OverWords = 7,
+    /// Level 1 has no cell for a needed pin of the stage, or none would stay empty.
+    NoCell = 8,
+    /// Pins wait, and no room is left for the stage.
+    NoRoom = 9,
+    /// A merge of no partitions or more than 1,024, a group index out of range, or more than 255 extra stages.
+    WrongGroups = 10,
+    /// The bytes are no job file, or no file holds the job.
+    NoJob = 11,
+    /// A loop of gates, given or not; the answer shows the smallest pin on any.
+    Loop = 23,
+}
+
+impl Refusal {
+    /// What a number that was answered says; 0, and a number that no call answers, is none.
+    pub const fn of(number: u32) -> Option<Refusal> {
+        Some(match number {
+            1 => Refusal::NoHeight,
+            2 => Refusal::WrongSize,
+            3 => Refusal::WrongGraph,
+            4 => Refusal::WrongRecord,
+            5 => Refusal::WrongGiven,
+            6 => Refusal::OverReserved,
+            7 => Refusal::OverWords,
+            8 => Refusal::NoCell,
+            9 => Refusal::NoRoom,
+            10 => Refusal::WrongGroups,
+            11 => Refusal::NoJob,
+            23 => Refusal::Loop,
+            _ => return None,
+        })
+    }
+
+    /// A line for people.
+    pub const fn describe(self) -> &'static str {
+        match self {
+            Refusal::NoHeight => "the height is not 6 to 13",
+            Refusal::WrongSize => "a lent area has the wrong size",
+            Refusal::WrongGraph => "the number of pins or a gate breaks the rules",
+            Refusal::WrongRecord => "a record is unknown, cut, over size or names a pin above N",
+            Refusal::WrongGiven => "a given pin is above N",
+            Refusal::OverReserved => "more words to reserve than may be",
+            Refusal::OverWords => "the stage writes more words than are left",
+            Refusal::NoCell => "level 1 has no cell left for a pin of the stage",
+            Refusal::NoRoom => "no room is left for the stage",
+            Refusal::WrongGroups => "the partitions, group indices or extra stages of a merge",
+            Refusal::NoJob => "no job file, or no file for the job",
+            Refusal::Loop => "a loop of gates",
+        }
+    }
+}
+
+impl fmt::Display for Refusal {
+    fn fmt(&self, f: &mut fmt::Formatter<'_>) -> fmt::Result {
+        write!(f, "refused {}: {}", *self as u32, self.describe())
+    }
+}
+
+// Sizes, in elements. What does not fit is `usize::MAX`, which no memory has; so is any size for a height that is none.
+
+/// A stage, which is a room of the plan.
+pub const fn stage_size(height: u32) -> usize {
+    if height < 6 || height > 13 { usize::MAX } else { 2 << height }
+}
+
+/// The plan for so many rooms; counts have a number a room.
+pub const fn plan_size(height: u32, rooms: usize) -> usize {
+    rooms.saturating_mul(stage_size(height))
+}
+
+/// The least size of the words.
+pub const fn words_size(height: u32) -> usize {
+    if height < 6 || height > 13 { usize::MAX } else { 1 << (height - 5) }
+}
+
+/// The least size of a build's work, by the lengths of gates and records.
+pub const fn build_work_size(gates: usize, records: usize) -> usize {
+    (gates / 2).saturating_mul(16).saturating_add(records.saturating_mul(8)).saturating_add(512)
+}
+
+/// The least size of a merge's work, by the lengths of gates, records, indices and lengths.
+pub const fn merge_work_size(gates: usize, records: usize, indices: usize, lengths: usize) -> usize {
+    build_work_size(gates, records).saturating_add(indices.saturating_add(lengths).saturating_mul(8))
+}
+
+/// The least size of a fold's work and of its bits, by the length of gates. Its result has at least the plan's.
+pub const fn fold_work_size(gates: usize) -> usize {
+    gates / 2
+}
+
+/// Bytes that hold any listing of so many stages and words, and any refusal's line: 17 a position, 11 a word, and what stands around them.
+pub const fn listing_size(height: u32, stages: usize, words: usize) -> usize {
+    let stage = stage_size(height).saturating_mul(17).saturating_add(48);
+    stages.saturating_mul(stage).saturating_add(words.saturating_mul(11)).saturating_add(64)
+}
+
+/// No job file has more bytes.
+pub const JOB_BYTES: usize = 8192;
+/// No job of a file has more numbers of gates,
+pub const JOB_GATES: usize = 1002;
+/// of given pins,
+pub const JOB_GIVEN: usize = 4096;
+/// and of records.
+pub const JOB_RECORDS: usize = 512;
 
 /// Which sparse runs rule 8 writes once nothing is untouched, by the numbers that the entries know them by.
 #[derive(Clone, Copy, Debug, PartialEq, Eq)]
@@ -54,6 +185,30 @@ pub struct Groups<'a> {
     pub stages: &'a mut [u32],
 }
 
+/// The numbers that a fold answers: 0, or what refuses it; with 23 the smallest pin on any loop.
+#[derive(Clone, Copy, Debug, PartialEq, Eq)]
+pub struct Folded {
+    pub number: u32,
+    pub pin: usize,
+}
+
+/// The numbers that a listing and a job file answer: 0 and how many bytes were written, or what refuses it and 0.
+#[derive(Clone, Copy, Debug, PartialEq, Eq)]
+pub struct Written {
+    pub number: u32,
+    pub length: usize,
+}
+
+/// The numbers that reading a job file answers: 0, the height and how many numbers each slice has of the job; or what refuses it and 0.
+#[derive(Clone, Copy, Debug, PartialEq, Eq)]
+pub struct Job {
+    pub number: u32,
+    pub height: u32,
+    pub gates: usize,
+    pub given: usize,
+    pub records: usize,
+}
+
 #[rustfmt::skip]
 extern "C" {
     fn placer_build_by(
@@ -83,6 +238,50 @@ extern "C" {
         words: *mut u32, words_len: usize,
         counts: *mut u32, counts_len: usize,
         work: *mut u32, work_len: usize,
+        answer: *mut usize, answer_len: usize,
+    ) -> u32;
+
+    fn fold_plan(
+        height: u32,
+        plan: *const u32, plan_len: usize,
+        gates: *const u32, gates_len: usize,
+        given: *const u32, given_len: usize,
+        bits: *const u32, bits_len: usize,
+        result: *mut u32, result_len: usize,
+        work: *mut u32, work_len: usize,
+        answer: *mut usize, answer_len: usize,
+    ) -> u32;
+
+    #[link_name = "list_answer"]
+    fn list_answer_entry(
+        height: u32,
+        number: u32,
+        stages: usize,
+        stage: usize,
+        pin: u32,
+        plan: *const u32, plan_len: usize,
+        words: *const u32, words_len: usize,
+        counts: *const u32, counts_len: usize,
+        out: *mut u8, out_len: usize,
+        answer: *mut usize, answer_len: usize,
+    ) -> u32;
+
+    #[link_name = "read_job"]
+    fn read_job_entry(
+        bytes: *const u8, bytes_len: usize,
+        gates: *mut u32, gates_len: usize,
+        given: *mut u32, given_len: usize,
+        records: *mut u32, records_len: usize,
+        answer: *mut usize, answer_len: usize,
+    ) -> u32;
+
+    #[link_name = "write_job"]
+    fn write_job_entry(
+        height: u32,
+        gates: *const u32, gates_len: usize,
+        given: *const u32, given_len: usize,
+        records: *const u32, records_len: usize,
+        bytes: *mut u8, bytes_len: usize,
         answer: *mut usize, answer_len: usize,
     ) -> u32;
 }
@@ -146,4 +345,80 @@ pub fn merge_by(rule: WordRule, height: u32, gates: &[u32], given: &[u32], recor
     };
     let [_, stages, words, stage, partitions, trials, refused, pin] = answer;
     Merged { number, stages, words, stage, partitions, trials, refused, pin }
+}
+
+/// Folds any plan, for the bits of leaves and given pins (a number a pin from pin 0 on, 0 or not 0), to 0 or 1 a position. The work is 0
+/// afterwards.
+pub fn fold(height: u32, plan: &[u32], gates: &[u32], given: &[u32], bits: &[u32], result: &mut [u32], work: &mut [u32]) -> Folded {
+    let mut answer = [0usize; 2];
+    // SAFETY: as for `build_by`.
+    let number = unsafe {
+        fold_plan(
+            height,
+            plan.as_ptr(), plan.len(),
+            gates.as_ptr(), gates.len(),
+            given.as_ptr(), given.len(),
+            bits.as_ptr(), bits.len(),
+            result.as_mut_ptr(), result.len(),
+            work.as_mut_ptr(), work.len(),
+            answer.as_mut_ptr(), answer.len(),
+        )
+    };
+    Folded { number, pin: answer[1] }
+}
+
+/// The text of what a build answered and left, to the front of `out`: the listing of its plan, or a refusal's line. `listing_size` bytes are
+/// enough; where they are too few the text is refused with 2, and `out` is as it was.
+pub fn list_answer(height: u32, built: &Answer, plan: &[u32], words: &[u32], counts: &[u32], out: &mut [u8]) -> Written {
+    let mut answer = [0usize; 2];
+    // SAFETY: as for `build_by`.
+    let number = unsafe {
+        list_answer_entry(
+            height,
+            built.number,
+            built.stages,
+            built.stage,
+            built.pin as u32, // a pin is at most 65,535
+            plan.as_ptr(), plan.len(),
+            words.as_ptr(), words.len(),
+            counts.as_ptr(), counts.len(),
+            out.as_mut_ptr(), out.len(),
+            answer.as_mut_ptr(), answer.len(),
+        )
+    };
+    Written { number, length: answer[1] }
+}
+
+/// The job of a file's bytes, to the front of the slices. `JOB_GATES`, `JOB_GIVEN` and `JOB_RECORDS` numbers hold any.
+pub fn read_job(bytes: &[u8], gates: &mut [u32], given: &mut [u32], records: &mut [u32]) -> Job {
+    let mut answer = [0usize; 5];
+    // SAFETY: as for `build_by`.
+    let number = unsafe {
+        read_job_entry(
+            bytes.as_ptr(), bytes.len(),
+            gates.as_mut_ptr(), gates.len(),
+            given.as_mut_ptr(), given.len(),
+            records.as_mut_ptr(), records.len(),
+            answer.as_mut_ptr(), answer.len(),
+        )
+    };
+    let [_, height, gates, given, records] = answer;
+    Job { number, height: height as u32, gates, given, records } // a height is at most 10
+}
+
+/// The file of a job, to the front of `bytes`. `JOB_BYTES` bytes hold any.
+pub fn write_job(height: u32, gates: &[u32], given: &[u32], records: &[u32], bytes: &mut [u8]) -> Written {
+    let mut answer = [0usize; 2];
+    // SAFETY: as for `build_by`.
+    let number = unsafe {
+        write_job_entry(
+            height,
+            gates.as_ptr(), gates.len(),
+            given.as_ptr(), given.len(),
+            records.as_ptr(), records.len(),
+            bytes.as_mut_ptr(), bytes.len(),
+            answer.as_mut_ptr(), answer.len(),
+        )
+    };
+    Written { number, length: answer[1] }
 }

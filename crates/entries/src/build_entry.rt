@@ -1,33 +1,17 @@
 // The entries of a build.
+use crate::answers::tell;
 use columns::wide;
-use graph::Pin;
-use placer::Answer;
 use placer::build_by;
 use refusals::WRONG_SIZE;
 use stage_runs::MaybeRule;
 use stage_runs::WordRule;
 use stage_runs::rule_named;
 ghost use mathlib.Core.Path.{_≡_};
-ghost use Prim.Native.Nat.{_≤_};
-ghost use lib.ListN.{length};
 ghost use Rattle.rules.specs.Traversal.{neededRuns};
 ghost use Rattle.stage_runs.specs.Rule.{ruleOf, ruleFor};
-ghost use Rattle.placer.specs.Answers.{told, areas};
-ghost use Rattle.entries.specs.Build.{entry, written, entered, NoRule, enteredBy};
-
-// Number, stages, words, refused stage and shown pin in the first five numbers of `answer`.
-fn write(a: Answer, answer: &mut [usize])
-    requires { ⌜ 5 ≤ length (now answer) ⌝ }
-    ensures { λ _. ⌜ now (answer .exit) ≡ written (told a) (now (answer .entry)) ⌝ }
-{
-    let pin = a.pin;
-    let shown = pin.index();
-    answer[0] = wide(a.number);
-    answer[1] = a.stages;
-    answer[2] = a.words;
-    answer[3] = a.stage;
-    answer[4] = shown;
-}
+ghost use Rattle.placer.specs.Answers.{areas};
+ghost use Rattle.entries.specs.Entry.{entry};
+ghost use Rattle.entries.specs.Build.{built, builtBy};
 
 fn enter(
     rule: WordRule,
@@ -41,7 +25,7 @@ fn enter(
     work: &mut [u32],
     answer: &mut [usize],
 ) -> u32
-    ensures { λ r. ⌜ entry r (now (plan .exit)) (now (words .exit)) (now (counts .exit)) (now (work .exit)) (now (answer .exit)) ≡ entered (ruleOf rule) height (now (gates .entry)) (now (given .entry)) (now (records .entry)) (areas (now (plan .entry)) (now (words .entry)) (now (counts .entry)) (now (work .entry))) (now (answer .entry)) ⌝ }
+    ensures { λ r. ⌜ entry r (areas (now (plan .exit)) (now (words .exit)) (now (counts .exit)) (now (work .exit))) (now (answer .exit)) ≡ built (ruleOf rule) height (now (gates .entry)) (now (given .entry)) (now (records .entry)) (areas (now (plan .entry)) (now (words .entry)) (now (counts .entry)) (now (work .entry))) (now (answer .entry)) ⌝ }
 {
     if answer.len() < 5 {
         return WRONG_SIZE;
@@ -57,7 +41,10 @@ fn enter(
         counts,
         work,
     );
-    write(a, answer);
+    let pin = a.pin;
+    let shown = pin.index();
+    let numbers = [wide(a.number), a.stages, a.words, a.stage, shown];
+    tell(&numbers, answer);
     a.number
 }
 
@@ -75,7 +62,7 @@ pub extern "C" fn placer_build(
     work: &mut [u32],
     answer: &mut [usize],
 ) -> u32
-    ensures { λ r. ⌜ entry r (now (plan .exit)) (now (words .exit)) (now (counts .exit)) (now (work .exit)) (now (answer .exit)) ≡ entered neededRuns height (now (gates .entry)) (now (given .entry)) (now (records .entry)) (areas (now (plan .entry)) (now (words .entry)) (now (counts .entry)) (now (work .entry))) (now (answer .entry)) ⌝ }
+    ensures { λ r. ⌜ entry r (areas (now (plan .exit)) (now (words .exit)) (now (counts .exit)) (now (work .exit))) (now (answer .exit)) ≡ built neededRuns height (now (gates .entry)) (now (given .entry)) (now (records .entry)) (areas (now (plan .entry)) (now (words .entry)) (now (counts .entry)) (now (work .entry))) (now (answer .entry)) ⌝ }
 {
     enter(
         WordRule::NeededRuns,
@@ -89,26 +76,6 @@ pub extern "C" fn placer_build(
         work,
         answer,
     )
-}
-
-// The answer where no rule is named: 2.
-fn no_rule(answer: &mut [usize]) -> u32
-    ensures { λ r. ⌜ NoRule r (now (answer .entry)) (now (answer .exit)) ⌝ }
-{
-    if answer.len() < 5 {
-        return WRONG_SIZE;
-    }
-    write(
-        Answer {
-            number: WRONG_SIZE,
-            stages: 0,
-            words: 0,
-            stage: 0,
-            pin: Pin(0),
-        },
-        answer,
-    );
-    WRONG_SIZE
 }
 
 // The same by the number of a word rule, 0 or 1; another number gives 2 before anything else.
@@ -125,10 +92,14 @@ pub extern "C" fn placer_build_by(
     work: &mut [u32],
     answer: &mut [usize],
 ) -> u32
-    ensures { λ r. ⌜ entry r (now (plan .exit)) (now (words .exit)) (now (counts .exit)) (now (work .exit)) (now (answer .exit)) ≡ enteredBy (ruleFor rule) height (now (gates .entry)) (now (given .entry)) (now (records .entry)) (areas (now (plan .entry)) (now (words .entry)) (now (counts .entry)) (now (work .entry))) (now (answer .entry)) ⌝ }
+    ensures { λ r. ⌜ entry r (areas (now (plan .exit)) (now (words .exit)) (now (counts .exit)) (now (work .exit))) (now (answer .exit)) ≡ builtBy (ruleFor rule) height (now (gates .entry)) (now (given .entry)) (now (records .entry)) (areas (now (plan .entry)) (now (words .entry)) (now (counts .entry)) (now (work .entry))) (now (answer .entry)) ⌝ }
 {
     match rule_named(rule) {
-        MaybeRule::Unknown => no_rule(answer),
+        MaybeRule::Unknown => {
+            let numbers = [wide(WRONG_SIZE), 0, 0, 0, 0];
+            tell(&numbers, answer);
+            WRONG_SIZE
+        }
         MaybeRule::Named(asked) => enter(
             asked,
             height,

@@ -1,3 +1,4 @@
 pub mod Fits
 pub mod Sections
 pub mod Answers
+pub mod Unique

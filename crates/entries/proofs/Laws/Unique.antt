@@ -1,0 +1,40 @@
+-- Any two outcomes that the promise of an entry allows are the same: number, areas and answer. Assumes nothing.
+use Prim.Native.Nat.{ℕ}
+use mathlib.Core.List.{List}
+use mathlib.Core.Path.{_≡_, sym, ap, _∙_}
+use Rattle.rules.specs.Build.{Areas}
+use Rattle.placer.specs.Answers.{areas}
+use Rattle.merge_checks.specs.Values as merge
+use Rattle.entries.specs.Entry.{Entry, entry}
+use Rattle.entries.specs.Merge.{Lent, lent}
+use Rattle.entries.specs.Jobs.{Lists, lists}
+
+-- of any entry, its areas as one value: `list_answer` and `write_job` lend one area
+pub one-outcome : {A : Type 0} (o : Entry A) (n n′ : ℕ) (a a′ : A) (xs xs′ : List ℕ) → entry n a xs ≡ o → entry n′ a′ xs′ ≡ o → (n ≡ n′) × (a ≡ a′) × (xs ≡ xs′)
+unfolding entry
+one-outcome {A} o n n′ a a′ xs xs′ d e =
+    let s : entry n a xs ≡ entry n′ a′ xs′ = d ∙ sym e in
+    (ap (λ (x : Entry A). x .number) s, ap (λ (x : Entry A). x .areas) s, ap (λ (x : Entry A). x .answer) s)
+
+-- the areas of `placer_build` and `placer_build_by`, one by one
+pub one-areas : (pl ws cs w pl′ ws′ cs′ w′ : List ℕ) → areas pl ws cs w ≡ areas pl′ ws′ cs′ w′ → (pl ≡ pl′) × (ws ≡ ws′) × (cs ≡ cs′) × (w ≡ w′)
+unfolding areas
+one-areas pl ws cs w pl′ ws′ cs′ w′ s = (ap (λ (x : Areas). x .plan) s, ap (λ (x : Areas). x .words) s, ap (λ (x : Areas). x .counts) s, ap (λ (x : Areas). x .work) s)
+
+-- what is lent to `merge_partitions` and `merge_partitions_by`
+pub one-lent : (xs ls st pl ws cs w xs′ ls′ st′ pl′ ws′ cs′ w′ : List ℕ) → lent xs ls st pl ws cs w ≡ lent xs′ ls′ st′ pl′ ws′ cs′ w′ → (xs ≡ xs′) × (ls ≡ ls′) × (st ≡ st′) × (pl ≡ pl′) × (ws ≡ ws′) × (cs ≡ cs′) × (w ≡ w′)
+unfolding lent merge.groupList merge.areas
+one-lent xs ls st pl ws cs w xs′ ls′ st′ pl′ ws′ cs′ w′ s = (
+  ap (λ (x : Lent). x .groups .indices) s,
+  ap (λ (x : Lent). x .groups .lengths) s,
+  ap (λ (x : Lent). x .groups .stages) s,
+  ap (λ (x : Lent). x .areas .plan) s,
+  ap (λ (x : Lent). x .areas .words) s,
+  ap (λ (x : Lent). x .areas .counts) s,
+  ap (λ (x : Lent). x .areas .work) s,
+)
+
+-- the areas of `read_job`
+pub one-lists : (g v c g′ v′ c′ : List ℕ) → lists g v c ≡ lists g′ v′ c′ → (g ≡ g′) × (v ≡ v′) × (c ≡ c′)
+unfolding lists
+one-lists g v c g′ v′ c′ s = (ap (λ (x : Lists). x .gates) s, ap (λ (x : Lists). x .given) s, ap (λ (x : Lists). x .records) s)
