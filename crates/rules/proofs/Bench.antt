@@ -33,17 +33,20 @@ abbrev right : List Row → Bool
 right [] = true
 right (r ∷ rs) = sameLists (r .gives) (r .says) && right rs
 
--- graphs and records as they are lent
-abbrev leaves : ℕ → List ℕ
+-- graphs and records as they are lent: n leaves
+abbrev pub leaves : ℕ → List ℕ
 leaves n = replicate (2 * suc n) empty
 
-abbrev outputs : List ℕ → List ℕ
+-- primary outputs of some literals
+abbrev pub outputs : List ℕ → List ℕ
 outputs ls = gather (λ l. 1 ∷ l ∷ []) ls
 
-abbrev first : List ℕ
+-- 5 = (2, 4), 6 = (6, 9), 7 = (10, 12)
+abbrev pub first : List ℕ
 first = leaves 4 ++ (2 ∷ 4 ∷ 6 ∷ 9 ∷ 10 ∷ 12 ∷ [])
 
-abbrev chain : List ℕ
+-- 9 = (2, 4), 10 = (18, 6), and so on to 15 = (28, 16)
+abbrev pub chain : List ℕ
 chain = leaves 8 ++ (2 ∷ 4 ∷ 18 ∷ 6 ∷ 20 ∷ 8 ∷ 22 ∷ 10 ∷ 24 ∷ 12 ∷ 26 ∷ 14 ∷ 28 ∷ 16 ∷ [])
 
 -- from the output down: 1 = (6, 4), 2 = (12, 15), 3 = (8, 10), pins 4-7 leaves
@@ -59,7 +62,7 @@ abbrev own : List ℕ
 own = leaves 1 ++ (2 ∷ 4 ∷ [])
 
 -- r rooms and a work area that counts at n, full of sevens, each area but the plan with a number past its size
-abbrev sevens : ℕ → ℕ → ℕ → Areas
+abbrev pub sevens : ℕ → ℕ → ℕ → Areas
 sevens K r n = record {
   plan = replicate (r * stageSize K) 7;
   words = replicate (suc (wordLimit K)) 7;

@@ -2,3 +2,4 @@ pub mod Lengths
 pub mod Words
 pub mod Bounds
 pub mod Rules
+pub mod Counted

@@ -11,7 +11,7 @@ use borrow.Author.Tests.{ltb-true, ltb-false}
 use Rattle.rules.specs.Lists.{mem, keep, insertAll, In, Sub, Once, nobody}
 use Rattle.rules.specs.Cells.{filled, empty, wordLimit}
 use Rattle.rules.specs.Graph.{Node, leaf, gate, pinOf, operands, below, ownBit, value}
-use Rattle.rules.specs.Loops.{loopless, Valid}
+use Rattle.rules.specs.Loops.{Valid}
 use Rattle.rules.specs.Records.{Group, endpointsOf, waitingOf, Ends, first, later}
 use Rattle.rules.specs.Reservation.{reservable, reserved}
 use Rattle.rules.specs.Traversal.{WordRule, everyRun, neededRuns, over, Setting, setting, levelAt}
@@ -19,6 +19,7 @@ use Rattle.rules.specs.Placing.{filledPlan, tree}
 use Rattle.rules.specs.Ending.{stage, oneStage}
 use Rattle.rules.specs.Build.{Stage, refusal, whole, stages, build}
 use Rattle.rules.specs.States.{state, after}
+use Rattle.rules.specs.Capacity.{Refused}
 use Rattle.rules.specs.Depth.{depth, remaining}
 use Rattle.rules.specs.Fold.{bitAt, isLeaf, firstLoad, loadFrom}
 use Rattle.rules.proofs.Lists.Members.{split, T→true, in-here, in-there, in-cons, in-nil, in-append-right, in-insertAll, in-insertAll-old, insertAll-in, keep-in, in-keep}
@@ -40,6 +41,7 @@ use Rattle.rules.proofs.Written.Writes.{Written, all-written, more-whol
 use Rattle.rules.proofs.Build.Bounds as bounds
 use Rattle.rules.proofs.Build.Bounds.{Few}
 use Rattle.rules.proofs.Build.Rules.{build-no-more}
+use Rattle.rules.proofs.Build.Counted as counted
 
 operand-in : (g : List Node) → Valid g → (x : Node) (p q : ℕ) → getD g p leaf ≡ x → In q (operands x) → q < length g
 unfolding operands
@@ -232,6 +234,14 @@ module _ (rule : WordRule) (K : ℕ) (g : List Node) (ok : Valid g) (tall : 6 �
     rooms-enough rooms n j b e = split (reservable K groups)
         (λ c. inr (rooms-suffice rule K g r G tall small rooms 1 given waiting ready (wordLimit K - reserved groups) (inr (omega (arith, given-less))) n j (rw (c, build) at e)))
         (λ c. let d : refusal 6 0 ≡ refusal n j = rw (c, build) at e in inl (cc))
+
+    -- a refused build has run out of capacity
+    pub refused-where : (rooms n k : ℕ) → build rule K g given groups rooms ≡ refusal n k → Refused rule K g given groups rooms n k
+    refused-where = counted.refused-where rule K g r G tall small given groups ready
+
+    -- and where it runs out of capacity it is refused
+    pub refusal-given : (rooms : ℕ) {n k : ℕ} → Refused rule K g given groups rooms n k → build rule K g given groups rooms ≡ refusal n k
+    refusal-given = counted.refusal-given rule K g r G tall small given groups ready
 
     whole-stages : (rooms : ℕ) (ss : List Stage) → build rule K g given groups rooms ≡ whole ss → stages rule K g rooms 1 given waiting (wordLimit K - reserved groups) ≡ whole ss
     unfolding build

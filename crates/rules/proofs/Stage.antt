@@ -6,6 +6,7 @@ pub mod Runs
 pub mod Flat
 pub mod Fuel
 pub mod Over
+pub mod Crowd
 pub mod Depth
 pub mod Same
 pub mod Under

@@ -1,46 +1,46 @@
--- Where the rules run out of capacity: what the refusals 6, 7, 8 and 9 say. Assumes nothing.
-use Prim.Native.Nat.{ℕ, suc, _+_, _*_, _≤_, _<_}
+-- Where the rules run out of capacity: what a person counts for the refusals 6, 7, 8 and 9. Assumes nothing.
+use Prim.Native.Nat.{ℕ, suc, _+_, _-_, _*_, _≤_, _<_}
 use mathlib.Core.Path.{_≡_}
 use mathlib.Core.Logic.{_≢_}
 use mathlib.Core.List.{List, []}
 use lib.ListN.{length}
-use Rattle.rules.specs.Lists.{nothing}
-use Rattle.rules.specs.Cells.{wordLimit, row, firstEmpty}
+use Rattle.rules.specs.Lists.{count}
+use Rattle.rules.specs.Cells.{filled, levelOneSize, wordLimit, row}
 use Rattle.rules.specs.Graph.{Node}
 use Rattle.rules.specs.Records.{Group}
 use Rattle.rules.specs.Reservation.{memories, duplicates, reserved}
 use Rattle.rules.specs.Traversal.{WordRule, Setting, setting}
-use Rattle.rules.specs.Placing.{filledPlan}
-use Rattle.rules.specs.Ending.{full, plan, written, rest}
-use Rattle.rules.specs.States.{state, after}
+use Rattle.rules.specs.Placing.{neededOf, filledPlan}
+use Rattle.rules.specs.Ending.{written}
+use Rattle.rules.specs.Build.{wordsOf}
+use Rattle.rules.specs.States.{state, after, firstStages}
 
 -- 6: no word would be left, or 4m + d exceeds W
 pub data ReservationOver (K : ℕ) (groups : List Group) : Type 0 where
   no-word-left : wordLimit K ≤ reserved groups → ReservationOver K groups
   over-limit : wordLimit K < 4 * memories groups + duplicates groups → ReservationOver K groups
 
--- level 1 has no cell for a needed pin, or none stays empty
-pub data LevelOneFull (X : Setting) (pl : List ℕ) : Type 0 where
-  no-cell : rest X pl ≡ full → LevelOneFull X pl
-  none-empty : (pl2 : List ℕ) → rest X pl ≡ plan pl2 → firstEmpty 0 (row (X .K) 1 pl2) ≡ nothing → LevelOneFull X pl
+-- the level-1 cells filled plus the needed pins of a plan
+unfoldable pub crowd : Setting → List ℕ → ℕ
+crowd X pl = count filled (row (X .K) 1 pl) + length (neededOf X pl)
 
--- a stage with so many words left and the plan of rules 2 to 7. 7: what rule 8 writes exceeds them. 8: it doesn't, and level 1 is full
-pub data StageOver (X : Setting) (room : ℕ) (pl : List ℕ) : ℕ → Type 0 where
-  seven : room < length (written X pl .words) → StageOver X room pl 7
-  eight : length (written X pl .words) ≤ room → LevelOneFull X pl → StageOver X room pl 8
+-- a stage with the plan of rules 2 to 7, where `spent` words are written in the stages before it. 7: with what rule 8 writes they exceed the
+-- limit. 8: they don't, and the level-1 cells filled plus the needed pins are at least 2^(K-1)
+pub data StageOver (X : Setting) (limit spent : ℕ) (pl : List ℕ) : ℕ → Type 0 where
+  seven : limit < spent + length (written X pl .words) → StageOver X limit spent pl 7
+  eight : spent + length (written X pl .words) ≤ limit → levelOneSize (X .K) ≤ crowd X pl → StageOver X limit spent pl 8
 
--- what stops a build with so many rooms after s completed stages, while pins wait: no room is left, or the next stage is over
-pub data Stops (rule : WordRule) (K : ℕ) (g : List Node) (rooms s : ℕ) (done waiting : List ℕ) (room : ℕ) : ℕ → Type 0 where
-  nine : s ≡ rooms → Stops rule K g rooms s done waiting room 9
-  over : {n : ℕ} → s < rooms → StageOver (setting rule K g done waiting) room (filledPlan (setting rule K g done waiting)) n → Stops rule K g rooms s done waiting room n
-
--- a build is refused in stage k with number n
-pub record Refused (rule : WordRule) (K : ℕ) (g : List Node) (given : List ℕ) (groups : List Group) (rooms n k : ℕ) : Type 0 where
-  pub s : ℕ
-  pub done : List ℕ
-  pub waiting : List ℕ
+-- s stages of a build are completed, and pins still wait
+pub record Waits (rule : WordRule) (K : ℕ) (g : List Node) (given : List ℕ) (groups : List Group) (s : ℕ) (done waiting : List ℕ) : Type 0 where
   pub room : ℕ
   pub completed : after rule K g given groups s ≡ state done waiting room
   pub wait : waiting ≢ []
-  pub stage : k ≡ suc s
-  pub stops : Stops rule K g rooms s done waiting room n
+
+-- why a build with so many rooms is refused, by number and stage. 6: the reservation is over. 7, 8: s stages are completed, pins wait, a room is
+-- left, and the next stage is over. 9: pins wait after as many completed stages as there are rooms
+pub data Refused (rule : WordRule) (K : ℕ) (g : List Node) (given : List ℕ) (groups : List Group) (rooms : ℕ) : ℕ → ℕ → Type 0 where
+  six : ReservationOver K groups → Refused rule K g given groups rooms 6 0
+  over : {n s : ℕ} {done waiting : List ℕ} → Waits rule K g given groups s done waiting → s < rooms →
+      StageOver (setting rule K g done waiting) (wordLimit K - reserved groups) (length (wordsOf (firstStages rule K g given groups s))) (filledPlan (setting rule K g done waiting)) n →
+      Refused rule K g given groups rooms n (suc s)
+  nine : {s : ℕ} {done waiting : List ℕ} → Waits rule K g given groups s done waiting → s ≡ rooms → Refused rule K g given groups rooms 9 (suc s)

@@ -1,7 +1,7 @@
 -- The same for the code: what the contracts of `placer::build` and `fold::fold` say, by the theorems. Assumes nothing.
 use Prim.Native.Nat.{ℕ, zero, suc, _+_, _*_, _<_}
 use mathlib.Core.Path.{_≡_, refl, sym, _∙_, ap}
-use mathlib.Core.Logic.{_⊎_, inl, inr}
+use mathlib.Core.Logic.{_⊎_, inl, inr, _≢_}
 use mathlib.Core.List.{List, _++_, append-assoc}
 use native.Mathlib.Omega.{arith}
 use native.Mathlib.Nat.{mul-le-mul-right, suc-mul}
@@ -19,9 +19,9 @@ use Rattle.rules.proofs.Stage.Staged.{two-step}
 use Rattle.rules.proofs.Build.Lengths.{length-fold}
 use Rattle.placer.specs.declared.Answer.{Answer}
 use Rattle.placer.specs.Answers.{told, areas, outcome}
-use Rattle.theorems.specs.Inputs.{Input, D, built}
+use Rattle.theorems.specs.Inputs.{Input, D, built, Refused}
 use Rattle.theorems.specs.Reading.{Read}
-use Rattle.theorems.proofs.Rooms.{rooms-enough}
+use Rattle.theorems.proofs.Rooms.{rooms-enough, refused-where, refusal-given}
 use Rattle.theorems.proofs.Reading.{endpoints-read}
 
 -- a call of `build`, by its contract
@@ -116,6 +116,28 @@ enough C e h = told-enough (built (input C e) (roomsOf C)) refl (answered C e)
     told-enough : (b : rules.Answer) → built (input C e) (roomsOf C) ≡ b → Told C b → (C .answer .number ≡ 0) ⊎ ((C .answer .number ≡ 6) ⊎ ((C .answer .number ≡ 7) ⊎ (C .answer .number ≡ 8)))
     told-enough (rules.refusal n k) d t = let a : C .answer .number ≡ n = ap (λ (r : rules.Reply). r .number) (t .reply) in rw a (inr (rooms-enough (input C e) (roomsOf C) h n k d))
     told-enough (rules.whole ss) d t = inl (ap (λ (r : rules.Reply). r .number) (t .reply))
+
+-- ---- refusals
+
+-- An answer of 6, 7, 8 or 9 means these counts, which `refused-where` says in words: of an input that passes the checks, any answer but 0 is
+-- such a number, with its stage, and the counts behind it are over.
+pub refused-counts : (C : Call) (e : checked C ≡ 0) → C .answer .number ≢ 0 → Refused (input C e) (roomsOf C) (C .answer .number) (C .answer .stage)
+unfolding told rules.reply rules.refuse
+refused-counts C e z = told-refused (built (input C e) (roomsOf C)) refl (answered C e)
+  where
+    told-refused : (b : rules.Answer) → built (input C e) (roomsOf C) ≡ b → Told C b → Refused (input C e) (roomsOf C) (C .answer .number) (C .answer .stage)
+    told-refused (rules.refusal n k) d t =
+        let a : C .answer .number ≡ n = ap (λ (r : rules.Reply). r .number) (t .reply) in
+        let b : C .answer .stage ≡ k = ap (λ (r : rules.Reply). r .stage) (t .reply) in
+        rw (a, b) (refused-where (input C e) (roomsOf C) n k d)
+    told-refused (rules.whole ss) d t = absurd (z (ap (λ (r : rules.Reply). r .number) (t .reply)))
+
+-- And where these counts are over, the call answers with that number and stage.
+pub counts-refused : (C : Call) (e : checked C ≡ 0) (n k : ℕ) → Refused (input C e) (roomsOf C) n k → (C .answer .number ≡ n) × (C .answer .stage ≡ k)
+unfolding told rules.reply rules.refuse
+counts-refused C e n k h =
+    let t : told (C .answer) ≡ rules.reply (rules.refusal n k) = rw (refusal-given (input C e) (roomsOf C) n k h) at (answered C e .reply) in
+    (ap (λ (r : rules.Reply). r .number) t, ap (λ (r : rules.Reply). r .stage) t)
 
 -- ---- reading
 

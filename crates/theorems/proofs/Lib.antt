@@ -7,3 +7,4 @@ pub mod Writing
 pub mod Reading
 pub mod Calls
 pub mod Rules
+pub mod Frauds

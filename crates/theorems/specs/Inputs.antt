@@ -10,6 +10,7 @@ use Rattle.rules.specs.Traversal.{WordRule}
 use Rattle.rules.specs.Checks.{refusalOf}
 use Rattle.rules.specs.Build as build
 use Rattle.rules.specs.States as states
+use Rattle.rules.specs.Capacity as capacity
 use Rattle.rules.specs.Depth as depth
 
 -- under either word rule; `sized` says whether every lent area has a right size
@@ -47,6 +48,14 @@ built I rooms = build.build (I .rule) (I .K) (graph I) (I .given) (groups I) roo
 -- where it stands after s completed stages
 abbrev pub after : Input → ℕ → states.State
 after I s = states.after (I .rule) (I .K) (graph I) (I .given) (groups I) s
+
+-- the s stages completed until then
+abbrev pub firstStages : Input → ℕ → List build.Stage
+firstStages I s = states.firstStages (I .rule) (I .K) (graph I) (I .given) (groups I) s
+
+-- why it is refused with so many rooms, by number and stage
+abbrev pub Refused : Input → (rooms n k : ℕ) → Type 0
+Refused I rooms n k = capacity.Refused (I .rule) (I .K) (graph I) (I .given) (groups I) rooms n k
 
 -- the graph value of a pin, for any leaf and given bits
 abbrev pub graphValue : Input → List ℕ → ℕ → Bool

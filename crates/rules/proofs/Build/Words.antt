@@ -21,7 +21,8 @@ pub answer-cases : {P : Type 0} (a : Answer) → ((n k : ℕ) → a ≡ refusal 
 answer-cases (refusal n k) f h = f n k refl
 answer-cases (whole ss) f h = h ss refl
 
-more-is : (s : Stage) (a : Answer) (ss : List Stage) → more s a ≡ whole ss → (ts : List Stage) × (a ≡ whole ts) × (ss ≡ s ∷ ts)
+-- a whole plan with a stage in front has it first
+pub more-is : (s : Stage) (a : Answer) (ss : List Stage) → more s a ≡ whole ss → (ts : List Stage) × (a ≡ whole ts) × (ss ≡ s ∷ ts)
 unfolding more
 more-is s (refusal n k) ss e = absurd (let z : _≡_ {A = ℕ} 0 1 = cc in omega arith)
 more-is s (whole ts) ss e = (ts, refl, cc)

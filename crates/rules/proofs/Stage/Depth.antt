@@ -14,12 +14,11 @@ use Rattle.rules.specs.Ending.{Stage?, refused, stage, oneStage}
 use Rattle.rules.specs.Build.{Stage, Answer, refusal, whole, more, stages}
 use Rattle.rules.specs.States.{state, afterFrom}
 use Rattle.rules.specs.Depth.{remaining}
-use Rattle.rules.specs.Lists.{In, Once}
 use Rattle.rules.proofs.Lists.Members.{split, eqb-true, eqb-false}
 use Rattle.rules.specs.Inside.Walks.{Graph, Ready}
 use Rattle.rules.proofs.Needed.Needs.{setting-sound}
 use Rattle.rules.proofs.Stage.Staged.{half-height, remaining-above, remaining-falls, waits-less, the-end}
-use Rattle.rules.proofs.Stage.Over.{stage-over, seven-or-eight}
+use Rattle.rules.proofs.Stage.Over.{seven-or-eight}
 use Rattle.rules.proofs.Stage.Last.{once-swapOutAll}
 use Rattle.rules.proofs.Stage.Flat.{none-wait}
 
@@ -110,7 +109,7 @@ module _ (rule : WordRule) (K : ℕ) (g : List Node) (r : ℕ → ℕ) (G : Grap
   rooms-suffice (suc rooms) k done [] R room h n j e = absurd (let z : _≡_ {A = ℕ} 0 1 = cc in omega arith)
   rooms-suffice (suc rooms) k done (w ∷ ws) R room (inl a) n j e = absurd (let z : _≡_ {A = ℕ} 0 1 = cc in omega arith)
   rooms-suffice (suc rooms) k done (w ∷ ws) R room (inr a) n j e = stage-cases (oneStage rule K g done (w ∷ ws) room)
-      (λ m d. let c : refusal m k ≡ refusal n j = rw (d, stages) at e in let b : n ≡ m = cc in rw b (seven-or-eight (setting rule K g done (w ∷ ws)) room (filledPlan (setting rule K g done (w ∷ ws))) (stage-over (setting rule K g done (w ∷ ws)) room (filledPlan (setting rule K g done (w ∷ ws))) m d)))
+      (λ m d. let c : refusal m k ≡ refusal n j = rw (d, stages) at e in let b : n ≡ m = cc in rw b (seven-or-eight (setting rule K g done (w ∷ ws)) room (filledPlan (setting rule K g done (w ∷ ws))) m d))
       (λ plan2 words realised waiting2 d.
       let f : remaining (length g) g (realised ++ done) waiting2 ≤ pred (remaining (length g) g done (w ∷ ws)) = falls done (w ∷ ws) R room plan2 words realised waiting2 d in
       rooms-suffice rooms (suc k) (realised ++ done) waiting2 (still-ready done (w ∷ ws) R room plan2 words realised waiting2 d) (room - length words)

@@ -42,6 +42,14 @@ unfolding insertAll
 once-insertAll [] k = k
 once-insertAll (p ∷ ps) k = once-insertAll ps (once-insert p k)
 
+-- a part of a list without repeats has none either
+pub once-keep : (f : ℕ → Bool) {xs : List ℕ} → Once xs → Once (keep f xs)
+unfolding keep
+once-keep f nobody = nobody
+once-keep f (one {x = x} {xs = xs} o k) = split (f x)
+    (λ e. rw (e, keep) (one (split (mem x (keep f xs)) (λ i. true-false (keep-in f x xs i .0) o) (λ i. i)) (once-keep f k)))
+    (λ e. rw (e, keep) (once-keep f k))
+
 -- taking out takes out nothing else
 in-map : (h : ℕ → ℕ) (x : ℕ) (xs : List ℕ) → In x xs → In (h x) (map h xs)
 in-map h x [] e = in-nil x e

@@ -19,6 +19,7 @@ use Rattle.rules.proofs.Stage.Puts.{runs-fit}
 use Rattle.rules.proofs.Needed.Lacks.{keep-ext, same-truth, leb-true, true-leb, same-inNeed, same-untouched}
 use Rattle.rules.proofs.Tree.Tally.{tree-cells}
 use Rattle.rules.proofs.Tree.Fair.{listed-filled}
+use Rattle.rules.proofs.Written.Words.{once-keep}
 use Rattle.columns.specs.Fields.{LEVEL, CELLS, WAITING, STACK, PHASE, MARK, SPARE}
 use Rattle.columns.specs.Lists.{list, span, Marked}
 use Rattle.columns.proofs.Area.Columns.{getD-col}
@@ -43,15 +44,6 @@ use Rattle.stage_sparse.proofs.Laws.Places.{listed-length}
 use Rattle.stage_runs.proofs.Laws.Plain.{not-not, not-zero}
 
 -- ---- lists
-
-out-keep : (f : ℕ → Bool) (x : ℕ) (xs : List ℕ) → Out x xs → Out x (keep f xs)
-out-keep f x xs o = split (mem x (keep f xs)) (λ i. true-false (keep-in f x xs i .0) o) (λ e. e)
-
--- a part of a list without repeats has none either
-pub once-keep : (f : ℕ → Bool) {xs : List ℕ} → Once xs → Once (keep f xs)
-unfolding keep
-once-keep f nobody = nobody
-once-keep f (one {x = x} {xs = xs} o k) = split (f x) (λ e. rw (e, keep) (one (out-keep f x xs o) (once-keep f k))) (λ e. rw (e, keep) (once-keep f k))
 
 out-one : (z x : ℕ) → z ≢ x → Out z (x ∷ [])
 out-one z x n = split (mem z (x ∷ [])) (λ e. elim (in-cons z x [] e) [ inl d ↦ absurd (n d) | inr d ↦ in-nil z d ]) (λ e. e)
