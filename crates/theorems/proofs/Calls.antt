@@ -119,6 +119,9 @@ enough C e h = told-enough (built (input C e) (roomsOf C)) refl (answered C e)
 
 -- ---- refusals
 
+same-refused : (I : Input) (rooms n m k j : ℕ) → m ≡ n → j ≡ k → Refused I rooms n k → Refused I rooms m j
+same-refused I rooms n m k j a b h = rw (a, b) h
+
 -- An answer of 6, 7, 8 or 9 means these counts, which `refused-where` says in words: of an input that passes the checks, any answer but 0 is
 -- such a number, with its stage, and the counts behind it are over.
 pub refused-counts : (C : Call) (e : checked C ≡ 0) → C .answer .number ≢ 0 → Refused (input C e) (roomsOf C) (C .answer .number) (C .answer .stage)
@@ -127,9 +130,7 @@ refused-counts C e z = told-refused (built (input C e) (roomsOf C)) refl (answer
   where
     told-refused : (b : rules.Answer) → built (input C e) (roomsOf C) ≡ b → Told C b → Refused (input C e) (roomsOf C) (C .answer .number) (C .answer .stage)
     told-refused (rules.refusal n k) d t =
-        let a : C .answer .number ≡ n = ap (λ (r : rules.Reply). r .number) (t .reply) in
-        let b : C .answer .stage ≡ k = ap (λ (r : rules.Reply). r .stage) (t .reply) in
-        rw (a, b) (refused-where (input C e) (roomsOf C) n k d)
+        same-refused (input C e) (roomsOf C) n (C .answer .number) k (C .answer .stage) (ap (λ (r : rules.Reply). r .number) (t .reply)) (ap (λ (r : rules.Reply). r .stage) (t .reply)) (refused-where (input C e) (roomsOf C) n k d)
     told-refused (rules.whole ss) d t = absurd (z (ap (λ (r : rules.Reply). r .number) (t .reply)))
 
 -- And where these counts are over, the call answers with that number and stage.

@@ -144,28 +144,28 @@ module _ (f : Handed → Left) (M : Meets f) where
   pub not-one-plan : ((x y : Handed) → f x .answer .number ≡ 0 → f y .answer .number ≡ 0 → length (x .entry .plan) ≡ length (y .entry .plan) → f x .exit .plan ≡ f y .exit .plan) → ⊥
   not-one-plan h =
       let e : f one .exit .plan ≡ f many .exit .plan = h one many (number-is one (one-reply .0)) (number-is many many-reply) refl in
-      let d : 7 ≡ 4294967295 = sym (one-cells .0) ∙ ap (λ (p : List ℕ). getD p 16 empty) (sym (plan-is one) ∙ e ∙ plan-is many) ∙ many-cell in
+      let d : _≡_ {A = ℕ} 7 4294967295 = sym (one-cells .0) ∙ ap (λ (p : List ℕ). getD p 16 empty) (sym (plan-is one) ∙ e ∙ plan-is many) ∙ many-cell in
       omega arith
 
   -- It doesn't write nothing: accepted calls don't all leave the areas as they were,
   pub not-unchanged : ((x : Handed) → f x .answer .number ≡ 0 → f x .exit ≡ x .entry) → ⊥
   not-unchanged h =
       let e : f one .exit .plan ≡ one .entry .plan = ap (λ (a : Areas). a .plan) (h one (number-is one (one-reply .0))) in
-      let d : 4294967295 ≡ 7 = sym (one-cells .1) ∙ ap (λ (p : List ℕ). getD p 0 empty) (sym (plan-is one) ∙ e) ∙ one-entry in
+      let d : _≡_ {A = ℕ} 4294967295 7 = sym (one-cells .1) ∙ ap (λ (p : List ℕ). getD p 0 empty) (sym (plan-is one) ∙ e) ∙ one-entry in
       omega arith
 
   -- nor a plan of empty marks alone,
   pub not-empty : ((x : Handed) → f x .answer .number ≡ 0 → (p : ℕ) → getD (f x .exit .plan) p empty ≡ empty) → ⊥
   unfolding empty
   not-empty h =
-      let d : 7 ≡ 4294967295 = sym (one-cells .0) ∙ ap (λ (p : List ℕ). getD p 16 empty) (sym (plan-is one)) ∙ h one (number-is one (one-reply .0)) 16 in
+      let d : _≡_ {A = ℕ} 7 4294967295 = sym (one-cells .0) ∙ ap (λ (p : List ℕ). getD p 16 empty) (sym (plan-is one)) ∙ h one (number-is one (one-reply .0)) 16 in
       omega arith
 
   -- nor do they all report no word.
   pub not-wordless : ((x : Handed) → f x .answer .number ≡ 0 → f x .answer .words ≡ 0) → ⊥
   unfolding told
   not-wordless h =
-      let d : 1 ≡ 0 = sym (one-reply .1) ∙ ap (λ r. r .words) (sym (reply-is one)) ∙ h one (number-is one (one-reply .0)) in
+      let d : _≡_ {A = ℕ} 1 0 = sym (one-reply .1) ∙ ap (λ r. r .words) (sym (reply-is one)) ∙ h one (number-is one (one-reply .0)) in
       omega arith
 
   -- It doesn't build the first stage and repeat it: in accepted calls of two stages the cells of the second aren't always those of the first,
@@ -174,7 +174,7 @@ module _ (f : Handed → Left) (M : Meets f) where
   not-repeated h =
       let e = h two (number-is two (two-reply .0)) (ap (λ r. r .stages) (reply-is two) ∙ two-reply .1) in
       let p : f two .exit .plan ≡ right two .areas .plan = plan-is two in
-      let d : 4294967295 ≡ 14 = sym (two-cells .1) ∙ ap (λ (c : List ℕ). getD c 1 empty) (ap (stageOf 6 2) (sym p) ∙ e ∙ ap (stageOf 6 1) p) ∙ two-cells .0 in
+      let d : _≡_ {A = ℕ} 4294967295 14 = sym (two-cells .1) ∙ ap (λ (c : List ℕ). getD c 1 empty) (ap (stageOf 6 2) (sym p) ∙ e ∙ ap (stageOf 6 1) p) ∙ two-cells .0 in
       omega arith
 
   -- nor are its words as many.
@@ -183,5 +183,5 @@ module _ (f : Handed → Left) (M : Meets f) where
   words-not-repeated h =
       let e = h two (number-is two (two-reply .0)) (ap (λ r. r .stages) (reply-is two) ∙ two-reply .1) in
       let c : f two .exit .counts ≡ right two .areas .counts = counts-are two in
-      let d : 1 ≡ 0 = sym (two-counts .1) ∙ ap (λ (n : List ℕ). getD n 1 7) (sym c) ∙ e ∙ ap (λ (n : List ℕ). getD n 0 7) c ∙ two-counts .0 in
+      let d : _≡_ {A = ℕ} 1 0 = sym (two-counts .1) ∙ ap (λ (n : List ℕ). getD n 1 7) (sym c) ∙ e ∙ ap (λ (n : List ℕ). getD n 0 7) c ∙ two-counts .0 in
       omega arith

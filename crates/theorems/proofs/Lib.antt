@@ -6,5 +6,6 @@ pub mod Loading
 pub mod Writing
 pub mod Reading
 pub mod Calls
+pub mod Top
 pub mod Rules
 pub mod Frauds
