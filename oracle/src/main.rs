@@ -8,6 +8,7 @@ mod compare_merge;
 mod loops;
 mod merge;
 mod order;
+#[allow(dead_code)] // builds and merges alone are compared
 #[path = "../../ffi/rust/placer.rs"]
 mod placer;
 mod published;
