@@ -102,20 +102,28 @@ pub record LayAt (spare base : ℕ) (xs ls st w : List ℕ) : Type 0 where
   pub room : base + 8 * length ls ≤ length w
   pub small : (s : ℕ) → s < length ls → own 1 (length ls) (owned base (length ls) w) s ≤ 4294967295
 
-pub record Arranged (base : ℕ) (xs ls st w xs′ st′ w′ : List ℕ) (r : ℕ) : Type 0 where
+-- of the work area only the spare part and the slots' own numbers changed
+pub record Elsewhere (spare base : ℕ) (xs ls w w′ : List ℕ) : Type 0 where
+  pub size : length w′ ≡ length w
+  pub below : (x : ℕ) → x < spare → getD w′ x 0 ≡ getD w x 0
+  pub between : (x : ℕ) → spare + length xs ≤ x → x < base → getD w′ x 0 ≡ getD w x 0
+  pub behind : (x : ℕ) → base + 8 * length ls ≤ x → getD w′ x 0 ≡ getD w x 0
+
+pub record Arranged (spare base : ℕ) (xs ls st w xs′ st′ w′ : List ℕ) (r : ℕ) : Type 0 where
   pub order-is : Ordered ls (owned base (length ls) w) (owned base (length ls) w′) r
   pub groups : xs′ ≡ joined (map (λ s. getD (splitBy ls xs) s []) (order (length ls) (owned base (length ls) w′) r))
   pub same : length st′ ≡ length st
-  pub size : length w′ ≡ length w
+  pub elsewhere : Elsewhere spare base xs ls w w′
 
 -- the partitions sorted
 unfoldable pub sorted : ℕ → (xs ls w : List ℕ) → List Part
 sorted base xs ls w = gathered addPart (held (length ls) ls xs (owned base (length ls) w)) (full ls) (length ls) 0
 
-pub record Laid (base : ℕ) (xs ls w xs′ ls′ st′ : List ℕ) (r : Totals) : Type 0 where
+pub record Laid (spare base : ℕ) (xs ls w xs′ ls′ st′ w′ : List ℕ) (r : Totals) : Type 0 where
   pub indices : xs′ ≡ indicesOf (sorted base xs ls w)
   pub lengths : ls′ ≡ padded (length ls) 0 (lengthsOf (sorted base xs ls w))
   pub stages : st′ ≡ padded (length ls) 0 (stagesIn (sorted base xs ls w))
   pub partitions : r .partitions ≡ length (sorted base xs ls w)
   pub all-stages : r .stages ≡ sum (stagesIn (sorted base xs ls w))
   pub all-words : r .words ≡ sum (wordsFor (sorted base xs ls w))
+  pub elsewhere : Elsewhere spare base xs ls w w′

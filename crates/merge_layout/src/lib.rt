@@ -132,7 +132,7 @@ fn arrange(
     base: usize,
 ) -> usize
     requires { ⌜ LayAt spare base (now indices) (now lengths) (now stages) (now work) ⌝ }
-    ensures { λ r. ⌜ Arranged base (now (indices .entry)) (now (lengths .entry)) (now (stages .entry)) (now (work .entry)) (now (indices .exit)) (now (stages .exit)) (now (work .exit)) r ⌝ }
+    ensures { λ r. ⌜ Arranged spare base (now (indices .entry)) (now (lengths .entry)) (now (stages .entry)) (now (work .entry)) (now (indices .exit)) (now (stages .exit)) (now (work .exit)) r ⌝ }
 {
     let n = lengths.len();
     let end = base + 8 * n;
@@ -156,7 +156,7 @@ pub fn lay_out(
     base: usize,
 ) -> Totals
     requires { ⌜ LayAt spare base (now indices) (now lengths) (now stages) (now work) ⌝ }
-    ensures { λ r. ⌜ Laid base (now (indices .entry)) (now (lengths .entry)) (now (work .entry)) (now (indices .exit)) (now (lengths .exit)) (now (stages .exit)) r ⌝ }
+    ensures { λ r. ⌜ Laid spare base (now (indices .entry)) (now (lengths .entry)) (now (work .entry)) (now (indices .exit)) (now (lengths .exit)) (now (stages .exit)) (now (work .exit)) r ⌝ }
 {
     let end = base + 8 * lengths.len();
     let k = arrange(indices, lengths, stages, work, spare, base);

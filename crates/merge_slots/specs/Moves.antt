@@ -4,8 +4,8 @@ use mathlib.Core.Bool.{Bool, true, false}
 use mathlib.Core.List.{List, [], _++_}
 use mathlib.Core.Path.{_≡_}
 use lib.Dec.{eqb}
-use lib.ListN.{length, getD, set}
-use Rattle.rules.specs.Lists.{Found, nothing, found, sum, every}
+use lib.ListN.{length, getD, set, take, drop}
+use Rattle.rules.specs.Lists.{Found, nothing, found, sum, every, laidOver}
 use Rattle.rules.specs.Merge.{splitBy, begun}
 use Rattle.merge_slots.specs.Slots.{best, better, ahead, free, full}
 
@@ -16,6 +16,10 @@ pub record StartAt (ls : List ℕ) (s : ℕ) : Type 0 where
 pub record TurnAt (xs spare : List ℕ) (k : ℕ) : Type 0 where
   pub inside : k ≤ length xs
   pub room : length xs ≤ length spare
+
+pub record Turned (xs spare : List ℕ) (k : ℕ) (xs′ spare′ : List ℕ) : Type 0 where
+  pub is : xs′ ≡ drop k xs ++ take k xs
+  pub passed : spare′ ≡ laidOver xs spare
 
 -- ---- slot i takes the groups of a later slot j
 
@@ -32,6 +36,15 @@ pub record Taken (i j : ℕ) (xs ls xs′ ls′ : List ℕ) : Type 0 where
   pub all : sum ls′ ≡ length xs′
   pub same : length xs′ ≡ length xs
   pub named : (f : ℕ → Bool) → every f xs ≡ true → every f xs′ ≡ true
+
+-- what changes places: the groups behind slot i, up to slot j's
+unfoldable pub moved : (i j : ℕ) → (xs ls : List ℕ) → List ℕ
+moved i j xs ls = take (sum (take (j + 1) ls) - sum (take (i + 1) ls)) (drop (sum (take (i + 1) ls)) xs)
+
+-- they pass through the spare numbers, and stay there as they were
+pub record TakesIn (i j : ℕ) (xs ls spare xs′ ls′ spare′ : List ℕ) : Type 0 where
+  pub taken : Taken i j xs ls xs′ ls′
+  pub passed : spare′ ≡ laidOver (moved i j xs ls) spare
 
 -- ---- bars
 

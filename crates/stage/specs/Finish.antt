@@ -61,10 +61,16 @@ pub record Whole (C : Context) (m at room : ℕ) (s : Stage?) (words : List ℕ)
 abbrev pub touched : List ℕ
 touched = DONE ∷ WAITING ∷ CELLS ∷ STACK ∷ PHASE ∷ PLACE ∷ MARK ∷ SPARE ∷ TAIL ∷ []
 
+-- what refuses the stage; no words and no waiting pins are told
+pub record Refuses (s : Stage?) (e : Outcome) : Type 0 where
+  pub is : s ≡ refused (e .number)
+  pub words : e .words ≡ 0
+  pub waiting : e .waiting ≡ 0
+
 -- s is the stage, or what refuses it
 pub record Finished (C : Context) (m at room : ℕ) (s : Stage?) (pl w words : List ℕ) (e : Outcome) (pl′ w′ words′ : List ℕ) : Type 0 where
   pub changed : Changed touched m at room pl w words pl′ w′ words′
-  pub refuses : 0 < e .number → s ≡ refused (e .number)
+  pub refuses : 0 < e .number → Refuses s e
   pub whole : e .number ≡ 0 → Whole C m at room s words e pl′ w′ words′
 
 -- ---- between the rules: pl is the plan before rule 8, pl′ the one that stands

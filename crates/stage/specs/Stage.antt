@@ -5,14 +5,14 @@ use Prim.Native.Nat.{ℕ, _+_, _*_, _^_, _<_, _≤_}
 use lib.ListN.{length, getD}
 use Rattle.rules.specs.Cells.{rowAt}
 use Rattle.rules.specs.Inside.Lean as lean
-use Rattle.rules.specs.Ending.{Stage?, refused, oneStage}
+use Rattle.rules.specs.Ending.{Stage?, oneStage}
 use Rattle.columns.specs.Fields.{ORDER, DONE, LEVEL, WAITING, CELLS, RANKED, STARTS, ENDS, REVERSE, NEEDED, LISTED, STACK, PHASE, PLACE, MARK, SPARE, TAIL}
 use Rattle.columns.specs.Lists.{Clear}
 use Rattle.stage_runs.specs.declared.WordRule.{WordRule as Asked}
 use Rattle.stage_walk.specs.Stands.{Context, Begun, Fresh}
 use Rattle.stage_runs.specs.Rule.{ruleOf}
 use Rattle.stage.specs.declared.finish.Outcome.{Outcome}
-use Rattle.stage.specs.Finish.{Changed, Whole}
+use Rattle.stage.specs.Finish.{Changed, Refuses, Whole}
 
 -- n pins wait; the stage is empty, and so is every column but those of given and realised pins and of the waiting list
 pub record StageAt (C : Context) (m K half n : ℕ) (asked : Asked) (at room : ℕ) (gates pl w words : List ℕ) : Type 0 where
@@ -38,6 +38,6 @@ built C room = oneStage (C .X .rule) (C .X .K) (C .X .g) (C .X .done) (C .X .wai
 -- after a whole stage the next one finds what this one found
 pub record Staged (C : Context) (m at room : ℕ) (pl w words : List ℕ) (e : Outcome) (pl′ w′ words′ : List ℕ) : Type 0 where
   pub changed : Changed columns m at room pl w words pl′ w′ words′
-  pub refuses : 0 < e .number → built C room ≡ refused (e .number)
+  pub refuses : 0 < e .number → Refuses (built C room) e
   pub whole : e .number ≡ 0 → Whole C m at room (built C room) words e pl′ w′ words′
   pub fresh : e .number ≡ 0 → Fresh m w′

@@ -138,7 +138,7 @@ module _ {K m table base extra : ℕ} {gates given records xs ls st pl ws cs w :
                 }
 
           -- the merged slots laid out are the definition's answer
-          pub join-merged : {xs₃ ls₃ st₃ : List ℕ} {t : Totals} → Laid base xs₂ ls₂ w₂ xs₃ ls₃ st₃ t
+          pub join-merged : {spare : ℕ} {xs₃ ls₃ st₃ w₃ : List ℕ} {t : Totals} → Laid spare base xs₂ ls₂ w₂ xs₃ ls₃ st₃ w₃ t
               → Joined rule K extra gates given records xs ls st pl (record { number = 0; stages = t .stages; words = t .words; stage = 0; partitions = t .partitions; trials = trials; refused = 0; pin = record { 0 = 0 } }) xs₃ ls₃ st₃
           unfolding told mergeReply groupList groupListAfter
           join-merged L = record { reply = rw (merges, L .partitions, L .all-stages, L .all-words) refl; groups = rw (merges, L .indices, L .lengths, L .stages, T .keeps .count) refl }

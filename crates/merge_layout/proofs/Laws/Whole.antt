@@ -11,7 +11,7 @@ use Rattle.merge_slots.specs.Slots.{own, held}
 use Rattle.merge_slots.specs.Sorts.{order}
 use Rattle.merge_layout.specs.declared.Totals.{Totals}
 use Rattle.merge_layout.specs.Layout.{OrderAt, Ordered, GatherAt, Gathered, sums, WriteAt, column, Written, owned, LayAt, Arranged, sorted, Laid}
-use Rattle.merge_layout.proofs.Laws.Owned.{lent, own-length, back-owned, part-length}
+use Rattle.merge_layout.proofs.Laws.Owned.{lent, own-length, back-owned, part-length, part-below, part-above}
 use Rattle.merge_layout.proofs.Laws.Lists.{map-below, length-order, order-below}
 use Rattle.merge_layout.proofs.Laws.Along.{groups-along, lengths-along, stages-along, words-along, count-along, fits-along}
 
@@ -35,7 +35,7 @@ module _ {spare base : ℕ} {xs ls st w : List ℕ} (A : LayAt spare base xs ls 
   pub order-ready : OrderAt ls (take size (drop base w))
   order-ready = rw (lent base (length ls) w (A .room)) (record { few = A .few; room = own-length base (length ls) w (A .room); small = A .small })
 
-  module _ {xs′ st₁ w′ : List ℕ} {r : ℕ} (R : Arranged base xs ls st w xs′ st₁ w′ r) where
+  module _ {xs′ st₁ w′ : List ℕ} {r : ℕ} (R : Arranged spare base xs ls st w xs′ st₁ w′ r) where
     abbrev m : ℕ
     m = length ls
 
@@ -43,7 +43,7 @@ module _ {spare base : ℕ} {xs ls st w : List ℕ} (A : LayAt spare base xs ls 
     o′ = owned base m w′
 
     inside : base + 8 * m ≤ length w′
-    inside = omega (arith, A .room, R .size)
+    inside = omega (arith, A .room, R .elsewhere .size)
 
     room′ : length o′ ≡ 8 * m
     room′ = own-length base m w′ inside
@@ -56,9 +56,9 @@ module _ {spare base : ℕ} {xs ls st w : List ℕ} (A : LayAt spare base xs ls 
     js = order m o′ r
 
     -- written, the group list holds the merged partitions in their final order
-    pub laid : {ls′ st′ : List ℕ} {t : Totals} → Written ls r (take size (drop base w′)) ls′ st′ t → Laid base xs ls w xs′ ls′ st′ t
+    pub laid : {ls′ st′ : List ℕ} {t : Totals} (ys : List ℕ) → Written ls r (take size (drop base w′)) ls′ st′ t → length ys ≡ length (take size (drop base w′)) → Laid spare base xs ls w xs′ ls′ st′ (take base w′ ++ (ys ++ drop size (drop base w′))) t
     unfolding sorted column sums
-    laid {ls′} {st′} {t} W₀ =
+    laid {ls′} {st′} {t} ys W₀ ly =
         let W : Written ls r o′ ls′ st′ t = rw (lent base m w′ inside) at W₀ in
         let e : sorted base xs ls w ≡ map (held m ls xs (owned base m w)) js = R .order-is .is (held m ls xs (owned base m w)) (same-stages m ls xs (owned base m w)) in
         let b : (i : ℕ) → i < length js → getD js i 0 < m = order-below m r o′ (R .order-is .few) room′ (R .order-is .slots) in
@@ -71,6 +71,14 @@ module _ {spare base : ℕ} {xs ls st w : List ℕ} (A : LayAt spare base xs ls 
           partitions = W .partitions ∙ sym (length-order m r o′ (R .order-is .few) room′) ∙ sym (count-along base xs ls w (A .all) js e);
           all-stages = W .all-stages ∙ ap sum (s₁ ∙ sym (stages-along base xs ls w (A .all) js e));
           all-words = W .all-words ∙ ap sum (s₂ ∙ sym (words-along base xs ls w (A .all) js e));
+          elsewhere =
+              let E = R .elsewhere in
+              record {
+                size = part-length base (base + 8 * m) w′ (omega arith) inside ys ly ∙ E .size;
+                below = λ x h. part-below base (base + 8 * m) w′ (omega arith) inside ys ly x (omega (arith, A .before)) ∙ E .below x h;
+                between = λ x h k. part-below base (base + 8 * m) w′ (omega arith) inside ys ly x k ∙ E .between x h k;
+                behind = λ x h. part-above base (base + 8 * m) w′ (omega arith) inside ys ly x h ∙ E .behind x h;
+              };
         }
 
   -- the order is made, and stands in the stage numbers
@@ -175,10 +183,24 @@ module _ {spare base : ℕ} {xs ls st w : List ℕ} (A : LayAt spare base xs ls 
           after-size = part-length spare (spare + length xs) w₁ (omega arith) (omega (arith, same-size, A .before, A .room)) zs lz ∙ same-size
 
           -- copied back, the indices stand in the final order
-          pub arranged : {xs′ : List ℕ} → xs′ ≡ take gap (drop spare w₂) → Arranged base xs ls st w xs′ st₁ w₂ k
+          pub arranged : {xs′ : List ℕ} → xs′ ≡ take gap (drop spare w₂) → Arranged spare base xs ls st w xs′ st₁ w₂ k
           arranged ex = record {
             order-is = rw (owned-after, ← lent base c w (A .room)) O;
             groups = ex ∙ lent-now ∙ G .is ∙ ap (λ (l : List ℕ). joined (map (λ s. getD (splitBy ls xs) s []) l)) (in-order ∙ ap (λ (o : List ℕ). order c o k) (sym owned-after));
             same = st-length ∙ sym (A .same);
-            size = after-size;
+            elsewhere = record {
+              size = after-size;
+              below = λ x h. copied-below x h ∙ ordered-below x (omega (arith, A .before));
+              between = λ x h l. copied-above x h ∙ ordered-below x l;
+              behind = λ x h. copied-above x (omega (arith, A .before)) ∙ part-above base (base + 8 * c) w (omega arith) (A .room) ys (O .size) x h;
+            };
           }
+            where
+              ordered-below : (x : ℕ) → x < base → getD w₁ x 0 ≡ getD w x 0
+              ordered-below x h = part-below base (base + 8 * c) w (omega arith) (A .room) ys (O .size) x h
+
+              copied-below : (x : ℕ) → x < spare → getD w₂ x 0 ≡ getD w₁ x 0
+              copied-below x h = part-below spare (spare + length xs) w₁ (omega arith) (omega (arith, same-size, A .before, A .room)) zs lz x h
+
+              copied-above : (x : ℕ) → spare + length xs ≤ x → getD w₂ x 0 ≡ getD w₁ x 0
+              copied-above x h = part-above spare (spare + length xs) w₁ (omega arith) (omega (arith, same-size, A .before, A .room)) zs lz x h

@@ -24,7 +24,7 @@ part-write-lists-start : tie.Need-part-write-lists-start
 part-write-lists-start c = search needs
 
 part-write-lists-end : tie.Need-part-write-lists-end
-part-write-lists-end c = omega (arith, c .before .before .before .before .before .before .before .before .arrange .ensures .size, c .before .before .before .before .before .before .before .before .before .before .before .before .before .before .before .before .before .pre .room)
+part-write-lists-end c = omega (arith, c .before .before .before .before .before .before .before .before .arrange .ensures .elsewhere .size, c .before .before .before .before .before .before .before .before .before .before .before .before .before .before .before .before .before .pre .room)
 
 write-lists-requires : tie.Need-write-lists-requires
 write-lists-requires c κs = write-at (c .before .before .before .before .before .before .before .before .before .before .before .before .before .before .before .before .before .before .pre) (c .before .before .before .before .before .before .before .before .before .arrange .ensures)
@@ -42,7 +42,7 @@ same-length-4 : tie.Need-same-length-4
 same-length-4 c = search needs
 
 returns : tie.Need-returns
-returns c = laid (c .before .before .before .before .before .before .before .before .before .before .before .before .before .before .before .before .before .before .before .before .before .before .before .before .before .pre) (c .before .before .before .before .before .before .before .before .before .before .before .before .before .before .before .before .arrange .ensures) (c .before .before .before .before .before .before .write-lists .ensures)
+returns c = laid (c .before .before .before .before .before .before .before .before .before .before .before .before .before .before .before .before .before .before .before .before .before .before .before .before .before .pre) (c .before .before .before .before .before .before .before .before .before .before .before .before .before .before .before .before .arrange .ensures) (c .before .before .before .before .before .before .write-lists .last .1 .1 .0) (c .before .before .before .before .before .before .write-lists .ensures) (c .before .before .before .before .before .before .write-lists .kept .1 .1 .0)
 
 pub lay-out-spec : {M : Type 1} → statement M
 lay-out-spec = tie.close (tie.spec mul-end add-end arrange-requires mul-write-lists sub-write-lists part-write-lists-start part-write-lists-end write-lists-requires same-length same-length-2 same-length-3 same-length-4 returns)

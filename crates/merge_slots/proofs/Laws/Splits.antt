@@ -7,11 +7,11 @@ use native.Mathlib.Omega.{arith}
 use lib.ListN.{length, getD, set, take, drop, length-append, length-drop, length-set, drop-of-length-le, List·getD-map}
 use lib.Seq.{take-append-seam, drop-append-seam, length-take-le, take-take, take-set-lt, drop-set-lt, split-at, set-split, getD-take, take-at, drop-at, take-append-le, drop-append-le}
 use Rattle.rules.proofs.Lists.Parts.{map-set, map-take}
-use Rattle.rules.specs.Lists.{sum, every}
+use Rattle.rules.specs.Lists.{sum, every, laidOver}
 use Rattle.rules.specs.Merge.{splitBy, joined}
 use Rattle.rules.proofs.Lists.Members.{split, and-true}
 use Rattle.rules.proofs.Merge.Merge.{joined-split}
-use Rattle.merge_slots.specs.Moves.{TurnAt, TakeAt, Taken}
+use Rattle.merge_slots.specs.Moves.{TurnAt, Turned, TakeAt, moved, TakesIn}
 use Rattle.merge_slots.proofs.Laws.Sums.{sum-part, sum-next}
 
 -- two lists of groups joined, one behind the other
@@ -82,13 +82,18 @@ module _ {s spare y₁ y₂ y₃ : List ℕ} {k : ℕ} (A : TurnAt s spare k) (e
   sooner = let z : k - 0 ≡ k = omega arith in e₃ ∙ rw (z, e₁) (take-append-le k s (drop (length s - 0) spare) (A .inside))
 
   -- copied over and back, the part's two halves have changed places
-  pub turned : take (length s - k) (y₂ ++ drop (length s - k - 0) s) ++ (y₃ ++ drop (length s - (length s - k)) (drop (length s - k) (y₂ ++ drop (length s - k - 0) s))) ≡ drop k s ++ take k s
+  pub turned : Turned s spare k (take (length s - k) (y₂ ++ drop (length s - k - 0) s) ++ (y₃ ++ drop (length s - (length s - k)) (drop (length s - k) (y₂ ++ drop (length s - k - 0) s)))) (y₁ ++ drop (length s - 0) spare)
+  unfolding laidOver
   turned =
       let n : length (drop k s) ≡ length s - k = length-drop k s in
       let z : length s - k - 0 ≡ length s - k = omega arith in
       let t : length s - (length s - k) ≡ k = omega (arith, A .inside) in
       let m : drop k (drop (length s - k) s) ≡ [] = drop-of-length-le (drop (length s - k) s) {i = k} (omega (arith, length-drop (length s - k) s, A .inside)) in
-      rw (later, sooner, z, t, take-at (drop k s) (drop (length s - k) s) (length s - k) n, drop-at (drop k s) (drop (length s - k) s) (length s - k) n, m) (ap (λ (l : List ℕ). drop k s ++ l) (append-nil (take k s)))
+      let y : length s - 0 ≡ length s = omega arith in
+      record {
+        is = rw (later, sooner, z, t, take-at (drop k s) (drop (length s - k) s) (length s - k) n, drop-at (drop k s) (drop (length s - k) s) (length s - k) n, m) (ap (λ (l : List ℕ). drop k s ++ l) (append-nil (take k s)));
+        passed = rw (e₁, y) refl;
+      }
 
 -- a part that was lent, turned at its middle
 pub lent-turn : (xs X M J R ys : List ℕ) (a k e : ℕ) → xs ≡ X ++ (M ++ (J ++ R)) → length X ≡ a → length M ≡ k → length M + length J ≡ e
@@ -184,18 +189,24 @@ module _ {xs ls spare : List ℕ} {i j : ℕ} (A : TakeAt xs ls spare i j) where
         record { inside = omega arith; room = omega (arith, A .room) }
 
     -- turned, slot i has slot j's groups behind its own
-    pub taken : {ys : List ℕ} → ys ≡ drop (c - a) (take (d - a) (drop a xs)) ++ take (c - a) (take (d - a) (drop a xs))
-        → Taken i j xs ls (take a xs ++ (ys ++ drop (d - a) (drop a xs))) (set (set ls i (getD ls i 0 + getD ls j 0)) j 0)
-    taken {ys} ey =
+    pub taken : {ys spare′ : List ℕ} → Turned (take (d - a) (drop a xs)) spare (c - a) ys spare′
+        → TakesIn i j xs ls spare (take a xs ++ (ys ++ drop (d - a) (drop a xs))) (set (set ls i (getD ls i 0 + getD ls j 0)) j 0) spare′
+    unfolding moved
+    taken {ys} T =
         let z : take a xs ++ (ys ++ drop (d - a) (drop a xs)) ≡ X ++ (J ++ (M ++ R)) =
-        lent-turn xs X M J R ys a (c - a) (d - a) whole first (omega (arith, first, middle)) (omega (arith, first, middle, size-of j)) ey in
+        lent-turn xs X M J R ys a (c - a) (d - a) whole first (omega (arith, first, middle)) (omega (arith, first, middle, size-of j)) (T .is) in
         let m : map length (set hs i (I ++ J)) ≡ set ls i (getD ls i 0 + getD ls j 0) = map-set length hs i (I ++ J) ∙ rw (lengths-split ls xs (A .all), length-append I J, size-of i, size-of j) refl in
         let n : set (set ls i (getD ls i 0 + getD ls j 0)) j 0 ≡ map length hs′ = sym (map-set length (set hs i (I ++ J)) j [] ∙ ap (λ (y : List ℕ). set y j 0) m) in
         let q : take a xs ++ (ys ++ drop (d - a) (drop a xs)) ≡ joined hs′ = z ∙ sym joined-after in
+        let from : sum (take (i + 1) ls) ≡ a = omega (arith, sum-next ls i (omega (arith, A .order, A .inside)), es, el) in
+        let to : sum (take (j + 1) ls) ≡ d = omega (arith, sum-next ls j (A .inside), ec, ek) in
         record {
-          lengths = refl;
-          groups = rw (q, n) (split-joined hs′);
-          all = rw (q, n) (sym (length-joined hs′));
-          same = ap length z ∙ swapped X M J R ∙ ap length (sym whole);
-          named = λ f t. rw z (every-turned f xs X M J R whole t);
+          taken = record {
+            lengths = refl;
+            groups = rw (q, n) (split-joined hs′);
+            all = rw (q, n) (sym (length-joined hs′));
+            same = ap length z ∙ swapped X M J R ∙ ap length (sym whole);
+            named = λ f t. rw z (every-turned f xs X M J R whole t);
+          };
+          passed = rw (from, to) (T .passed);
         }

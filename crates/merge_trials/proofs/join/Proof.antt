@@ -60,7 +60,7 @@ same-length-3 : tie.Need-same-length-3
 same-length-3 c = search needs
 
 returns : tie.Need-returns
-returns c = joins (c .before .before .before .before .before .before .before .before .before .before .before .before .before .before .before .before .before .pre) (c .before .before .before .before .before .before .before .before .before .before .take-in .last .1 .1 .0) (c .before .before .before .before .before .before .before .before .before .before .take-in .kept .1 .1 .0) (c .before .before .before .before .before .before .before .before .before .before .take-in .ensures) (c .before .before .store-union .ensures)
+returns c = joins (c .before .before .before .before .before .before .before .before .before .before .before .before .before .before .before .before .before .pre) (c .before .before .before .before .before .before .before .before .before .before .take-in .last .1 .1 .0) (c .before .before .before .before .before .before .before .before .before .before .take-in .kept .1 .1 .0) (c .before .before .before .before .before .before .before .before .before .before .take-in .ensures .taken) (c .before .before .store-union .ensures)
 
 pub join-spec : {M : Type 1} → statement M
 join-spec =

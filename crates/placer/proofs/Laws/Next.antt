@@ -152,7 +152,7 @@ module _ {C : Course} {m K half : ℕ} {asked : Asked} {k n at room : ℕ} {gate
       unfolding built context setting
       one-refused h = record {
         kept = record { plan = plan-kept; words = S .changed .len; counts = refl; work = S .changed .frame .len };
-        refused = λ z. same ∙ ap (rules.before (U .ss)) (stage-refused (C .rule) (C .K) (C .g) (suc k) (U .done) (U .waiting) room waits (C .rooms - suc k) (s .number) (S .refuses h)) ∙ before-refusal (U .ss) (s .number) (suc k);
+        refused = λ z. same ∙ ap (rules.before (U .ss)) (stage-refused (C .rule) (C .K) (C .g) (suc k) (U .done) (U .waiting) room waits (C .rooms - suc k) (s .number) (S .refuses h .is)) ∙ before-refusal (U .ss) (s .number) (suc k);
         on = λ z. absurd (omega arith);
       }
 

@@ -79,10 +79,14 @@ module _ {C : Context} {pl : List ℕ} {m K half o n q at room : ℕ} {s : Spent
     ends-eight e = record {
       finished = record {
         changed = filling;
-        refuses = λ h. elim (F .no e (written (C .X) pl .real) (M .realised .marks)) [
-          | inl d ↦ finish-full (C .X) room pl fits (sym rest-is ∙ d)
-          | inr d ↦ finish-none (C .X) room pl fits pl2 (sym rest-is ∙ d .0) (d .1)
-        ];
+        refuses = λ h. record {
+          is = elim (F .no e (written (C .X) pl .real) (M .realised .marks)) [
+            | inl d ↦ finish-full (C .X) room pl fits (sym rest-is ∙ d)
+            | inr d ↦ finish-none (C .X) room pl fits pl2 (sym rest-is ∙ d .0) (d .1)
+          ];
+          words = refl;
+          waiting = refl;
+        };
         whole = λ h. absurd (omega arith);
       };
       longer = λ h. absurd (omega arith);
@@ -162,7 +166,11 @@ module _ {C : Context} {m K half o n q : ℕ} {asked : Asked} {at room : ℕ} {g
 
     -- more words than may be written: the stage is refused with 7
     pub finished-seven : room < s .words → Finished C m at room (finish (C .X) room pl) pl w words (record { number = 7; words = 0; waiting = 0 }) pl1 w1 words1
-    finished-seven h = record { changed = running; refuses = λ d. finish-seven (C .X) room pl (true-ltb room (length early) (omega (arith, R .count))); whole = λ d. absurd (omega arith) }
+    finished-seven h = record {
+      changed = running;
+      refuses = λ d. record { is = finish-seven (C .X) room pl (true-ltb room (length early) (omega (arith, R .count))); words = refl; waiting = refl };
+      whole = λ d. absurd (omega arith);
+    }
 
     module _ (h : s .words ≤ room) where
       all-are : words1 ≡ laidAt at early words

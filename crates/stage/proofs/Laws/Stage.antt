@@ -106,7 +106,7 @@ module _ {C : Context} {m K half n : ℕ} {asked : Asked} {at room : ℕ} {gates
           pub staged : Staged C m at room pl w words e pl₂ w₄ words₁
           staged = record {
             changed = changes;
-            refuses = λ h. sym is-built ∙ E .refuses h;
+            refuses = λ h. let R = E .refuses h in record { is = sym is-built ∙ R .is; words = R .words; waiting = R .waiting };
             whole = stands;
             fresh = λ z. record { listed = G .listed; levels = G .levels; reverse = G .reverse; starts = G .starts; ends = G .ends; spare = clear-frame (E .whole z .spare) (G .frame) refl (omega arith) };
           }
