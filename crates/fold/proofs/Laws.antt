@@ -1,2 +1,3 @@
-pub mod Stages
 pub mod Checks
+pub mod Stages
+pub mod Unique

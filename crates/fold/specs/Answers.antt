@@ -1,8 +1,9 @@
--- The numbers of the answers. Assumes nothing.
+-- The numbers of the answers, and an answer with the lent areas. Assumes nothing.
 use Prim.Native.Nat.{ℕ}
 use mathlib.Core.List.{List}
 use mathlib.Core.Path.{_≡_}
 use Rattle.rules.specs.Checks.{pinShown}
+use Rattle.rules.specs.Fold.{FoldOutcome}
 use Rattle.fold.specs.declared.Answer.{Answer}
 use Rattle.fold.specs.declared.Answer.the-variants.{Folded, NoHeight, WrongSize, WrongGraph, Looped, WrongGiven}
 
@@ -26,3 +27,6 @@ pinFor WrongGiven = 0
 pub record Told (n : ℕ) (gates : List ℕ) (a : Answer) : Type 0 where
   pub number : numberFor a ≡ n
   pub pin : pinFor a ≡ pinShown n gates
+
+unfoldable pub outcome : Answer → (result work : List ℕ) → FoldOutcome
+outcome a result work = record { number = numberFor a; pin = pinFor a; result = result; work = work }

@@ -1,68 +1,72 @@
--- Stage after stage: what is asked and left of the result area. Assumes nothing.
+-- Stage after stage: what is asked and left of the result area and the numbers by pin. Assumes nothing.
 use Prim.Native.Nat.{ℕ, _+_, _-_, _*_, _%_, _^_, _≤_, _<_}
 use mathlib.Core.Path.{_≡_}
 use mathlib.Core.Bool.{Bool, true}
 use mathlib.Core.List.{List, _++_}
 use lib.ListN.{length, getD, take, drop}
-use Rattle.rules.specs.Lists.{nothing, In}
+use Rattle.rules.specs.Lists.{nothing}
 use Rattle.rules.specs.Cells.{isHeight}
 use Rattle.rules.specs.Graph.{Node, pinCount}
-use Rattle.rules.specs.Fold.{stageBits, lowest, loadFrom, foldBits}
-use Rattle.fold_stage.specs.Bits.{StageAt}
-use Rattle.fold_stage.specs.Loads.{held, AreaAt, FirstIn}
+use Rattle.rules.specs.Fold.{stageBits, lowest, loadFrom}
+use Rattle.fold_stage.specs.Bits.{StageAt, UpAt}
+use Rattle.fold_stage.specs.Loads.{held, FirstAt}
 
--- the numbers behind the bits are 0 but for pins that stand above level 0 of some cells
-pub record Only (K : ℕ) (cells : List ℕ) (L m : ℕ) (w : List ℕ) : Type 0 where
-  pub none : (n : ℕ) → n < m → lowest K cells n ≡ nothing → getD w (L + n) 0 ≡ 0
+-- a stage to fold, and numbers by pin so few that the empty mark is past them
+pub record RowAt (K : ℕ) (cells l bits : List ℕ) : Type 0 where
+  pub up : UpAt K cells bits
+  pub few : length l ≤ 65536
 
--- the stage at `at` is folded, and the numbers behind the bits are what the next one loads
-pub record Folds (K : ℕ) (g : List Node) (load : ℕ → Bool) (cells : List ℕ) (at L m : ℕ) (w w′ : List ℕ) : Type 0 where
-  pub len : length w′ ≡ length w
-  pub bits : take (at + 2 ^ (K + 1)) w′ ≡ take at w ++ stageBits K g cells load
-  pub next : held L m w′ ≡ loadFrom K g cells load
-  pub only : Only K cells L m w′
-  pub past : (i : ℕ) → L + m ≤ i → getD w′ i 0 ≡ getD w i 0
+-- the numbers are 0 but for pins that stand above level 0 of some cells
+pub record Only (K : ℕ) (cells l : List ℕ) : Type 0 where
+  pub none : (n : ℕ) → n < length l → lowest K cells n ≡ nothing → getD l n 0 ≡ 0
+
+-- the numbers are what the stage after these cells loads
+pub record Left (K : ℕ) (g : List Node) (load : ℕ → Bool) (cells l l′ : List ℕ) : Type 0 where
+  pub len : length l′ ≡ length l
+  pub next : held l′ ≡ loadFrom K g cells load
+  pub only : Only K cells l′
+
+-- a stage is folded, and the loads of the next one are there
+pub record Folds (K : ℕ) (g : List Node) (load : ℕ → Bool) (cells b l l′ : List ℕ) : Type 0 where
+  pub bits : b ≡ stageBits K g cells load
+  pub left : Left K g load cells l l′
 
 -- stage 1
-pub record OneAt (K : ℕ) (cells gates given bits : List ℕ) (L m : ℕ) (w : List ℕ) : Type 0 where
-  pub area : AreaAt K cells 0 L m w
-  pub pins : m ≡ pinCount gates
-  pub input : FirstIn gates given bits L w
+pub record OneAt (K : ℕ) (cells gates given bits result l : List ℕ) : Type 0 where
+  pub up : UpAt K cells result
+  pub input : FirstAt gates given bits l
 
 -- a later stage, whose loads are there, and the one before
-pub record NextAt (K : ℕ) (before cells gates : List ℕ) (at L m : ℕ) (w : List ℕ) : Type 0 where
-  pub area : AreaAt K cells at L m w
+pub record NextAt (K : ℕ) (before cells gates result l : List ℕ) : Type 0 where
+  pub up : UpAt K cells result
   pub last : StageAt K before
-  pub pins : m ≡ pinCount gates
-  pub only : Only K before L m w
+  pub size : length l ≡ pinCount gates
+  pub few : length l ≤ 65536
+  pub only : Only K before l
 
 -- what passed the checks
-pub record PlanAt (K : ℕ) (plan gates w : List ℕ) : Type 0 where
+pub record PlanAt (K : ℕ) (plan w : List ℕ) : Type 0 where
   pub height : isHeight K ≡ true
   pub low : 1 ≤ 2 ^ K
   pub high : 2 ^ K ≤ 8192
   pub double : 2 ^ (K + 1) ≡ 2 * 2 ^ K
   pub whole : length plan % 2 ^ (K + 1) ≡ 0
-  pub few : pinCount gates ≤ 65536
-  pub room : length plan + pinCount gates ≤ length w
-
-pub record InputAt (gates given bits : List ℕ) : Type 0 where
-  pub enough : pinCount gates ≤ length bits
-  pub named : (q : ℕ) → In q given → q < pinCount gates
+  pub room : length plan ≤ length w
 
 -- the stage at `at` of a plan
 abbrev pub stageFrom : ℕ → ℕ → List ℕ → List ℕ
 stageFrom K at plan = take (2 ^ (K + 1)) (drop at plan)
 
 -- the stage at `at` is a later one, and its loads are there
-pub record StepAt (K : ℕ) (plan gates : List ℕ) (at : ℕ) (w : List ℕ) : Type 0 where
-  pub passed : PlanAt K plan gates w
+pub record StepAt (K : ℕ) (plan gates : List ℕ) (at : ℕ) (w l : List ℕ) : Type 0 where
+  pub passed : PlanAt K plan w
   pub before : 2 ^ (K + 1) ≤ at
   pub here : at + 2 ^ (K + 1) ≤ length plan
-  pub only : Only K (stageFrom K (at - 2 ^ (K + 1)) plan) (length plan) (pinCount gates) w
+  pub size : length l ≡ pinCount gates
+  pub few : length l ≤ 65536
+  pub only : Only K (stageFrom K (at - 2 ^ (K + 1)) plan) l
 
--- all stages
-pub record AllFold (K : ℕ) (plan gates given bits w w′ : List ℕ) : Type 0 where
-  pub len : length w′ ≡ length w
-  pub folds : take (length plan) w′ ≡ foldBits K plan gates given bits
-  pub past : (i : ℕ) → length plan + pinCount gates ≤ i → getD w′ i 0 ≡ getD w i 0
+-- it is folded in its place of the result area
+pub record Steps (K : ℕ) (g : List Node) (load : ℕ → Bool) (cells : List ℕ) (at : ℕ) (w w′ l l′ : List ℕ) : Type 0 where
+  pub area : w′ ≡ take at w ++ (stageBits K g cells load ++ drop (at + 2 ^ (K + 1)) w)
+  pub left : Left K g load cells l l′

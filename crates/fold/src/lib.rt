@@ -10,8 +10,8 @@ use stages::fold_plan;
 ghost use mathlib.Core.Path.{_≡_};
 ghost use mathlib.Core.Bool.{_&&_};
 ghost use Rattle.rules.specs.Cells.{isHeight};
-ghost use Rattle.rules.specs.Fold.{foldSized, foldRefusal, foldResult};
-ghost use Rattle.fold.specs.Answers.{numberFor, Told};
+ghost use Rattle.rules.specs.Fold.{foldSized, foldRefusal, folder};
+ghost use Rattle.fold.specs.Answers.{numberFor, pinFor, Told, outcome};
 
 // With `Looped` the smallest pin on any loop.
 pub enum Answer {
@@ -36,11 +36,32 @@ impl Answer {
             Answer::WrongGiven => 5,
         }
     }
+
+    // The pin shown: 0 but for a loop.
+    pub fn pin(self) -> Pin
+        ensures { λ r. ⌜ r .0 ≡ pinFor self ⌝ }
+    {
+        match self {
+            Answer::Folded => Pin(0),
+            Answer::NoHeight => Pin(0),
+            Answer::WrongSize => Pin(0),
+            Answer::WrongGraph => Pin(0),
+            Answer::Looped(p) => p,
+            Answer::WrongGiven => Pin(0),
+        }
+    }
 }
 
-// Have plan, bits and result a right size? The result holds a bit a position, and behind them a number a pin.
-fn areas_sized(height: u32, plan: &[u32], gates: &[u32], bits: usize, result: usize) -> bool
-    ensures { λ r. ⌜ r ≡ (isHeight height && foldSized height (now (plan .entry)) (now (gates .entry)) bits result) ⌝ }
+// Have plan, bits, result and work a right size?
+fn areas_sized(
+    height: u32,
+    plan: &[u32],
+    gates: &[u32],
+    bits: usize,
+    result: usize,
+    work: usize,
+) -> bool
+    ensures { λ r. ⌜ r ≡ (isHeight height && foldSized height (now (plan .entry)) (now (gates .entry)) bits result work) ⌝ }
 {
     let pins = pin_count(gates);
     if !plan_sized(height, plan.len()) {
@@ -52,7 +73,7 @@ fn areas_sized(height: u32, plan: &[u32], gates: &[u32], bits: usize, result: us
     if result < plan.len() {
         return false;
     }
-    pins <= result - plan.len()
+    pins <= work
 }
 
 // The first of 1, 2, 3, 23 and 5 that applies, else 0. There are no records.
@@ -63,10 +84,11 @@ fn check(
     given: &[u32],
     bits: &[u32],
     result: &[u32],
+    work: &[u32],
 ) -> Answer
-    ensures { λ r. ⌜ Told (foldRefusal height (now (plan .entry)) (now (gates .entry)) (now (given .entry)) (now (bits .entry)) (now (result .entry))) (now (gates .entry)) r ⌝ }
+    ensures { λ r. ⌜ Told (foldRefusal height (now (plan .entry)) (now (gates .entry)) (now (given .entry)) (now (bits .entry)) (now (result .entry)) (now (work .entry))) (now (gates .entry)) r ⌝ }
 {
-    let sized = areas_sized(height, plan, gates, bits.len(), result.len());
+    let sized = areas_sized(height, plan, gates, bits.len(), result.len(), work.len());
     let verdict = refusal(height, sized, gates, given, &given[0..0]);
     let number = verdict.number;
     let pin = verdict.pin;
@@ -80,7 +102,7 @@ fn check(
     }
 }
 
-// One bit a position for every stage of a plan. After a refusal the result is as it was.
+// One bit a position for every stage of a plan, in the front of `result`; `work` has a number a pin, 0 afterwards. A refusal changes nothing.
 pub fn fold(
     height: u32,
     plan: &[u32],
@@ -88,13 +110,22 @@ pub fn fold(
     given: &[u32],
     bits: &[u32],
     result: &mut [u32],
+    work: &mut [u32],
 ) -> Answer
-    ensures answer { λ r. ⌜ Told (foldRefusal height (now (plan .entry)) (now (gates .entry)) (now (given .entry)) (now (bits .entry)) (now (result .entry))) (now (gates .entry)) r ⌝ }
-    ensures areas { λ _. ⌜ now (result .exit) ≡ foldResult height (now (plan .entry)) (now (gates .entry)) (now (given .entry)) (now (bits .entry)) (now (result .entry)) ⌝ }
+    ensures { λ r. ⌜ outcome r (now (result .exit)) (now (work .exit)) ≡ folder height (now (plan .entry)) (now (gates .entry)) (now (given .entry)) (now (bits .entry)) (now (result .entry)) (now (work .entry)) ⌝ }
 {
-    let answer = check(height, plan, gates, given, bits, result);
+    let answer = check(height, plan, gates, given, bits, result, work);
     if answer.number() == 0 {
-        fold_plan(Height(height), plan, gates, given, bits, result);
+        let pins = pin_count(gates);
+        fold_plan(
+            Height(height),
+            plan,
+            gates,
+            given,
+            bits,
+            result,
+            &mut work[0..pins],
+        );
     }
     answer
 }

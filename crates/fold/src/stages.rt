@@ -1,38 +1,26 @@
-// Stage after stage. From `looks` on, behind the bits, stands what the stage at hand loads: a number a pin.
+// Stage after stage. `looks` has what the stage at hand loads: a number a pin.
 use cells::Height;
+use columns::fill_part;
 use fold_stage::bits::fold_up;
 use fold_stage::loads::first_loads;
 use fold_stage::loads::forget;
 use fold_stage::loads::load_row;
-use fold_stage::loads::no_loads;
 use fold_stage::loads::remember;
-use graph::pin_count;
 ghost use mathlib.Core.Path.{_≡_};
-ghost use mathlib.Core.List.{_++_};
-ghost use Prim.Native.Nat.{_+_};
 ghost use lib.ListN.{length, take, replicate};
 ghost use Rattle.rules.specs.Lists.{laidOver};
 ghost use Rattle.rules.specs.Graph.{graphOf, pinCount};
-ghost use Rattle.rules.specs.Fold.{firstLoad, foldBits};
-ghost use Rattle.fold_stage.specs.Loads.{held, AreaAt, StageFolds};
-ghost use Rattle.fold.specs.Stages.{OneAt, NextAt, Folds, PlanAt, InputAt, StepAt, stageFrom, AllFold};
+ghost use Rattle.rules.specs.Fold.{stageBits, firstLoad, foldBits};
+ghost use Rattle.fold_stage.specs.Loads.{held, FirstAt};
+ghost use Rattle.fold.specs.Stages.{RowAt, OneAt, NextAt, Folds, PlanAt, StepAt, stageFrom, Steps};
 
-// The bits of the stage at `at`.
-fn fold_stage(
-    height: Height,
-    cells: &[u32],
-    gates: &[u32],
-    result: &mut [u32],
-    at: usize,
-    looks: usize,
-    pins: usize,
-)
-    requires { ⌜ AreaAt (height .0) (now cells) at looks pins (now result) ⌝ }
-    ensures { λ _. ⌜ StageFolds (height .0) (graphOf (now (gates .entry))) (now (cells .entry)) at looks pins (now (result .entry)) (now (result .exit)) ⌝ }
+// The bits of a stage.
+fn fold_stage(height: Height, cells: &[u32], gates: &[u32], looks: &[u32], bits: &mut [u32])
+    requires { ⌜ RowAt (height .0) (now cells) (now looks) (now bits) ⌝ }
+    ensures { λ _. ⌜ now (bits .exit) ≡ stageBits (height .0) (graphOf (now (gates .entry))) (now (cells .entry)) (held (now (looks .entry))) ⌝ }
 {
-    load_row(height, cells, result, at, looks, pins);
-    let end = at + cells.len();
-    fold_up(height, cells, gates, &mut result[at..end]);
+    load_row(height, cells, looks, bits);
+    fold_up(height, cells, gates, bits);
 }
 
 // Stage 1, and what stage 2 loads.
@@ -43,16 +31,15 @@ fn fold_first(
     given: &[u32],
     bits: &[u32],
     result: &mut [u32],
-    looks: usize,
-    pins: usize,
+    looks: &mut [u32],
 )
-    requires { ⌜ OneAt (height .0) (now cells) (now gates) (now given) (now bits) looks pins (now result) ⌝ }
-    ensures { λ _. ⌜ Folds (height .0) (graphOf (now (gates .entry))) (firstLoad (graphOf (now (gates .entry))) (now (given .entry)) (take (pinCount (now (gates .entry))) (now (bits .entry)))) (now (cells .entry)) 0 looks pins (now (result .entry)) (now (result .exit)) ⌝ }
+    requires { ⌜ OneAt (height .0) (now cells) (now gates) (now given) (now bits) (now result) (now looks) ⌝ }
+    ensures { λ _. ⌜ Folds (height .0) (graphOf (now (gates .entry))) (firstLoad (graphOf (now (gates .entry))) (now (given .entry)) (take (pinCount (now (gates .entry))) (now (bits .entry)))) (now (cells .entry)) (now (result .exit)) (now (looks .entry)) (now (looks .exit)) ⌝ }
 {
-    first_loads(gates, given, bits, result, looks);
-    fold_stage(height, cells, gates, result, 0, looks, pins);
-    no_loads(result, looks, pins);
-    remember(height, cells, result, 0, looks, pins);
+    first_loads(gates, given, bits, looks);
+    fold_stage(height, cells, gates, looks, result);
+    fill_part(looks, 0);
+    remember(height, cells, result, looks);
 }
 
 // A later stage, and what the next one loads. Only pins of the stage before have loaded anything.
@@ -62,24 +49,29 @@ fn fold_next(
     cells: &[u32],
     gates: &[u32],
     result: &mut [u32],
-    at: usize,
-    looks: usize,
-    pins: usize,
+    looks: &mut [u32],
 )
-    requires { ⌜ NextAt (height .0) (now before) (now cells) (now gates) at looks pins (now result) ⌝ }
-    ensures { λ _. ⌜ Folds (height .0) (graphOf (now (gates .entry))) (held looks pins (now (result .entry))) (now (cells .entry)) at looks pins (now (result .entry)) (now (result .exit)) ⌝ }
+    requires { ⌜ NextAt (height .0) (now before) (now cells) (now gates) (now result) (now looks) ⌝ }
+    ensures { λ _. ⌜ Folds (height .0) (graphOf (now (gates .entry))) (held (now (looks .entry))) (now (cells .entry)) (now (result .exit)) (now (looks .entry)) (now (looks .exit)) ⌝ }
 {
-    fold_stage(height, cells, gates, result, at, looks, pins);
-    forget(height, before, result, looks, pins);
-    remember(height, cells, result, at, looks, pins);
+    fold_stage(height, cells, gates, looks, result);
+    forget(height, before, looks);
+    remember(height, cells, result, looks);
 }
 
-fn fold_at(height: Height, plan: &[u32], gates: &[u32], result: &mut [u32], at: usize)
-    requires { ⌜ StepAt (height .0) (now plan) (now gates) at (now result) ⌝ }
-    ensures { λ _. ⌜ Folds (height .0) (graphOf (now (gates .entry))) (held (length (now (plan .entry))) (pinCount (now (gates .entry))) (now (result .entry))) (stageFrom (height .0) at (now (plan .entry))) at (length (now (plan .entry))) (pinCount (now (gates .entry))) (now (result .entry)) (now (result .exit)) ⌝ }
+// The stage at `at` of the plan, which is not the first.
+fn fold_at(
+    height: Height,
+    plan: &[u32],
+    gates: &[u32],
+    result: &mut [u32],
+    looks: &mut [u32],
+    at: usize,
+)
+    requires { ⌜ StepAt (height .0) (now plan) (now gates) at (now result) (now looks) ⌝ }
+    ensures { λ _. ⌜ Steps (height .0) (graphOf (now (gates .entry))) (held (now (looks .entry))) (stageFrom (height .0) at (now (plan .entry))) at (now (result .entry)) (now (result .exit)) (now (looks .entry)) (now (looks .exit)) ⌝ }
 {
     let size = height.stage_size();
-    let pins = pin_count(gates);
     let last = at - size;
     let end = at + size;
     fold_next(
@@ -87,10 +79,8 @@ fn fold_at(height: Height, plan: &[u32], gates: &[u32], result: &mut [u32], at: 
         &plan[last..at],
         &plan[at..end],
         gates,
-        result,
-        at,
-        plan.len(),
-        pins,
+        &mut result[at..end],
+        looks,
     );
 }
 
@@ -101,34 +91,33 @@ fn fold_stages(
     given: &[u32],
     bits: &[u32],
     result: &mut [u32],
+    looks: &mut [u32],
 )
-    requires { ⌜ PlanAt (height .0) (now plan) (now gates) (now result) ⌝ }
-    requires { ⌜ InputAt (now gates) (now given) (now bits) ⌝ }
-    ensures { λ _. ⌜ AllFold (height .0) (now (plan .entry)) (now (gates .entry)) (now (given .entry)) (now (bits .entry)) (now (result .entry)) (now (result .exit)) ⌝ }
+    requires { ⌜ PlanAt (height .0) (now plan) (now result) ⌝ }
+    requires { ⌜ FirstAt (now gates) (now given) (now bits) (now looks) ⌝ }
+    ensures { λ _. ⌜ now (result .exit) ≡ laidOver (foldBits (height .0) (now (plan .entry)) (now (gates .entry)) (now (given .entry)) (now (bits .entry))) (now (result .entry)) ⌝ }
 {
     if plan.len() == 0 {
         return;
     }
     let size = height.stage_size();
-    let pins = pin_count(gates);
     fold_first(
         height,
         &plan[0..size],
         gates,
         given,
         bits,
-        result,
-        plan.len(),
-        pins,
+        &mut result[0..size],
+        looks,
     );
     let mut at = size;
     while at < plan.len() {
-        fold_at(height, plan, gates, result, at);
+        fold_at(height, plan, gates, result, looks, at);
         at += size;
     }
 }
 
-// All stages, and 0 in the numbers behind their bits.
+// All stages, and 0 in the numbers by pin.
 pub fn fold_plan(
     height: Height,
     plan: &[u32],
@@ -136,12 +125,13 @@ pub fn fold_plan(
     given: &[u32],
     bits: &[u32],
     result: &mut [u32],
+    looks: &mut [u32],
 )
-    requires { ⌜ PlanAt (height .0) (now plan) (now gates) (now result) ⌝ }
-    requires { ⌜ InputAt (now gates) (now given) (now bits) ⌝ }
-    ensures { λ _. ⌜ now (result .exit) ≡ laidOver (foldBits (height .0) (now (plan .entry)) (now (gates .entry)) (now (given .entry)) (now (bits .entry)) ++ replicate (pinCount (now (gates .entry))) 0) (now (result .entry)) ⌝ }
+    requires { ⌜ PlanAt (height .0) (now plan) (now result) ⌝ }
+    requires { ⌜ FirstAt (now gates) (now given) (now bits) (now looks) ⌝ }
+    ensures folded { λ _. ⌜ now (result .exit) ≡ laidOver (foldBits (height .0) (now (plan .entry)) (now (gates .entry)) (now (given .entry)) (now (bits .entry))) (now (result .entry)) ⌝ }
+    ensures cleared { λ _. ⌜ now (looks .exit) ≡ replicate (length (now (looks .entry))) 0 ⌝ }
 {
-    fold_stages(height, plan, gates, given, bits, result);
-    let pins = pin_count(gates);
-    no_loads(result, plan.len(), pins);
+    fold_stages(height, plan, gates, given, bits, result, looks);
+    fill_part(looks, 0);
 }

@@ -1,18 +1,17 @@
-// What a stage loads: a number a pin, behind the bits of the result area.
+// What a stage loads: a number a pin.
 use crate::bits::as_number;
 use cells::Height;
-use columns::fill_part;
 use graph::Node;
 use graph::Pin;
 use graph::node_at;
-use graph::pin_count;
 ghost use mathlib.Core.Path.{_≡_};
 ghost use mathlib.Core.Bool.{_&&_};
-ghost use Prim.Native.Nat.{ℕ, _+_, _<_, _≤_};
+ghost use Prim.Native.Nat.{ℕ, _<_, _≤_};
 ghost use lib.ListN.{length, getD};
 ghost use Rattle.rules.specs.Graph.{leaf, graphOf, ownBit};
 ghost use Rattle.rules.specs.Fold.{isLeaf};
-ghost use Rattle.fold_stage.specs.Loads.{held, AreaAt, Loads, Spread, ForgetAt, FirstAt, LeafLoads, GivenAt, GivenLoads, FirstLoads, FirstIn, FirstHeld, Zeroed};
+ghost use Rattle.fold_stage.specs.Bits.{StageAt, UpAt};
+ghost use Rattle.fold_stage.specs.Loads.{held, Loads, Spread, FirstAt, LeafLoads, GivenAt, GivenLoads, FirstLoads};
 
 // A pin's own bit; the constant's is 0.
 fn own_bit(bits: &[u32], p: Pin) -> bool
@@ -61,7 +60,8 @@ fn given_loads(given: &[u32], bits: &[u32], looks: &mut [u32])
     }
 }
 
-fn loads_of(gates: &[u32], given: &[u32], bits: &[u32], looks: &mut [u32])
+// Stage 1 loads the bits of leaves and given pins.
+pub fn first_loads(gates: &[u32], given: &[u32], bits: &[u32], looks: &mut [u32])
     requires { ⌜ FirstAt (now gates) (now given) (now bits) (now looks) ⌝ }
     ensures { λ _. ⌜ FirstLoads (now (gates .entry)) (now (given .entry)) (now (bits .entry)) (now (looks .entry)) (now (looks .exit)) ⌝ }
 {
@@ -69,90 +69,55 @@ fn loads_of(gates: &[u32], given: &[u32], bits: &[u32], looks: &mut [u32])
     given_loads(given, bits, looks);
 }
 
-// Stage 1 loads the bits of leaves and given pins.
-pub fn first_loads(gates: &[u32], given: &[u32], bits: &[u32], result: &mut [u32], looks: usize)
-    requires { ⌜ FirstIn (now gates) (now given) (now bits) looks (now result) ⌝ }
-    ensures { λ _. ⌜ FirstHeld (now (gates .entry)) (now (given .entry)) (now (bits .entry)) looks (now (result .entry)) (now (result .exit)) ⌝ }
-{
-    let end = looks + pin_count(gates);
-    loads_of(gates, given, bits, &mut result[looks..end]);
-}
-
-// Every pin loads 0.
-pub fn no_loads(result: &mut [u32], looks: usize, pins: usize)
-    requires { ⌜ looks + pins ≤ length (now result) ⌝ }
-    ensures { λ _. ⌜ Zeroed looks pins (now (result .entry)) (now (result .exit)) ⌝ }
-{
-    let end = looks + pins;
-    fill_part(&mut result[looks..end], 0);
-}
-
 // What pin p loads. A pin above N loads 0.
-fn looked(result: &[u32], looks: usize, pins: usize, p: Pin) -> bool
-    requires { ⌜ looks + pins ≤ length (now result) ⌝ }
-    ensures { λ r. ⌜ r ≡ held looks pins (now (result .entry)) (p .0) ⌝ }
+fn looked(looks: &[u32], p: Pin) -> bool
+    ensures { λ r. ⌜ r ≡ held (now (looks .entry)) (p .0) ⌝ }
 {
     let i = p.index();
-    if pins <= i {
+    if looks.len() <= i {
         return false;
     }
-    result[looks + i] != 0
+    looks[i] != 0
 }
 
-// Level 0 of the stage whose bits stand from `at` on.
-pub fn load_row(
-    height: Height,
-    cells: &[u32],
-    result: &mut [u32],
-    at: usize,
-    looks: usize,
-    pins: usize,
-)
-    requires { ⌜ AreaAt (height .0) (now cells) at looks pins (now result) ⌝ }
-    ensures { λ _. ⌜ Loads (height .0) (now (cells .entry)) at looks pins (now (result .entry)) (now (result .exit)) ⌝ }
+// Level 0 of a stage's bits.
+pub fn load_row(height: Height, cells: &[u32], looks: &[u32], bits: &mut [u32])
+    requires { ⌜ UpAt (height .0) (now cells) (now bits) ⌝ }
+    ensures { λ _. ⌜ Loads (height .0) (now (cells .entry)) (now (looks .entry)) (now (bits .entry)) (now (bits .exit)) ⌝ }
 {
     let mut c = height.width();
     while c < cells.len() {
-        result[at + c] = as_number(looked(result, looks, pins, Pin(cells[c])));
+        bits[c] = as_number(looked(looks, Pin(cells[c])));
         c += 1;
     }
 }
 
 // What the next stage loads: each pin above level 0 the bit at its lowest position, which is written last.
-pub fn remember(
-    height: Height,
-    cells: &[u32],
-    result: &mut [u32],
-    at: usize,
-    looks: usize,
-    pins: usize,
-)
-    requires { ⌜ AreaAt (height .0) (now cells) at looks pins (now result) ⌝ }
-    ensures { λ _. ⌜ Spread (height .0) (now (cells .entry)) looks pins (λ (c : ℕ). getD (now (result .entry)) (at + c) 0) (now (result .entry)) (now (result .exit)) ⌝ }
-{
-    let width = height.width();
-    let mut i = 1;
-    while i < width {
-        let c = width - i;
-        i += 1;
-        let p = Pin(cells[c]).index();
-        if p < pins {
-            result[looks + p] = result[at + c];
-        }
-    }
-}
-
-// These pins load 0 again.
-pub fn forget(height: Height, cells: &[u32], result: &mut [u32], looks: usize, pins: usize)
-    requires { ⌜ ForgetAt (height .0) (now cells) looks pins (now result) ⌝ }
-    ensures { λ _. ⌜ Spread (height .0) (now (cells .entry)) looks pins (λ (c : ℕ). 0) (now (result .entry)) (now (result .exit)) ⌝ }
+pub fn remember(height: Height, cells: &[u32], bits: &[u32], looks: &mut [u32])
+    requires { ⌜ UpAt (height .0) (now cells) (now bits) ⌝ }
+    ensures { λ _. ⌜ Spread (height .0) (now (cells .entry)) (λ (c : ℕ). getD (now (bits .entry)) c 0) (now (looks .entry)) (now (looks .exit)) ⌝ }
 {
     let mut c = height.width();
     while 1 < c {
         c -= 1;
         let p = Pin(cells[c]).index();
-        if p < pins {
-            result[looks + p] = 0;
+        if p < looks.len() {
+            looks[p] = bits[c];
+        }
+    }
+}
+
+// These pins load 0 again.
+pub fn forget(height: Height, cells: &[u32], looks: &mut [u32])
+    requires { ⌜ StageAt (height .0) (now cells) ⌝ }
+    ensures { λ _. ⌜ Spread (height .0) (now (cells .entry)) (λ (c : ℕ). 0) (now (looks .entry)) (now (looks .exit)) ⌝ }
+{
+    let mut c = height.width();
+    while 1 < c {
+        c -= 1;
+        let p = Pin(cells[c]).index();
+        if p < looks.len() {
+            looks[p] = 0;
         }
     }
 }

@@ -7,7 +7,7 @@ use lib.ListN.{length, getD, take, drop, replicate}
 use Rattle.rules.specs.Lists.{Found, nothing, found, mem, upTo, laidOver}
 use Rattle.rules.specs.Cells.{empty, filled, width, stageSize, rooms, levelOf, rowStart}
 use Rattle.rules.specs.Graph.{Node, leaf, gate, ownBit, gateBit, graphOf, pinCount}
-use Rattle.rules.specs.Checks.{planSized, refusalOf}
+use Rattle.rules.specs.Checks.{planSized, refusalOf, pinShown}
 
 -- the cell at position p of level h, w being its row's start: level 0 takes what is loaded by pin. A filled cell above level 0 whose first
 -- lower cell holds the same pin copies it; otherwise it ANDs both lower cells, if both are filled and a gate drives its pin
@@ -68,21 +68,25 @@ foldFrom (suc n) K g load plan =
 unfoldable pub foldBits : ℕ → (plan gates given bits : List ℕ) → List ℕ
 foldBits K plan gates given bits = foldFrom (rooms K (length plan)) K (graphOf gates) (firstLoad (graphOf gates) given (take (pinCount gates) bits)) plan
 
--- the size at which the result area counts: a number a position, and one a pin for looking up what is loaded
-unfoldable pub resultSize : (plan gates : List ℕ) → ℕ
-resultSize plan gates = length plan + pinCount gates
-
-unfoldable pub foldSized : ℕ → (plan gates : List ℕ) → (bits result : ℕ) → Bool
-foldSized K plan gates bits result = planSized K (length plan) && leb (pinCount gates) bits && leb (resultSize plan gates) result
+-- plan, bits, result and work have a right size: a bit a pin, a number a position, and in the work area a number a pin
+unfoldable pub foldSized : ℕ → (plan gates : List ℕ) → (bits result work : ℕ) → Bool
+foldSized K plan gates bits result work = planSized K (length plan) && leb (pinCount gates) bits && leb (length plan) result && leb (pinCount gates) work
 
 -- 1, 2, 3, 23 or 5, else 0: there are no records to refuse
-unfoldable pub foldRefusal : ℕ → (plan gates given bits result : List ℕ) → ℕ
-foldRefusal K plan gates given bits result = refusalOf K (foldSized K plan gates (length bits) (length result)) gates given []
+unfoldable pub foldRefusal : ℕ → (plan gates given bits result work : List ℕ) → ℕ
+foldRefusal K plan gates given bits result work = refusalOf K (foldSized K plan gates (length bits) (length result) (length work)) gates given []
 
--- the result area at exit: the bits, and 0 in the numbers for looking up
-unfoldable pub foldResult : ℕ → (plan gates given bits result : List ℕ) → List ℕ
-foldResult K plan gates given bits result =
-    elim (foldRefusal K plan gates given bits result) [
-      | zero ↦ laidOver (foldBits K plan gates given bits ++ replicate (pinCount gates) 0) result
-      | suc n ↦ result
+-- the number, with 23 the smallest pin on any loop, and the lent areas at exit
+pub record FoldOutcome : Type 0 where
+  pub number : ℕ
+  pub pin : ℕ
+  pub result : List ℕ
+  pub work : List ℕ
+
+-- a refusal changes nothing; else the bits lie over the result area, and 0 over the numbers for looking up
+unfoldable pub folder : ℕ → (plan gates given bits result work : List ℕ) → FoldOutcome
+folder K plan gates given bits result work =
+    elim (foldRefusal K plan gates given bits result work) [
+      | zero ↦ record { number = 0; pin = 0; result = laidOver (foldBits K plan gates given bits) result; work = laidOver (replicate (pinCount gates) 0) work }
+      | suc n ↦ record { number = suc n; pin = pinShown (suc n) gates; result = result; work = work }
     ]

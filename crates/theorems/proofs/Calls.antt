@@ -5,20 +5,22 @@ use mathlib.Core.Logic.{_⊎_, inl, inr, _≢_}
 use mathlib.Core.List.{List, _++_, append-assoc}
 use native.Mathlib.Omega.{arith}
 use native.Mathlib.Nat.{mul-le-mul-right, suc-mul}
-use lib.ListN.{length, getD, replicate, length-append, List·getD-append}
+use lib.ListN.{length, getD, List·getD-append}
 use Rattle.rules.specs.Lists.{padded, laidOver}
 use Rattle.rules.specs.Cells.{empty, wordLimit, stageSize, rooms}
-use Rattle.rules.specs.Graph.{graphOf, pinCount, value}
+use Rattle.rules.specs.Graph.{graphOf, value}
 use Rattle.rules.specs.Records.{groupsOf, Ends}
 use Rattle.rules.specs.Traversal.{WordRule}
 use Rattle.rules.specs.Checks.{refusalOf}
 use Rattle.rules.specs.Build as rules
-use Rattle.rules.specs.Fold.{asNumber, foldBits, foldRefusal, foldResult}
+use Rattle.rules.specs.Fold.{asNumber, foldBits, foldRefusal, FoldOutcome, folder}
 use Rattle.rules.proofs.Stage.Refusals.{refused-some}
 use Rattle.rules.proofs.Stage.Staged.{two-step}
 use Rattle.rules.proofs.Build.Lengths.{length-fold}
 use Rattle.placer.specs.declared.Answer.{Answer}
 use Rattle.placer.specs.Answers.{told, areas, outcome}
+use Rattle.fold.specs.declared.Answer.{Answer as Folded}
+use Rattle.fold.specs.Answers.{numberFor, outcome as outcomeOf}
 use Rattle.theorems.specs.Inputs.{Input, D, built, Refused}
 use Rattle.theorems.specs.Reading.{Read}
 use Rattle.theorems.proofs.Rooms.{rooms-enough, refused-where, refusal-given}
@@ -148,12 +150,17 @@ within s r size p a b = omega (arith, mul-le-mul-right size a, suc-mul s size)
 same-read : {K q b : ℕ} {p p′ w w′ c c′ : List ℕ} (f : List ℕ → List ℕ) → p′ ≡ p → w′ ≡ w → c′ ≡ c → Read K p w c (f p) q b → Read K p′ w′ c′ (f p′) q b
 same-read f ep ew ec R = rw (ep, ew, ec) R
 
+fold-laid : (K : ℕ) (plan gates given bits result work : List ℕ) (n : ℕ) → n ≡ foldRefusal K plan gates given bits result work → folder K plan gates given bits result work .number ≡ 0 → folder K plan gates given bits result work .result ≡ laidOver (foldBits K plan gates given bits) result
+unfolding folder
+fold-laid K plan gates given bits result work zero e z = rw (← e, folder) refl
+fold-laid K plan gates given bits result work (suc n) e z = let d : suc n ≡ 0 = rw (← e, folder) at z in absurd (omega arith)
+
 -- Fold the plan that an answer of 0 left, read the bits of its written words, and every endpoint's graph value is there.
-pub reads : (C : Call) (z : C .answer .number ≡ 0) (bits result result′ : List ℕ) → foldRefusal (C .height) (C .exit .plan) (C .gates) (C .given) bits result ≡ 0 →
-    result′ ≡ foldResult (C .height) (C .exit .plan) (C .gates) (C .given) bits result → (q : ℕ) → 0 < q → Ends q (groupsOf (C .records)) →
+pub reads : (C : Call) (z : C .answer .number ≡ 0) (bits result work : List ℕ) (a : Folded) (result′ work′ : List ℕ) → outcomeOf a result′ work′ ≡ folder (C .height) (C .exit .plan) (C .gates) (C .given) bits result work → numberFor a ≡ 0 →
+    (q : ℕ) → 0 < q → Ends q (groupsOf (C .records)) →
     Read (C .height) (C .exit .plan) (C .exit .words) (C .exit .counts) result′ q (asNumber (value (length (graphOf (C .gates))) (graphOf (C .gates)) (C .given) bits q))
-unfolding foldResult laidOver foldBits
-reads C z bits result result′ f e q b i =
+unfolding outcomeOf laidOver foldBits
+reads C z bits result work a result′ work′ e f q b i =
     let W = whole C z in
     let R = endpoints-read (input C (W .passes)) (length (C .entry .plan)) (W .ss) (W .built) bits (W .behind) (W .after) q b i in
     let P = C .exit .plan in
@@ -161,6 +168,7 @@ reads C z bits result result′ f e q b i =
     let s = foldBits (C .height) P (C .gates) (C .given) bits in
     let l : length s ≡ rooms (C .height) (length P) * stageSize (C .height) = length-fold (rooms (C .height) (length P)) (C .height) _ _ P in
     let k : r .stage * stageSize (C .height) + r .position < length s = omega (arith, within (r .stage) (rooms (C .height) (length P)) (stageSize (C .height)) (r .position) (r .room) (omega (arith, r .high, two-step (C .height)))) in
+    let o = fold-laid (C .height) P (C .gates) (C .given) bits result work _ refl (sym (ap (λ (x : FoldOutcome). x .number) e) ∙ f) in
     let v : getD result′ (r .stage * stageSize (C .height) + r .position) 0 ≡ getD s (r .stage * stageSize (C .height) + r .position) 0 =
-    rw (e, f, foldResult) (List·getD-append (s ++ replicate (pinCount (C .gates)) 0) _ 0 _ (rw length-append (omega arith)) ∙ List·getD-append s _ 0 _ k) in
+    ap (λ (x : List ℕ). getD x (r .stage * stageSize (C .height) + r .position) 0) (ap (λ (x : FoldOutcome). x .result) e ∙ o) ∙ List·getD-append s _ 0 _ k in
     record { stage = r .stage; at = r .at; position = r .position; room = r .room; from = r .from; to = r .to; word = r .word; low = r .low; high = r .high; cell = r .cell; bit = v ∙ r .bit }

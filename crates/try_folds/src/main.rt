@@ -21,7 +21,7 @@ use try_cases::text::piece;
 use try_cases::text::put;
 use values::set_values;
 
-// What the result holds before a fold.
+// What result and work hold before a fold.
 const OLD: u32 = 7;
 
 // The numbers of a line.
@@ -33,20 +33,22 @@ const BITS: usize = 2;
 
 const RESULT: usize = 3;
 
-const FIRST: usize = 4;
+const WORK: usize = 4;
 
-const LAST: usize = 5;
+const FIRST: usize = 5;
 
-const ALONE: usize = 6;
+const LAST: usize = 6;
 
-const AT: usize = 7;
+const ALONE: usize = 7;
 
-const FROM: usize = 8;
+const AT: usize = 8;
 
-const SHOWN: usize = 9;
+const FROM: usize = 9;
 
-// What is counted: folds, filled cells, of those whose bit is their pin's value, bits at the position asked for, numbers from FROM on that
-// are 0 or as before the fold, the refusal, the numbers of the result.
+const SHOWN: usize = 10;
+
+// What is counted: folds, filled cells, of those whose bit is their pin's value, bits at the position asked for, numbers of work that are 0,
+// numbers of result from FROM on and of work that are as before the fold, the refusal, the numbers of result and work.
 const FOLDS: usize = 0;
 
 const CELLS: usize = 1;
@@ -149,7 +151,9 @@ fn fold_bits(
     tally: &mut [usize; 8],
 ) {
     let mut area = [OLD; 16400];
+    let mut work = [OLD; 40];
     let size = number(numbers, RESULT);
+    let pins = number(numbers, WORK);
     let answer = fold(
         narrow(numbers, HEIGHT),
         plan,
@@ -157,9 +161,11 @@ fn fold_bits(
         given(graph),
         part(bits, 0, number(numbers, BITS)),
         front(&mut area, size),
+        front(&mut work, pins),
     );
     add(tally, REFUSAL, answer.number() as usize);
     look(numbers, plan, part(&area, 0, size), values, tally);
+    look_work(part(&work, 0, pins), tally);
 }
 
 // The lengths of gates and given pins, then these.
@@ -175,18 +181,24 @@ fn given(graph: &[u32]) -> &[u32] {
     )
 }
 
-// What is seen of one fold.
+// What is seen of one fold in its result.
 fn look(numbers: &[u8], plan: &[u32], result: &[u32], values: &[u32], tally: &mut [usize; 8]) {
     let from = number(numbers, FROM);
     add(tally, FOLDS, 1);
     add(tally, RIGHT, right(plan, result, values));
     add(tally, ONES, item(result, number(numbers, AT)) as usize);
-    add(tally, ZEROS, count(result, from, 0));
     add(tally, UNTOUCHED, count(result, from, OLD));
     add(tally, LENGTH, result.len());
     if number(numbers, SHOWN) == 1 {
         tell_ones(plan, result);
     }
+}
+
+// And in its work area.
+fn look_work(work: &[u32], tally: &mut [usize; 8]) {
+    add(tally, ZEROS, count(work, 0, 0));
+    add(tally, UNTOUCHED, count(work, 0, OLD));
+    add(tally, LENGTH, work.len());
 }
 
 fn is_right(plan: &[u32], result: &[u32], values: &[u32], p: usize) -> bool {

@@ -24,25 +24,25 @@ refusal-requires c κs = search needs
 
 returns : tie.Need-returns
 unfolding numberFor pinFor
-returns c = told-plain _ _ _ _ _ _ _ (c .before .before .before .before .areas-sized .ensures) _ (c .before .before .refusal .ensures) _ _ (c .match .keys1) (λ z. omega arith) refl refl
+returns c = told-plain _ _ _ _ _ _ _ _ (c .before .before .before .before .areas-sized .ensures) _ (c .before .before .refusal .ensures) _ _ (c .match .keys1) (λ z. omega arith) refl refl
 
 returns-2 : tie.Need-returns-2
 unfolding numberFor pinFor
-returns-2 c = told-plain _ _ _ _ _ _ _ (c .before .before .before .before .areas-sized .ensures) _ (c .before .before .refusal .ensures) _ _ (c .match .keys2) (λ z. omega arith) refl refl
+returns-2 c = told-plain _ _ _ _ _ _ _ _ (c .before .before .before .before .areas-sized .ensures) _ (c .before .before .refusal .ensures) _ _ (c .match .keys2) (λ z. omega arith) refl refl
 
 returns-3 : tie.Need-returns-3
 unfolding numberFor pinFor
-returns-3 c = told-plain _ _ _ _ _ _ _ (c .before .before .before .before .areas-sized .ensures) _ (c .before .before .refusal .ensures) _ _ (c .match .keys3) (λ z. omega arith) refl refl
+returns-3 c = told-plain _ _ _ _ _ _ _ _ (c .before .before .before .before .areas-sized .ensures) _ (c .before .before .refusal .ensures) _ _ (c .match .keys3) (λ z. omega arith) refl refl
 
 returns-4 : tie.Need-returns-4
 unfolding numberFor pinFor
-returns-4 c = told-plain _ _ _ _ _ _ _ (c .before .before .before .before .areas-sized .ensures) _ (c .before .before .refusal .ensures) _ _ (c .match .keys4) (λ z. omega arith) refl refl
+returns-4 c = told-plain _ _ _ _ _ _ _ _ (c .before .before .before .before .areas-sized .ensures) _ (c .before .before .refusal .ensures) _ _ (c .match .keys4) (λ z. omega arith) refl refl
 
 returns-5 : tie.Need-returns-5
-returns-5 c = told-looped _ _ _ _ _ _ _ (c .before .before .before .before .areas-sized .ensures) _ (c .before .before .refusal .ensures) (c .match .keys5)
+returns-5 c = told-looped _ _ _ _ _ _ _ _ (c .before .before .before .before .areas-sized .ensures) _ (c .before .before .refusal .ensures) (c .match .keys5)
 
 returns-6 : tie.Need-returns-6
-returns-6 c = told-five _ _ _ _ _ _ _ (c .before .before .before .before .areas-sized .ensures) _ (c .before .before .refusal .ensures) (c .match .rest .0 .0 .0 .0 .1) (c .match .rest .0 .0 .0 .1) (c .match .rest .0 .0 .1) (c .match .rest .0 .1) (c .match .rest .1)
+returns-6 c = told-five _ _ _ _ _ _ _ _ (c .before .before .before .before .areas-sized .ensures) _ (c .before .before .refusal .ensures) (c .match .rest .0 .0 .0 .0 .1) (c .match .rest .0 .0 .0 .1) (c .match .rest .0 .0 .1) (c .match .rest .0 .1) (c .match .rest .1)
 
 pub check-spec : {M : Type 1} → statement M
 check-spec =

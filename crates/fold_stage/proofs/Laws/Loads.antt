@@ -1,22 +1,37 @@
 -- Loads by pin: leaves and given pins, level 0, and what a stage leaves for the next. Assumes nothing.
 use Prim.Native.Nat.{ℕ, zero, suc, _+_, _-_, _^_, _≤_, _<_}
 use mathlib.Core.Path.{_≡_, refl, sym, _∙_, ap}
-use mathlib.Core.Logic.{_⊎_, inl, inr}
-use mathlib.Core.Bool.{Bool, false, not, _&&_}
+use mathlib.Core.Logic.{inl, inr}
+use mathlib.Core.Bool.{Bool, false, not, _&&_, _||_}
 use mathlib.Core.List.{List, _∷_}
 use native.Mathlib.Omega.{arith}
 use lib.Dec.{eqb, ltb}
-use lib.ListN.{length, getD, set, take, drop, length-set}
+use lib.ListN.{length, getD, set, take, drop, length-set, length-take, List·getD-eq-default}
 use lib.Seq.{getD-set-same, getD-set-other, getD-take, drop-cons, drop-length}
-use borrow.Author.Tests.{lt-ltb, le-ltb, eq-eqb, ne-eqb, ltb-true}
+use borrow.Author.Tests.{not-false, eq-eqb, ne-eqb, ltb-true, ltb-false}
 use Rattle.rules.specs.Lists.{found, mem, In, Out}
-use Rattle.rules.specs.Cells.{empty}
-use Rattle.rules.specs.Graph.{leaf, graphOf, pinCount, ownBit}
-use Rattle.rules.specs.Fold.{asNumber, isLeaf, firstLoad, firstAt, lowest}
+use Rattle.rules.specs.Cells.{empty, filled}
+use Rattle.rules.specs.Graph.{Node, leaf, graphOf, pinCount, ownBit}
+use Rattle.rules.specs.Fold.{asNumber, bitAt, isLeaf, firstLoad, firstAt, lowest}
+use Rattle.rules.proofs.Bools.{and-none}
+use Rattle.rules.proofs.Fold.Bits.{bit-empty, bit-load}
 use Rattle.rules.proofs.Lists.Members.{split, in-cons, in-nil, in-getD, out-head, out-tail, eqb-true, eqb-false}
-use Rattle.fold_stage.specs.Bits.{StageAt}
-use Rattle.fold_stage.specs.Loads.{held, seen, AreaAt, Loads, Spread, FirstAt, GivenAt, LeafLoads, GivenLoads, FirstLoads}
-use Rattle.fold_stage.proofs.Laws.Cells.{getD-inside}
+use Rattle.fold_stage.specs.Bits.{StageAt, RightFrom, UpAt}
+use Rattle.fold_stage.specs.Loads.{held, seen, Loads, Spread, FirstAt, GivenAt, LeafLoads, GivenLoads, FirstLoads}
+use Rattle.fold_stage.proofs.Laws.Cells.{bit-number, getD-inside}
+
+-- ---- a load
+
+module _ (l : List ℕ) (n p : ℕ) (e : p ≡ n) where
+  -- a pin past the numbers loads 0
+  pub held-past : length l ≤ p → false ≡ held l n
+  unfolding held
+  held-past h = rw (List·getD-eq-default l 0 {n = n} (omega arith))
+
+  -- any pin loads its number
+  pub held-there : not (eqb (getD l p 0) 0) ≡ held l n
+  unfolding held
+  held-there = rw e
 
 -- ---- stage 1
 
@@ -108,95 +123,98 @@ module _ (given bits l : List ℕ) (A : GivenAt given bits l) where
 pub first-given : (gates given bits l u : List ℕ) → FirstAt gates given bits l → LeafLoads gates bits l u → GivenAt given bits u
 first-given gates given bits l u A L = record { enough = omega (arith, L .len, A .enough); named = λ q i. omega (arith, L .len, A .named q i) }
 
--- leaves, then given pins over them: what stage 1 loads
-pub first-loads : (gates given bits l u v : List ℕ) → FirstAt gates given bits l → LeafLoads gates bits l u → GivenLoads given bits u v → FirstLoads gates given bits l v
+-- past the bits no pin has one
+own-past : (bits : List ℕ) (m n : ℕ) → m ≤ n → ownBit (take m bits) n ≡ false
+unfolding ownBit
+own-past bits m zero h = refl
+own-past bits m (suc n) h = rw (List·getD-eq-default (take m bits) 0 {n = suc n} (omega (arith, length-take m bits)))
+
+first-past : (g : List Node) (given bits : List ℕ) (m n : ℕ) → m ≤ n → firstLoad g given (take m bits) n ≡ false
 unfolding firstLoad
-first-loads gates given bits l u v A L G = record {
-  len = G .len ∙ L .len;
-  each = λ n b.
+first-past g given bits m n h = rw (own-past bits m n h) (and-none (mem n given || isLeaf (getD g n leaf)))
+
+module _ (gates given bits l u v : List ℕ) (A : FirstAt gates given bits l) (L : LeafLoads gates bits l u) (G : GivenLoads given bits u v) where
+  first-number : (n : ℕ) → n < length l → getD v n 0 ≡ asNumber (firstLoad (graphOf gates) given (take (pinCount gates) bits) n)
+  unfolding firstLoad
+  first-number n b =
       let o : ownBit (take (pinCount gates) bits) n ≡ ownBit bits n = own-take bits (pinCount gates) n (omega (arith, A .size)) in
       split (mem n given)
       (λ t. G .those n (omega (arith, L .len)) t ∙ rw (t, o))
-      (λ t. G .others n t ∙ L .each n b ∙ rw (t, o));
-}
+      (λ t. G .others n t ∙ L .each n b ∙ rw (t, o))
+
+  first-each : (n : ℕ) → held v n ≡ firstLoad (graphOf gates) given (take (pinCount gates) bits) n
+  unfolding held
+  first-each n = split (ltb n (length l))
+      (λ t. rw (first-number n (ltb-true n (length l) t)) (bit-number (firstLoad (graphOf gates) given (take (pinCount gates) bits) n)))
+      (λ t. let b = ltb-false n (length l) t in
+      sym (held-past v n n refl (omega (arith, G .len, L .len))) ∙ sym (first-past (graphOf gates) given bits (pinCount gates) n (omega (arith, A .size))))
+
+  -- leaves, then given pins over them: what stage 1 loads
+  pub first-loads : FirstLoads gates given bits l v
+  first-loads = record { len = G .len ∙ L .len; loads = λ i n. first-each n i }
 
 -- ---- level 0
 
-module _ (L m : ℕ) (w : List ℕ) (n p : ℕ) (e : p ≡ n) where
-  -- a pin past the numbers loads 0
-  pub held-past : m ≤ p → false ≡ held L m w n
-  unfolding held
-  held-past h = rw (le-ltb n m (omega arith))
-
-  -- any other pin loads its number
-  pub held-there : p < m → not (eqb (getD w (L + p) 0) 0) ≡ held L m w n
-  unfolding held
-  held-there h = rw (lt-ltb n m (omega arith), e)
-
--- areas that agree on the numbers have the same loads
-pub held-same : (L m : ℕ) (w w′ : List ℕ) → ((i : ℕ) → L ≤ i → i < L + m → getD w′ i 0 ≡ getD w i 0) → (n : ℕ) → held L m w′ n ≡ held L m w n
-unfolding held
-held-same L m w w′ s n = split (ltb n m)
-    (λ t. rw (t, s (L + n) (omega arith) (omega (arith, ltb-true n m t))))
-    (λ t. rw t)
-
 -- level 0 loaded up to a position
-pub record LoadsTo (K : ℕ) (cells : List ℕ) (at L m : ℕ) (w : List ℕ) (q : ℕ) (now : List ℕ) : Type 0 where
-  pub len : length now ≡ length w
+pub record LoadsTo (K : ℕ) (cells l bits : List ℕ) (q : ℕ) (now : List ℕ) : Type 0 where
+  pub len : length now ≡ length bits
   pub low : 2 ^ K ≤ q
-  pub high : q ≤ 2 ^ (K + 1)
-  pub row : (x : ℕ) → 2 ^ K ≤ x → x < q → getD now (at + x) 0 ≡ asNumber (held L m w (getD cells x empty))
-  pub same : (i : ℕ) → (i < at) ⊎ (at + 2 ^ (K + 1) ≤ i) → getD now i 0 ≡ getD w i 0
+  pub row : (x : ℕ) → 2 ^ K ≤ x → x < q → getD now x 0 ≡ asNumber (held l (getD cells x empty))
 
-module _ (K : ℕ) (cells : List ℕ) (at L m : ℕ) (w : List ℕ) (A : AreaAt K cells at L m w) where
+module _ (K : ℕ) (cells l bits : List ℕ) (U : UpAt K cells bits) where
   -- at the start of level 0 nothing is loaded yet
-  pub loads-none : (q : ℕ) → q ≡ 2 ^ K → LoadsTo K cells at L m w q w
-  loads-none q e = record { len = refl; low = omega arith; high = omega (arith, A .stage .double); row = λ x a b. absurd (omega arith); same = λ i s. refl }
+  pub loads-none : (q : ℕ) → q ≡ 2 ^ K → LoadsTo K cells l bits q bits
+  loads-none q e = record { len = refl; low = omega arith; row = λ x a b. absurd (omega arith) }
 
-  module _ (q : ℕ) (now : List ℕ) (r : LoadsTo K cells at L m w q now) (h : q < length cells) where
-    -- the next position lies in the area
-    pub loads-inside : at + q < length now
-    loads-inside = omega (arith, r .len, A .inside, A .room, A .stage .size)
+  module _ (q : ℕ) (now : List ℕ) (r : LoadsTo K cells l bits q now) (h : q < length cells) where
+    -- the next position has a bit
+    pub loads-inside : q < length now
+    loads-inside = omega (arith, r .len, U .same)
 
     -- one more position takes what its pin loads
-    pub loads-more : (x : Bool) → x ≡ held L m now (getD cells q 0) → (v : ℕ) → v ≡ asNumber x → LoadsTo K cells at L m w (q + 1) (set now (at + q) v)
-    loads-more x ex v ev =
-        let k : held L m now (getD cells q 0) ≡ held L m w (getD cells q empty) =
-        held-same L m w now (λ i a b. r .same i (inr (omega (arith, A .inside)))) (getD cells q 0) ∙ ap (held L m w) (getD-inside cells q 0 empty h) in
-        record {
-          len = length-set now (at + q) v ∙ r .len;
-          low = omega (arith, r .low);
-          high = omega (arith, A .stage .size);
-          row = λ y a b. split (eqb y q)
-              (λ t. let e = eqb-true y q t in rw (e, getD-set-same now (at + q) v 0 loads-inside) (ev ∙ ap asNumber (ex ∙ k)))
-              (λ t. getD-set-other now (at + q) (at + y) v 0 (λ d. eqb-false y q t (omega arith)) ∙ r .row y a (omega (arith, eqb-false y q t)));
-          same = λ i s. getD-set-other now (at + q) i v 0 (λ d. elim s [ inl c ↦ omega arith | inr c ↦ omega (arith, A .stage .size) ]) ∙ r .same i s;
-        }
+    pub loads-more : (x : Bool) → x ≡ held l (getD cells q 0) → (v : ℕ) → v ≡ asNumber x → LoadsTo K cells l bits (q + 1) (set now q v)
+    loads-more x ex v ev = record {
+      len = length-set now q v ∙ r .len;
+      low = omega (arith, r .low);
+      row = λ y a b. split (eqb y q)
+          (λ t. let e = eqb-true y q t in rw (e, getD-set-same now q v 0 loads-inside) (ev ∙ ap asNumber (ex ∙ ap (held l) (getD-inside cells q 0 empty h))))
+          (λ t. getD-set-other now q y v 0 (eqb-false y q t) ∙ r .row y a (omega (arith, eqb-false y q t)));
+    }
 
   -- all of level 0 is loaded
-  pub loads-done : (q : ℕ) (now : List ℕ) → LoadsTo K cells at L m w q now → length cells ≤ q → Loads K cells at L m w now
-  loads-done q now r h = record { len = r .len; row = λ x a b. r .row x a (omega (arith, A .stage .size)); same = r .same }
+  pub loads-done : (q : ℕ) (now : List ℕ) → LoadsTo K cells l bits q now → length cells ≤ q → Loads K cells l bits now
+  loads-done q now r h = record { len = r .len; row = λ x a b. r .row x a (omega (arith, U .stage .size)) }
+
+module _ (K : ℕ) (g : List Node) (cells l : List ℕ) (few : length l ≤ 65536) where
+  loaded : (q : ℕ) → 2 ^ K ≤ q → q < 2 ^ (K + 1) → held l (getD cells q empty) ≡ bitAt K g cells (held l) q
+  unfolding filled empty
+  loaded q a b = split (filled (getD cells q empty))
+      (λ t. sym (bit-load K g cells (held l) q a b t))
+      (λ t. sym (held-past l (getD cells q empty) (getD cells q empty) refl (omega (arith, few, eqb-true (getD cells q empty) empty (not-false (eqb (getD cells q empty) empty) t)))) ∙ sym (bit-empty K g cells (held l) q t))
+
+  -- level 0, loaded, has its bits: an empty cell loads 0, since the empty mark is past the numbers
+  pub row-right : (bits bits′ : List ℕ) → Loads K cells l bits bits′ → RightFrom K g cells (held l) (2 ^ K) bits′
+  row-right bits bits′ R = record { bit = λ q a b. R .row q a b ∙ ap asNumber (loaded q a b) }
 
 -- ---- what stands above level 0
 
 -- the positions from p on, above level 0, have stored their pins' numbers, the lowest last
-pub record SpreadFrom (K : ℕ) (cells : List ℕ) (L m : ℕ) (f : ℕ → ℕ) (w : List ℕ) (p : ℕ) (now : List ℕ) : Type 0 where
-  pub len : length now ≡ length w
+pub record SpreadFrom (K : ℕ) (cells : List ℕ) (f : ℕ → ℕ) (l : List ℕ) (p : ℕ) (now : List ℕ) : Type 0 where
+  pub len : length now ≡ length l
   pub low : 1 ≤ p
   pub high : p ≤ 2 ^ K
-  pub each : (n : ℕ) → n < m → getD now (L + n) 0 ≡ seen (firstAt n p (take (2 ^ K - p) (drop p cells))) f (getD w (L + n) 0)
-  pub same : (i : ℕ) → (i < L) ⊎ (L + m ≤ i) → getD now i 0 ≡ getD w i 0
+  pub each : (n : ℕ) → n < length l → getD now n 0 ≡ seen (firstAt n p (take (2 ^ K - p) (drop p cells))) f (getD l n 0)
 
-module _ (K : ℕ) (cells : List ℕ) (S : StageAt K cells) (L m : ℕ) (f : ℕ → ℕ) (w : List ℕ) where
+module _ (K : ℕ) (cells : List ℕ) (S : StageAt K cells) (f : ℕ → ℕ) (l : List ℕ) where
   -- at level 0 nothing is stored yet
-  pub spread-none : (p : ℕ) → p ≡ 2 ^ K → SpreadFrom K cells L m f w p w
+  pub spread-none : (p : ℕ) → p ≡ 2 ^ K → SpreadFrom K cells f l p l
   unfolding seen firstAt
   spread-none p e =
       let z : 2 ^ K - p ≡ 0 = omega arith in
-      record { len = refl; low = omega (arith, S .low); high = omega arith; each = λ n h. rw z; same = λ i s. refl }
+      record { len = refl; low = omega (arith, S .low); high = omega arith; each = λ n h. rw z }
 
   -- the next position down
-  module _ (p : ℕ) (now : List ℕ) (r : SpreadFrom K cells L m f w p now) (q : ℕ) (eq : p ≡ q + 1) (h : 1 ≤ q) (c : ℕ) (ec : c ≡ getD cells q 0) where
+  module _ (p : ℕ) (now : List ℕ) (r : SpreadFrom K cells f l p now) (q : ℕ) (eq : p ≡ q + 1) (h : 1 ≤ q) (c : ℕ) (ec : c ≡ getD cells q 0) where
     cells-back : take (2 ^ K - q) (drop q cells) ≡ c ∷ take (2 ^ K - p) (drop p cells)
     cells-back =
         let e : 2 ^ K - q ≡ suc (2 ^ K - p) = omega (arith, r .high) in
@@ -212,33 +230,27 @@ module _ (K : ℕ) (cells : List ℕ) (S : StageAt K cells) (L m : ℕ) (f : ℕ
     first-later n e = let s : suc q ≡ p = omega arith in rw (cells-back, firstAt, ne-eqb c n (λ d. e (sym d)), s)
 
     -- a cell without a pin of the graph stores nothing
-    pub spread-pass : m ≤ c → SpreadFrom K cells L m f w q now
+    pub spread-pass : length now ≤ c → SpreadFrom K cells f l q now
     spread-pass b = record {
       len = r .len;
       low = h;
       high = omega (arith, r .high);
-      each = λ n k. r .each n k ∙ rw (first-later n (λ e. omega arith));
-      same = r .same;
+      each = λ n k. r .each n k ∙ rw (first-later n (λ e. omega (arith, r .len)));
     }
 
     -- a cell stores its number at its pin, over that of a higher position
-    pub spread-more : c < m → L + m ≤ length w → (v : ℕ) → v ≡ f q → SpreadFrom K cells L m f w q (set now (L + c) v)
+    pub spread-more : c < length now → (v : ℕ) → v ≡ f q → SpreadFrom K cells f l q (set now c v)
     unfolding seen
-    spread-more b room v ev = record {
-      len = length-set now (L + c) v ∙ r .len;
+    spread-more b v ev = record {
+      len = length-set now c v ∙ r .len;
       low = h;
       high = omega (arith, r .high);
       each = λ n k. split (eqb n c)
-          (λ t. let e = eqb-true n c t in rw (first-here n e, e, getD-set-same now (L + c) v 0 (omega (arith, r .len))) ev)
-          (λ t. let e = eqb-false n c t in rw (first-later n e, getD-set-other now (L + c) (L + n) v 0 (λ d. e (omega arith))) (r .each n k));
-      same = λ i s. getD-set-other now (L + c) i v 0 (λ d. elim s [ inl a ↦ omega arith | inr a ↦ omega arith ]) ∙ r .same i s;
+          (λ t. let e = eqb-true n c t in rw (first-here n e, e, getD-set-same now c v 0 b) ev)
+          (λ t. let e = eqb-false n c t in rw (first-later n e, getD-set-other now c n v 0 e) (r .each n k));
     }
 
   -- at position 1 each pin has the number of its lowest position
-  pub spread-done : (p : ℕ) (now : List ℕ) → SpreadFrom K cells L m f w p now → p ≤ 1 → Spread K cells L m f w now
+  pub spread-done : (p : ℕ) (now : List ℕ) → SpreadFrom K cells f l p now → p ≤ 1 → Spread K cells f l now
   unfolding lowest
-  spread-done p now r h = let e : p ≡ 1 = omega (arith, r .low) in record {
-    len = r .len;
-    each = λ n k. rw e at (r .each n k);
-    same = r .same;
-  }
+  spread-done p now r h = let e : p ≡ 1 = omega (arith, r .low) in record { len = r .len; each = λ n k. rw e at (r .each n k) }

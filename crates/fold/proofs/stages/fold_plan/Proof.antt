@@ -1,6 +1,7 @@
 -- `fold::stages::fold_plan` meets its contract. Assumes nothing.
-use native.Mathlib.Omega.{arith}
-use Rattle.fold.proofs.Laws.Stages.{laid}
+use Prim.Native.Nat.{ℕ}
+use mathlib.Core.Path.{_∙_, ap}
+use lib.ListN.{replicate}
 use borrow.Author.Needs.{needs}
 use Rattle.fold.proofs.stages.fold_plan.Statement.{statement}
 use Rattle.fold.proofs.stages.fold_plan.Tie as tie
@@ -8,19 +9,24 @@ use Rattle.fold.proofs.stages.fold_plan.Tie as tie
 fold-stages-requires : tie.Need-fold-stages-requires
 fold-stages-requires c κs = search needs
 
-pin-count-requires : tie.Need-pin-count-requires
-pin-count-requires c κs = search needs
-
-no-loads-requires : tie.Need-no-loads-requires
-no-loads-requires c κs = omega (arith, c .before .pin-count .ensures, c .before .before .before .before .fold-stages .ensures .len, c .before .before .before .before .before .before .before .before .before .before .before .pre .0 .room)
+fill-part-requires : tie.Need-fill-part-requires
+fill-part-requires c κs = search needs
 
 same-length : tie.Need-same-length
 same-length c = search needs
 
+same-length-2 : tie.Need-same-length-2
+same-length-2 c = search needs
+
 returns : tie.Need-returns
-returns c = laid _ _ _ _ _ _ (c .before .before .before .before .before .before .before .before .before .before .before .before .before .before .pre .0 .room) _ _ (c .before .before .before .before .before .before .before .fold-stages .ensures) _ (c .before .before .before .before .pin-count .ensures) (c .before .before .no-loads .ensures)
+returns c = (c .before .before .before .before .before .before .before .before .fold-stages .ensures, c .before .before .fill-part .ensures ∙ ap (λ (n : ℕ). replicate n 0) (c .before .before .before .before .before .before .before .before .fold-stages .kept .1 .1 .1 .1 .1 .1 .0))
 
 pub fold-plan-spec : {M : Type 1} → statement M
 fold-plan-spec =
     tie.close
-    (tie.spec fold-stages-requires pin-count-requires no-loads-requires same-length returns)
+    (tie.spec
+    fold-stages-requires
+    fill-part-requires
+    same-length
+    same-length-2
+    returns)

@@ -1,9 +1,9 @@
--- `fold_stage::loads::forget` meets its contract: the pins that stand from position p on have 0. Assumes nothing.
+-- `fold_stage::loads::forget` meets its contract: the pins that stand from position c on have 0. Assumes nothing.
 use mathlib.Core.Path.{_≡_, refl}
 use Prim.Native.Nat.{ℕ, _^_, _≤_}
 use native.Mathlib.Omega.{arith}
 use lib.ListN.{length}
-use Rattle.fold_stage.specs.Loads.{ForgetAt}
+use Rattle.fold_stage.specs.Bits.{StageAt}
 use Rattle.fold_stage.proofs.Laws.Cells.{width-there}
 use Rattle.fold_stage.proofs.Laws.Loads.{SpreadFrom, spread-none, spread-pass, spread-more, spread-done}
 use borrow.Author.Needs.{needs}
@@ -11,55 +11,52 @@ use Rattle.fold_stage.proofs.loads.forget.Statement.{statement}
 use Rattle.fold_stage.proofs.loads.forget.Tie as tie
 
 abbrev Inv-loop : tie.InvT-loop
-Inv-loop cells result₀ looks pins c₀ result c = (length result ≡ length result₀) × (c ≤ length cells) × ((K : ℕ) → ForgetAt K cells looks pins result₀ → c₀ ≡ 2 ^ K → SpreadFrom K cells looks pins (λ (q : ℕ). 0) result₀ c result)
+Inv-loop cells looks₀ c₀ looks c = (length looks ≡ length looks₀) × (c ≤ length cells) × ((K : ℕ) → StageAt K cells → c₀ ≡ 2 ^ K → SpreadFrom K cells (λ (q : ℕ). 0) looks₀ c looks)
 
 abbrev μ-loop : tie.MeasureT-loop
-μ-loop cells result₀ looks pins c₀ result c = c
+μ-loop cells looks₀ c₀ looks c = c
 
 width-requires : tie.Need-width-requires Inv-loop μ-loop
 width-requires c κs = search needs
 
 loop-holds : tie.Need-loop-holds Inv-loop μ-loop
-loop-holds c = let s = c .before .before .before .pre .stage in let e = width-there s (c .width .ensures) in (refl, omega (arith, s .size, s .double), λ K A e. spread-none _ _ (A .stage) _ _ _ _ _ e)
+loop-holds c = let s = c .before .before .before .pre in let e = width-there s (c .width .ensures) in (refl, omega (arith, s .size, s .double), λ K A e. spread-none _ _ A _ _ _ e)
 
 sub-c : tie.Need-sub-c Inv-loop μ-loop
 sub-c c = search needs
 
-mul-t9 : tie.Need-mul-t9 Inv-loop μ-loop
-mul-t9 c = search needs
+mul-t7 : tie.Need-mul-t7 Inv-loop μ-loop
+mul-t7 c = search needs
 
-shared-slice-read-t11 : tie.Need-shared-slice-read-t11 Inv-loop μ-loop
-shared-slice-read-t11 c = search needs
+shared-slice-read-t9 : tie.Need-shared-slice-read-t9 Inv-loop μ-loop
+shared-slice-read-t9 c = search needs
 
 index-requires : tie.Need-index-requires Inv-loop μ-loop
 index-requires c κs = search needs
 
-add-result : tie.Need-add-result Inv-loop μ-loop
-add-result c = search needs
+mul-looks : tie.Need-mul-looks Inv-loop μ-loop
+mul-looks c = search needs
 
-mul-result : tie.Need-mul-result Inv-loop μ-loop
-mul-result c = search needs
-
-slice-write-result : tie.Need-slice-write-result Inv-loop μ-loop
-slice-write-result c = search needs
+slice-write-looks : tie.Need-slice-write-looks Inv-loop μ-loop
+slice-write-looks c = search needs
 
 loop-less : tie.Need-loop-less Inv-loop μ-loop
 loop-less c = search needs
 
 loop-again : tie.Need-loop-again Inv-loop μ-loop
-loop-again c = (search needs, search needs, λ K A e. spread-more _ _ (A .stage) _ _ _ _ _ _ (c .before .before .before .before .loop .inv .2 K A e) _ (omega arith) (omega arith) _ (c .before .index .ensures) (c .if1 .taken) (A .room) _ refl)
+loop-again c = (search needs, search needs, λ K A e. spread-more _ _ A _ _ _ _ (c .before .before .before .before .loop .inv .2 K A e) _ (omega arith) (omega arith) _ (c .before .index .ensures) (c .if1 .taken) _ refl)
 
 loop-less-2 : tie.Need-loop-less-2 Inv-loop μ-loop
 loop-less-2 c = search needs
 
 loop-again-2 : tie.Need-loop-again-2 Inv-loop μ-loop
-loop-again-2 c = (search needs, search needs, λ K A e. spread-pass _ _ (A .stage) _ _ _ _ _ _ (c .before .before .before .before .loop .inv .2 K A e) _ (omega arith) (omega arith) _ (c .before .index .ensures) (c .if1 .left))
+loop-again-2 c = (search needs, search needs, λ K A e. spread-pass _ _ A _ _ _ _ (c .before .before .before .before .loop .inv .2 K A e) _ (omega arith) (omega arith) _ (c .before .index .ensures) (c .if1 .left))
 
 same-length : tie.Need-same-length Inv-loop μ-loop
 same-length c = search needs
 
 returns : tie.Need-returns Inv-loop μ-loop
-returns c = spread-done _ _ (c .before .before .before .before .before .pre .stage) _ _ _ _ _ _ (c .before .loop .inv .2 _ (c .before .before .before .before .before .pre) (width-there (c .before .before .before .before .before .pre .stage) (c .before .before .width .ensures))) (c .loop-test .left)
+returns c = spread-done _ _ (c .before .before .before .before .before .pre) _ _ _ _ (c .before .loop .inv .2 _ (c .before .before .before .before .before .pre) (width-there (c .before .before .before .before .before .pre) (c .before .before .width .ensures))) (c .loop-test .left)
 
 pub forget-spec : {M : Type 1} → statement M
 forget-spec =
@@ -70,12 +67,11 @@ forget-spec =
     width-requires
     loop-holds
     sub-c
-    mul-t9
-    shared-slice-read-t11
+    mul-t7
+    shared-slice-read-t9
     index-requires
-    add-result
-    mul-result
-    slice-write-result
+    mul-looks
+    slice-write-looks
     loop-less
     loop-again
     loop-less-2

@@ -8,10 +8,7 @@ index-requires : tie.Need-index-requires
 index-requires c κs = search needs
 
 returns : tie.Need-returns
-returns c = held-past _ _ _ _ _ (c .before .index .ensures) (c .if1 .taken)
-
-add-result : tie.Need-add-result
-add-result c = search needs
+returns c = held-past _ _ _ (c .before .index .ensures) (c .if1 .taken)
 
 mul-result : tie.Need-mul-result
 mul-result c = search needs
@@ -20,9 +17,9 @@ shared-slice-read-result : tie.Need-shared-slice-read-result
 shared-slice-read-result c = search needs
 
 returns-2 : tie.Need-returns-2
-returns-2 c = held-there _ _ _ _ _ (c .before .before .index .ensures) (c .before .if1 .left)
+returns-2 c = held-there _ _ _ (c .before .before .index .ensures)
 
 pub looked-spec : {M : Type 1} → statement M
 looked-spec =
     tie.close
-    (tie.spec index-requires returns add-result mul-result shared-slice-read-result returns-2)
+    (tie.spec index-requires returns mul-result shared-slice-read-result returns-2)
