@@ -74,8 +74,11 @@ static inline size_t placer_stage_size(uint32_t height) {
     return height < 6 || height > 13 ? SIZE_MAX : (size_t)2 << height;
 }
 
-/* plan: exactly a multiple of a stage; counts: at least as many numbers as rooms. */
+/* plan: exactly a multiple of a stage, one a room. */
 static inline size_t placer_plan_size(uint32_t height, size_t rooms) { return placer_product(rooms, placer_stage_size(height)); }
+
+/* counts: at least this. */
+static inline size_t placer_counts_size(size_t rooms) { return rooms; }
 
 /* words: at least this. */
 static inline size_t placer_words_size(uint32_t height) {
@@ -92,8 +95,13 @@ static inline size_t placer_merge_work_size(size_t gates_len, size_t records_len
     return placer_sum(placer_build_work_size(gates_len, records_len), placer_product(8, placer_sum(indices_len, lengths_len)));
 }
 
-/* bits and work of a fold: at least this each, a number a pin. Its result: at least as many as the plan. */
+/* bits and work of a fold: at least this each, a number a pin. */
+static inline size_t placer_fold_bits_size(size_t gates_len) { return gates_len / 2; }
+
 static inline size_t placer_fold_work_size(size_t gates_len) { return gates_len / 2; }
+
+/* result of a fold: at least this, a number a position. */
+static inline size_t placer_fold_result_size(size_t plan_len) { return plan_len; }
 
 /* The bytes that hold any listing of so many stages and words, and any refusal's line: 17 a position, 11 a word, and what stands around them. */
 static inline size_t placer_listing_size(uint32_t height, size_t stages, size_t words) {
@@ -120,7 +128,7 @@ enum placer_build_answer { PLACER_BUILD_NUMBER, PLACER_BUILD_STAGES, PLACER_BUIL
  * records: endpoint records, each a kind (1 output, 2 flip-flop, 3 memory, 4 staged pin) and its numbers
  * plan:    placer_plan_size(height, rooms) numbers, for the pins in their cells, stage after stage
  * words:   at least placer_words_size(height) numbers, for the written words, stage after stage
- * counts:  at least a number a room, for how many words each stage writes
+ * counts:  at least placer_counts_size(rooms) numbers, for how many words each stage writes
  * work:    at least placer_build_work_size(gates_len, records_len) numbers; scratch, 0 afterwards
  * answer:  at least PLACER_BUILD_LEN numbers
  *
@@ -180,8 +188,8 @@ enum placer_fold_answer { PLACER_FOLD_NUMBER, PLACER_FOLD_PIN, PLACER_FOLD_LEN }
 
 /* Folds any plan, for the bits of leaves and given pins, to one bit a position.
  * plan, gates, given: as a build had and left them
- * bits:    at least a number a pin from pin 0 on, 0 or not 0: placer_fold_work_size(gates_len)
- * result:  at least plan_len numbers, for 0 or 1 a position
+ * bits:    at least placer_fold_bits_size(gates_len) numbers, one a pin from pin 0 on, 0 or not 0
+ * result:  at least placer_fold_result_size(plan_len) numbers, for 0 or 1 a position
  * work:    at least placer_fold_work_size(gates_len) numbers; scratch, 0 afterwards
  * answer:  at least PLACER_FOLD_LEN numbers
  *

@@ -95,7 +95,7 @@ pub const fn stage_size(height: u32) -> usize {
     if height < 6 || height > 13 { usize::MAX } else { 2 << height }
 }
 
-/// The plan for so many rooms; counts have a number a room.
+/// The plan for so many rooms: exactly a multiple of a stage. Counts have at least a number a room.
 pub const fn plan_size(height: u32, rooms: usize) -> usize {
     rooms.saturating_mul(stage_size(height))
 }
@@ -115,7 +115,12 @@ pub const fn merge_work_size(gates: usize, records: usize, indices: usize, lengt
     build_work_size(gates, records).saturating_add(indices.saturating_add(lengths).saturating_mul(8))
 }
 
-/// The least size of a fold's work and of its bits, by the length of gates. Its result has at least the plan's.
+/// The least size of a fold's bits, by the length of gates. Its result has at least the plan's.
+pub const fn fold_bits_size(gates: usize) -> usize {
+    gates / 2
+}
+
+/// The least size of a fold's work, by the length of gates.
 pub const fn fold_work_size(gates: usize) -> usize {
     gates / 2
 }
