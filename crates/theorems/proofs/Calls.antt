@@ -1,19 +1,21 @@
 -- The same for the code: what the contracts of `placer::build` and `fold::fold` say, by the theorems. Assumes nothing.
-use Prim.Native.Nat.{ℕ, zero, suc, _+_, _*_, _<_}
+use Prim.Native.Nat.{ℕ, zero, suc, _+_, _*_, _≤_, _<_}
 use mathlib.Core.Path.{_≡_, refl, sym, _∙_, ap}
 use mathlib.Core.Logic.{_⊎_, inl, inr, _≢_}
+use mathlib.Core.Bool.{Bool}
 use mathlib.Core.List.{List, _++_, append-assoc}
 use native.Mathlib.Omega.{arith}
 use native.Mathlib.Nat.{mul-le-mul-right, suc-mul}
 use lib.ListN.{length, getD, List·getD-append}
 use Rattle.rules.specs.Lists.{padded, laidOver}
-use Rattle.rules.specs.Cells.{empty, wordLimit, stageSize, rooms}
-use Rattle.rules.specs.Graph.{graphOf, value}
+use Rattle.rules.specs.Cells.{empty, isHeight, wordLimit, stageSize, rooms}
+use Rattle.rules.specs.Graph.{graphOf, pinCount, value}
 use Rattle.rules.specs.Records.{groupsOf, Ends}
 use Rattle.rules.specs.Traversal.{WordRule}
-use Rattle.rules.specs.Checks.{refusalOf}
+use Rattle.rules.specs.Checks.{graphRight, loopsRight, recordsRight, givenRight, refusalOf}
 use Rattle.rules.specs.Build as rules
 use Rattle.rules.specs.Fold.{asNumber, foldBits, foldRefusal, FoldOutcome, folder}
+use Rattle.rules.proofs.Lists.Members.{split}
 use Rattle.rules.proofs.Stage.Refusals.{refused-some}
 use Rattle.rules.proofs.Stage.Staged.{two-step}
 use Rattle.rules.proofs.Build.Lengths.{length-fold}
@@ -134,6 +136,37 @@ refused-counts C e z = told-refused (built (input C e) (roomsOf C)) refl (answer
     told-refused (rules.refusal n k) d t =
         same-refused (input C e) (roomsOf C) n (C .answer .number) k (C .answer .stage) (ap (λ (r : rules.Reply). r .number) (t .reply)) (ap (λ (r : rules.Reply). r .stage) (t .reply)) (refused-where (input C e) (roomsOf C) n k d)
     told-refused (rules.whole ss) d t = absurd (z (ap (λ (r : rules.Reply). r .number) (t .reply)))
+
+checked-few : (K : ℕ) (s : Bool) (gates given records : List ℕ) → (refusalOf K s gates given records ≤ 5) ⊎ (refusalOf K s gates given records ≡ 23)
+unfolding refusalOf
+checked-few K s gates given records =
+    split (isHeight K)
+    (λ h. split s
+    (λ a. split (graphRight gates)
+    (λ g. split (loopsRight gates)
+    (λ l. split (recordsRight (pinCount gates) records)
+    (λ r. split (givenRight (pinCount gates) given) (λ v. rw (h, a, g, l, r, v, refusalOf) (inl (omega arith))) (λ v. rw (h, a, g, l, r, v, refusalOf) (inl (omega arith))))
+    (λ r. rw (h, a, g, l, r, refusalOf) (inl (omega arith))))
+    (λ l. rw (h, a, g, l, refusalOf) (inr refl)))
+    (λ g. rw (h, a, g, refusalOf) (inl (omega arith))))
+    (λ a. rw (h, a, refusalOf) (inl (omega arith))))
+    (λ h. rw (h, refusalOf) (inl (omega arith)))
+
+-- a check's refusal is the answer
+checked-told : (C : Call) (n : ℕ) → checked C ≡ suc n → C .answer .number ≡ suc n
+unfolding outcome told rules.placer rules.refuseChecked
+checked-told C n e = ap (λ (o : rules.Outcome). o .reply .number) (rw (e, rules.placer) at (C .ensures))
+
+-- So whoever sees an answer from 6 to 9 knows that the checks let the input pass, and the counts.
+pub six-to-nine : (C : Call) → 6 ≤ C .answer .number → C .answer .number ≤ 9 → (e : checked C ≡ 0) × Refused (input C e) (roomsOf C) (C .answer .number) (C .answer .stage)
+six-to-nine C l h = passing (checked C) refl
+  where
+    passing : (n : ℕ) → checked C ≡ n → (e : checked C ≡ 0) × Refused (input C e) (roomsOf C) (C .answer .number) (C .answer .stage)
+    passing zero e = (e, refused-counts C e (λ z. omega arith))
+    passing (suc n) e = absurd (elim (checked-few (C .height) (rules.sizesRight (C .height) (C .gates) (C .records) (C .entry)) (C .gates) (C .given) (C .records)) [
+      | inl a ↦ omega (arith, checked-told C n e)
+      | inr a ↦ omega (arith, checked-told C n e)
+    ])
 
 -- And where these counts are over, the call answers with that number and stage.
 pub counts-refused : (C : Call) (e : checked C ≡ 0) (n k : ℕ) → Refused (input C e) (roomsOf C) n k → (C .answer .number ≡ n) × (C .answer .stage ≡ k)

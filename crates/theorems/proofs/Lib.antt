@@ -6,6 +6,7 @@ pub mod Loading
 pub mod Writing
 pub mod Reading
 pub mod Calls
+pub mod Folds
 pub mod Top
 pub mod Rules
 pub mod Frauds

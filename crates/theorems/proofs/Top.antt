@@ -1,30 +1,25 @@
 -- The top theorem, in one statement: what a crew relies on. Assumes nothing.
 use Prim.Native.Nat.{ℕ, _<_}
 use mathlib.Core.Path.{_≡_}
+use mathlib.Core.Bool.{Bool}
 use mathlib.Core.List.{List}
 use lib.ListN.{length}
 use Rattle.rules.specs.Graph.{graphOf, value}
 use Rattle.rules.specs.Records.{groupsOf, Ends}
-use Rattle.rules.specs.Fold.{asNumber, folder}
-use Rattle.fold.specs.declared.Answer.{Answer}
-use Rattle.fold.specs.Answers.{numberFor, outcome}
+use Rattle.rules.specs.Fold.{asNumber}
+use Rattle.fold.specs.Answers.{numberFor}
 use Rattle.theorems.specs.Reading.{Read}
 use Rattle.theorems.proofs.Calls.{Call, reads}
+use Rattle.theorems.proofs.Folds.{FoldCall}
 
--- a call of `fold` over the plan that a build left, for any bits on leaves and given pins, by its contract: the result area at entry and exit,
--- and the work area
-pub record FoldCall (C : Call) : Type 0 where
-  pub bits : List ℕ
-  pub entry : List ℕ
-  pub work : List ℕ
-  pub answer : Answer
-  pub exit : List ℕ
-  pub cleared : List ℕ
-  pub ensures : outcome answer exit cleared ≡ folder (C .height) (C .exit .plan) (C .gates) (C .given) bits entry work
+-- what the chip's gates give at a pin, for some bits on leaves and given pins
+abbrev pub chipValue : Call → List ℕ → ℕ → Bool
+chipValue C bits q = value (length (graphOf (C .gates))) (graphOf (C .gates)) (C .given) bits q
 
 -- If the placer answers 0, and the fold of the plan that it left answers 0, then reading the written words of the folded plan gives what the
 -- chip's gates give at every endpoint: for every endpoint pin above 0 there are a stage, a word written in that stage and a position of that
--- word, whose cell holds the pin and whose folded bit is the pin's value in the graph.
+-- word, whose cell holds the pin and whose folded bit is the pin's value in the graph. (The fold does answer 0 where its areas are large enough:
+-- `folds` in `Folds.antt`.)
 pub relied-on : (C : Call) → C .answer .number ≡ 0 → (F : FoldCall C) → numberFor (F .answer) ≡ 0 → (q : ℕ) → 0 < q → Ends q (groupsOf (C .records)) →
-    Read (C .height) (C .exit .plan) (C .exit .words) (C .exit .counts) (F .exit) q (asNumber (value (length (graphOf (C .gates))) (graphOf (C .gates)) (C .given) (F .bits) q))
+    Read (C .height) (C .exit .plan) (C .exit .words) (C .exit .counts) (F .exit) q (asNumber (chipValue C (F .bits) q))
 relied-on C z F f = reads C z (F .bits) (F .entry) (F .work) (F .answer) (F .exit) (F .cleared) (F .ensures) f
