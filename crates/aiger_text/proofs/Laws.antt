@@ -1,0 +1,9 @@
+pub mod Cursor
+pub mod Rows
+pub mod Passes
+pub mod Windows
+pub mod Header
+pub mod Whole
+pub mod File
+pub mod Verdict
+pub mod Lines

@@ -1,0 +1,231 @@
+-- Laws of a line's items. Assumes nothing.
+use Prim.Native.Nat.{ℕ, zero, suc, min, _+_, _-_, _*_, _<_, _≤_}
+use mathlib.Core.Path.{_≡_, refl, sym, ap, _∙_}
+use mathlib.Core.Logic.{_⊎_, inl, inr}
+use mathlib.Core.Bool.{Bool, true, false, _&&_, _||_}
+use mathlib.Core.List.{List, [], _∷_}
+use native.Mathlib.Omega.{arith}
+use lib.Dec.{eqb, leb, ltb}
+use lib.ListN.{length, getD, take, drop, List·getD-eq-default}
+use borrow.Author.Tests.{eqb-true, ltb-true, ltb-false, leb-true, le-leb, lt-leb, ne-eqb, eq-eqb, lt-ltb, le-ltb}
+use Rattle.rules.specs.Lists.{Found, nothing, found, sameList}
+use Rattle.rules.specs.Listing.{text}
+use Rattle.rules.specs.Graph.{inversionOf}
+use Rattle.rules.proofs.Lists.Members.{split}
+use Rattle.rules.proofs.Bools.{and-none}
+use Rattle.aiger_form.specs.Text.{Numbers?, noNumbers, numbers, number}
+use Rattle.aiger_text.proofs.Laws.Cursor.{parts-until, parts-rest}
+use Rattle.aiger_form.specs.Aag.{Header, symbolCount, symbolItem, symbolWord, symbolNumber, Item, badText, skipped, inputLine, latchLine, outputLine, gateLine, orBad, isLiteral, isVariable, inputItem, resetRight, latchItem, outputItem, gateItem, numbersItem, lineItem}
+use Rattle.aiger_text.specs.Cursor.{until, cap, capped, cappedFound, numeral, Got, none, some}
+use Rattle.aiger_text.specs.Rows.{itemOf, resetIn, inputIn, latchIn, outputIn, gateIn, head, itemAt, stopsAt}
+
+-- a number in range is exact, and one that is not stays out of range
+data Exact (m l : ℕ) : Type 0 where
+  same : capped l ≡ l → Exact m l
+  past : cap ≤ l → isLiteral m l ≡ false → isLiteral m (capped l) ≡ false → Exact m l
+
+module _ (m : ℕ) (h : m ≤ 2147483647) where
+  exact : (l : ℕ) → Exact m l
+  unfolding isLiteral
+  exact l = split (ltb l cap)
+      (λ t. let q = ltb-true l cap t in same (omega arith))
+      (λ t. let q = ltb-false l cap t in past q (lt-leb l (2 * m + 1) (omega arith)) (lt-leb (capped l) (2 * m + 1) (omega arith)))
+
+  no-variable : (l : ℕ) → isLiteral m l ≡ false → isVariable m l ≡ false
+  unfolding isVariable
+  no-variable l e = rw e (and-none (eqb (inversionOf l) 0 && ltb 0 l))
+
+  variable-same : (l : ℕ) → isVariable m (capped l) ≡ isVariable m l
+  variable-same l = elim (exact l) [
+    | same e ↦ rw e
+    | past k a b ↦ no-variable (capped l) b ∙ sym (no-variable l a)
+  ]
+
+  literal-same : (l : ℕ) → isLiteral m (capped l) ≡ isLiteral m l
+  literal-same l = elim (exact l) [ same e ↦ rw e | past k a b ↦ b ∙ sym a ]
+
+  -- what is kept only where a test holds is the same for two values that are equal then
+  or-bad-same : (t : Bool) (x y : Item) → (t ≡ true → x ≡ y) → orBad t x ≡ orBad t y
+  unfolding orBad
+  or-bad-same true x y e = e refl
+  or-bad-same false x y e = refl
+
+  and-parts : (a b : Bool) → a && b ≡ true → (a ≡ true) × (b ≡ true)
+  and-parts true true e = (refl, refl)
+  and-parts true false e = absurd (let z : _≡_ {A = ℕ} 0 1 = cc in omega arith)
+  and-parts false b e = absurd (let z : _≡_ {A = ℕ} 0 1 = cc in omega arith)
+
+  literal-exact : (l : ℕ) → isLiteral m l ≡ true → capped l ≡ l
+  unfolding isLiteral
+  literal-exact l e = omega (arith, leb-true l (2 * m + 1) e)
+
+  variable-exact : (l : ℕ) → isVariable m l ≡ true → capped l ≡ l
+  unfolding isVariable
+  variable-exact l e = literal-exact l (and-parts (eqb (inversionOf l) 0 && ltb 0 l) (isLiteral m l) e .1)
+
+  pub input-is : {r : Numbers?} {is : Bool} {count : ℕ} {values : List ℕ} → Got r is count values → inputIn m is count (getD values 0 0) ≡ numbersItem (inputItem m) r
+  unfolding inputIn inputItem numbersItem itemOf orBad
+  input-is none = refl
+  input-is (some {ns = ns} c v) =
+      let a = getD ns 0 0 in
+      rw (v 0 (omega arith), c, variable-same a)
+      (or-bad-same (eqb (length ns) 1 && isVariable m a) (inputLine (capped a)) (inputLine a) (λ t. ap inputLine (variable-exact a (and-parts (eqb (length ns) 1) (isVariable m a) t .1))))
+
+  pub output-is : {r : Numbers?} {is : Bool} {count : ℕ} {values : List ℕ} → Got r is count values → outputIn m is count (getD values 0 0) ≡ numbersItem (outputItem m) r
+  unfolding outputIn outputItem numbersItem itemOf orBad
+  output-is none = refl
+  output-is (some {ns = ns} c v) =
+      let a = getD ns 0 0 in
+      rw (v 0 (omega arith), c, literal-same a)
+      (or-bad-same (eqb (length ns) 1 && isLiteral m a) (outputLine (capped a)) (outputLine a) (λ t. ap outputLine (literal-exact a (and-parts (eqb (length ns) 1) (isLiteral m a) t .1))))
+
+  pub gate-is : {r : Numbers?} {is : Bool} {count : ℕ} {values : List ℕ} → Got r is count values → gateIn m is count (getD values 0 0) (getD values 1 0) (getD values 2 0) ≡ numbersItem (gateItem m) r
+  unfolding gateIn gateItem numbersItem itemOf orBad
+  gate-is none = refl
+  gate-is (some {ns = ns} n v) =
+      let a = getD ns 0 0 in
+      let b = getD ns 1 0 in
+      let c = getD ns 2 0 in
+      rw (v 0 (omega arith), v 1 (omega arith), v 2 (omega arith), n, variable-same a, literal-same b, literal-same c)
+      (or-bad-same (eqb (length ns) 3 && isVariable m a && isLiteral m b && isLiteral m c) (gateLine (capped a) (capped b) (capped c)) (gateLine a b c) (λ t.
+      let w = and-parts (eqb (length ns) 3 && isVariable m a && isLiteral m b) (isLiteral m c) t in
+      let u = and-parts (eqb (length ns) 3 && isVariable m a) (isLiteral m b) (w .0) in
+      let s = and-parts (eqb (length ns) 3) (isVariable m a) (u .0) in
+      rw (variable-exact a (s .1), literal-exact b (u .1), literal-exact c (w .1))))
+
+  -- where a latch's variable is in range, so is its reset
+  variable-below : (l : ℕ) → isVariable m l ≡ true → l < cap
+  unfolding isVariable isLiteral
+  variable-below l e = omega (arith, leb-true l (2 * m + 1) (and-parts (eqb (inversionOf l) 0 && ltb 0 l) (isLiteral m l) e .1))
+
+  bit-same : (a c : ℕ) → a < cap → leb (capped c) 1 || eqb (capped c) a ≡ leb c 1 || eqb c a
+  bit-same a c h′ = split (ltb c cap)
+      (λ t. let q = ltb-true c cap t in let e : capped c ≡ c = omega arith in rw e)
+      (λ t. let q = ltb-false c cap t in rw (lt-leb (capped c) 1 (omega arith), lt-leb c 1 (omega arith), ne-eqb (capped c) a (λ z. omega arith), ne-eqb c a (λ z. omega arith)))
+
+  reset-same : (ns : List ℕ) → isVariable m (getD ns 0 0) ≡ true → resetIn (length ns) (capped (getD ns 0 0)) (capped (getD ns 2 0)) ≡ resetRight ns
+  unfolding resetIn resetRight
+  reset-same ns v =
+      let a = getD ns 0 0 in
+      let c = getD ns 2 0 in
+      rw (variable-exact a v, bit-same a c (variable-below a v))
+
+  test-same : (ns : List ℕ) → (resetIn (length ns) (capped (getD ns 0 0)) (capped (getD ns 2 0)) && isVariable m (capped (getD ns 0 0)) && isLiteral m (capped (getD ns 1 0))) ≡ (resetRight ns && isVariable m (getD ns 0 0) && isLiteral m (getD ns 1 0))
+  test-same ns =
+      let a = getD ns 0 0 in
+      rw (variable-same a, literal-same (getD ns 1 0)) (split (isVariable m a)
+      (λ t. rw (reset-same ns t))
+      (λ t. rw (t, and-none (resetIn (length ns) (capped a) (capped (getD ns 2 0))), and-none (resetRight ns))))
+
+  or-parts : (a b : Bool) → a || b ≡ true → (a ≡ true) ⊎ (b ≡ true)
+  or-parts true b e = inl refl
+  or-parts false b e = inr e
+
+  reset-exact : (ns : List ℕ) → getD ns 0 0 < cap → resetRight ns ≡ true → capped (getD ns 2 0) ≡ getD ns 2 0
+  unfolding resetRight
+  reset-exact ns l e =
+      let a = getD ns 0 0 in
+      let c = getD ns 2 0 in
+      elim (or-parts (eqb (length ns) 2) (eqb (length ns) 3 && (leb c 1 || eqb c a)) e) [
+        | inl two ↦ let q : length ns ≤ 2 = omega (arith, eqb-true (length ns) 2 two) in let z : c ≡ 0 = List·getD-eq-default ns 0 q in rw z refl
+        | inr rest ↦ elim (or-parts (leb c 1) (eqb c a) (and-parts (eqb (length ns) 3) (leb c 1 || eqb c a) rest .1)) [
+          | inl bit ↦ omega (arith, leb-true c 1 bit)
+          | inr own ↦ omega (arith, eqb-true c a own)
+        ]
+      ]
+
+  pub latch-is : {r : Numbers?} {is : Bool} {count : ℕ} {values : List ℕ} → Got r is count values → latchIn m is count (getD values 0 0) (getD values 1 0) (getD values 2 0) ≡ numbersItem (latchItem m) r
+  unfolding latchIn latchItem numbersItem itemOf orBad
+  latch-is none = refl
+  latch-is (some {ns = ns} n v) =
+      let a = getD ns 0 0 in
+      let b = getD ns 1 0 in
+      let c = getD ns 2 0 in
+      rw (v 0 (omega arith), v 1 (omega arith), v 2 (omega arith), n, test-same ns)
+      (or-bad-same (resetRight ns && isVariable m a && isLiteral m b) (latchLine (capped a) (capped b) (capped c)) (latchLine a b c) (λ t.
+      let w = and-parts (resetRight ns && isVariable m a) (isLiteral m b) t in
+      let u = and-parts (resetRight ns) (isVariable m a) (w .0) in
+      rw (reset-exact ns (variable-below a (u .1)) (u .0), variable-exact a (u .1), literal-exact b (w .1))))
+
+-- ---- symbols
+
+pub symbol-none : (h : Header) (line : List ℕ) → length line ≡ 0 → symbolItem h line ≡ badText
+unfolding symbolItem
+symbol-none h [] e = refl
+symbol-none h (c ∷ cs) e = absurd (omega arith)
+
+pub symbol-cut : (h : Header) (line : List ℕ) (e : ℕ) → e ≡ 1 + until 32 (drop 1 line) → length line ≤ e → symbolItem h line ≡ badText
+unfolding symbolItem symbolWord
+symbol-cut h [] e d k = refl
+symbol-cut h (c ∷ cs) e d k = rw (parts-rest 32 cs (omega arith))
+
+below-capped : (k n : ℕ) → n ≤ cap → ltb (capped k) n ≡ ltb k n
+below-capped k n h = split (ltb k n) (λ t. let q = ltb-true k n t in lt-ltb (capped k) n (omega arith) ∙ sym t) (λ t. let q = ltb-false k n t in le-ltb (capped k) n (omega arith) ∙ sym t)
+
+symbol-number : (n v : ℕ) (is : Bool) (r : Found) → n ≤ cap → numeral is v ≡ cappedFound r → orBad (is && ltb v n) skipped ≡ symbolNumber n r
+unfolding symbolNumber numeral cappedFound orBad
+symbol-number n v false nothing h e = refl
+symbol-number n v false (found k) h e = absurd (let z : _≡_ {A = ℕ} 0 1 = cc in omega arith)
+symbol-number n v true nothing h e = absurd (let z : _≡_ {A = ℕ} 0 1 = cc in omega arith)
+symbol-number n v true (found k) h e = let q : v ≡ capped k = cc in rw (q, below-capped k n h)
+
+pub symbol-is : (h : Header) (line : List ℕ) (e v n : ℕ) (is : Bool) → n ≡ symbolCount h (getD line 0 0) → n ≤ cap → (length line ≡ 0 → ⊥) → e ≡ 1 + until 32 (drop 1 line) → e < length line → numeral is v ≡ cappedFound (number (take (e - 1) (drop 1 line))) → orBad (is && ltb v n) skipped ≡ symbolItem h line
+unfolding symbolItem symbolWord
+symbol-is h [] e v n is c k z d l r = absurd (z refl)
+symbol-is h (x ∷ xs) e v n is c k z d l r =
+    let q : e - 1 ≡ until 32 xs = omega arith in
+    rw (parts-until 32 xs (omega arith), ← c, ← q) (symbol-number n v is _ k r)
+
+pub comment-long : (line : List ℕ) → (length line ≡ 1 → ⊥) → false ≡ sameList line (text "c")
+unfolding sameList text
+comment-long [] n = refl
+comment-long (x ∷ []) n = absurd (n refl)
+comment-long (x ∷ y ∷ xs) n = split (eqb x 99) (λ t. rw (t, sameList)) (λ t. rw (t, sameList))
+
+pub comment-is : (line : List ℕ) → length line ≡ 1 → eqb (getD line 0 0) 99 ≡ sameList line (text "c")
+unfolding sameList text
+comment-is [] n = absurd (omega arith)
+comment-is (x ∷ []) n = split (eqb x 99) (λ t. rw (t, sameList)) (λ t. rw (t, sameList))
+comment-is (x ∷ y ∷ xs) n = absurd (omega arith)
+
+-- ---- the line at a place
+
+pub symbol-head : (h : Header) (line : List ℕ) → symbolItem (head 0 (h .inputs) (h .latches) (h .outputs) 0) line ≡ symbolItem h line
+unfolding symbolItem symbolCount
+symbol-head h [] = refl
+symbol-head h (x ∷ xs) = refl
+
+module _ (h : Header) (i : ℕ) (line : List ℕ) where
+  pub at-input : i < h .inputs → (lineItem (inputItem (h .variables)) line ≡ itemAt h i line) × (false ≡ stopsAt h i line)
+  unfolding itemAt stopsAt
+  at-input a = let t = lt-ltb i (h .inputs) a in (rw (t, itemAt), rw (t, stopsAt))
+
+  pub at-latch : h .inputs ≤ i → i - h .inputs < h .latches → (lineItem (latchItem (h .variables)) line ≡ itemAt h i line) × (false ≡ stopsAt h i line)
+  unfolding itemAt stopsAt
+  at-latch a b = let t = le-ltb i (h .inputs) a in let u = lt-ltb (i - h .inputs) (h .latches) b in (rw (t, itemAt, u), rw (t, stopsAt, u))
+
+  pub at-output : h .inputs ≤ i → h .latches ≤ i - h .inputs → i - h .inputs - h .latches < h .outputs → (lineItem (outputItem (h .variables)) line ≡ itemAt h i line) × (false ≡ stopsAt h i line)
+  unfolding itemAt stopsAt
+  at-output a b c =
+      let t = le-ltb i (h .inputs) a in
+      let u = le-ltb (i - h .inputs) (h .latches) b in
+      let v = lt-ltb (i - h .inputs - h .latches) (h .outputs) c in
+      (rw (t, itemAt, u, v), rw (t, stopsAt, u, v))
+
+  pub at-gate : h .inputs ≤ i → h .latches ≤ i - h .inputs → h .outputs ≤ i - h .inputs - h .latches → i - h .inputs - h .latches - h .outputs < h .gates → (lineItem (gateItem (h .variables)) line ≡ itemAt h i line) × (false ≡ stopsAt h i line)
+  unfolding itemAt stopsAt
+  at-gate a b c d =
+      let t = le-ltb i (h .inputs) a in
+      let u = le-ltb (i - h .inputs) (h .latches) b in
+      let v = le-ltb (i - h .inputs - h .latches) (h .outputs) c in
+      let w = lt-ltb (i - h .inputs - h .latches - h .outputs) (h .gates) d in
+      (rw (t, itemAt, u, v, w), rw (t, stopsAt, u, v, w))
+
+  pub at-symbol : h .inputs ≤ i → h .latches ≤ i - h .inputs → h .outputs ≤ i - h .inputs - h .latches → h .gates ≤ i - h .inputs - h .latches - h .outputs → (symbolItem (head 0 (h .inputs) (h .latches) (h .outputs) 0) line ≡ itemAt h i line) × (sameList line (text "c") ≡ stopsAt h i line)
+  unfolding itemAt stopsAt
+  at-symbol a b c d =
+      let t = le-ltb i (h .inputs) a in
+      let u = le-ltb (i - h .inputs) (h .latches) b in
+      let v = le-ltb (i - h .inputs - h .latches) (h .outputs) c in
+      let w = le-ltb (i - h .inputs - h .latches - h .outputs) (h .gates) d in
+      (rw (t, itemAt, u, v, w) (symbol-head h line), rw (t, stopsAt, u, v, w))

@@ -1,0 +1,5 @@
+pub mod Cursor
+pub mod Rows
+pub mod Passes
+pub mod Whole
+pub mod File
