@@ -55,7 +55,8 @@ digit : (n : ℕ) → n < 10 → isDigit (48 + n) ≡ true
 unfolding isDigit
 digit n h = rw (le-leb 48 (48 + n) (omega arith), le-leb (48 + n) 57 (omega arith))
 
-every-append : (f : ℕ → Bool) (xs ys : List ℕ) → every f xs ≡ true → every f ys ≡ true → every f (xs ++ ys) ≡ true
+-- two lists that pass a test, joined
+pub every-append : (f : ℕ → Bool) (xs ys : List ℕ) → every f xs ≡ true → every f ys ≡ true → every f (xs ++ ys) ≡ true
 unfolding every
 every-append f [] ys a b = b
 every-append f (x ∷ xs) ys a b = split (f x) (λ t. rw (t, every) (every-append f xs ys (rw (t, every) at a) b)) (λ t. true-false a (rw (t, every)))
@@ -67,14 +68,16 @@ digits-digits (suc f) n = split (ltb n 10)
     (λ t. rw (t, digits, digit n (ltb-true n 10 t), every))
     (λ t. rw (t, digits) (every-append isDigit (digits f (n / 10)) ((48 + n % 10) ∷ []) (digits-digits f (n / 10)) (rw (digit (n % 10) (omega arith), every))))
 
-out-digits : (e : ℕ) (xs : List ℕ) → isDigit e ≡ false → every isDigit xs ≡ true → Out e xs
+-- a byte that is no digit is not among digits
+pub out-digits : (e : ℕ) (xs : List ℕ) → isDigit e ≡ false → every isDigit xs ≡ true → Out e xs
 out-digits e xs d h = split (mem e xs) (λ t. true-false (every-in isDigit e xs h t) d) (λ t. t)
 
 out-decimal : (e n : ℕ) → isDigit e ≡ false → Out e (decimal n)
 unfolding decimal
 out-decimal e n d = out-digits e (digits (suc n) n) d (digits-digits (suc n) n)
 
-more-snoc : (xs : List ℕ) (n m d : ℕ) → moreDigits n xs ≡ found m → isDigit d ≡ true → moreDigits n (xs ++ (d ∷ [])) ≡ found (10 * m + (d - 48))
+-- one digit more
+pub more-snoc : (xs : List ℕ) (n m d : ℕ) → moreDigits n xs ≡ found m → isDigit d ≡ true → moreDigits n (xs ++ (d ∷ [])) ≡ found (10 * m + (d - 48))
 unfolding moreDigits
 more-snoc [] n m d e h = let z : n ≡ m = cc in rw (h, moreDigits, z)
 more-snoc (x ∷ xs) n m d e h = split (isDigit x) (λ t. rw (t, moreDigits) (more-snoc xs (10 * n + (x - 48)) m d (rw (t, moreDigits) at e) h))
@@ -116,11 +119,13 @@ numbers-decimal (n ∷ ns) = rw (number-decimal n, numbersOf, numbers-decimal ns
 
 -- ---- words
 
-space-digit : isDigit space ≡ false
+-- a space is no digit
+pub space-digit : isDigit space ≡ false
 unfolding isDigit
 space-digit = refl
 
-feed-digit : isDigit lineFeed ≡ false
+-- and a line feed is none
+pub feed-digit : isDigit lineFeed ≡ false
 unfolding isDigit
 feed-digit = refl
 

@@ -1,42 +1,36 @@
--- A file judged: cut, a reset, and the verdict in numbers. Assumes nothing.
-use Prim.Native.Nat.{ℕ, suc, _≤_, _<_}
+-- A file judged: a reset, and the verdict. Assumes nothing.
+use Prim.Native.Nat.{ℕ, _<_}
 use mathlib.Core.Path.{_≡_}
-use mathlib.Core.Bool.{Bool, true, false, not, _||_}
-use mathlib.Core.List.{List, [], _∷_}
-use lib.Dec.{ltb}
+use mathlib.Core.Bool.{true, false}
+use mathlib.Core.List.{List, []}
 use lib.ListN.{length}
-use Rattle.aiger_form.specs.Text.{Line}
-use Rattle.aiger_form.specs.Aag.{Header, Item, Spot, bodySize, isCut, items, placeOr, firstAgain, firstReset, File?, malformed, badReset, file, judged, fileOf}
-use Rattle.aiger_text.specs.Rows.{stopsAt, head}
-use Rattle.aiger_text.specs.Passes.{spotsAt, linesFrom, breadth}
+use Rattle.aiger_form.specs.Aag.{Header, Spot, isCut, items, placeOr, firstAgain, firstReset, File?, malformed, badReset, file, judged, fileOf}
+use Rattle.aiger_text.specs.declared.rows.Head.{Head}
+use Rattle.aiger_text.specs.declared.file.Verdict.{Verdict}
+use Rattle.aiger_text.specs.Rows.{head}
+use Rattle.aiger_text.specs.Passes.{spotsAt, linesFrom, storeAll, Behind}
 
--- the lines from the i-th on: do they end too early, or e not, and no comment?
-unfoldable pub cutFrom : Header → ℕ → (e : Bool) → List Line → Bool
-cutFrom h i e [] = ltb i (bodySize h) || not e
-cutFrom h i e (l ∷ ls) = elim (stopsAt h i (l .text)) [ true ↦ false | false ↦ cutFrom h (suc i) e ls ]
-
--- the lines from a place behind the header on
-pub record Behind (m start : ℕ) (bytes : List ℕ) : Type 0 where
-  pub few : m ≤ 2147483647
-  pub some : 0 < start
-  pub inside : start ≤ length bytes
-
+-- the first latch with a reset value, or the length
 pub record Resets (h : Header) (start : ℕ) (bytes : List ℕ) (r : ℕ) : Type 0 where
   pub is : r ≡ placeOr (length bytes) (firstReset (spotsAt h 0 (linesFrom bytes start)))
 
--- 12 or 13 with its place; or 0, where the lines start, and the header, whose number of outputs is capped
-pub data Judged (bytes : List ℕ) : File? → (number at start variables inputs latches outputs gates : ℕ) → Type 0 where
-  bad : {p start m i l o a : ℕ} → Judged bytes (malformed p) 12 p start m i l o a
-  reset : {p start m i l o a : ℕ} → Judged bytes (badReset p) 13 p start m i l o a
-  good : {p start m i l o a : ℕ} {xs : List Item} → Behind m start bytes → xs ≡ items (spotsAt (head m i l o a) 0 (linesFrom bytes start)) → Judged bytes (file m xs) 0 p start m i l o a
+-- the header of a verdict, whose number of outputs is capped, and the lines behind it
+abbrev pub headOf : Head → Header
+headOf h = head (h .variables) (h .inputs) (h .latches) (h .outputs) (h .gates)
 
-pub record Refused (number at number′ at′ : ℕ) : Type 0 where
-  pub what : number′ ≡ number
-  pub place : at′ ≡ at
+abbrev pub spotsOf : Verdict → List ℕ → List Spot
+spotsOf r bytes = spotsAt (headOf (r .head)) 0 (linesFrom bytes (r .start))
 
-pub record Ahead (m start : ℕ) (bytes map : List ℕ) : Type 0 where
-  pub behind : Behind m start bytes
-  pub wide : length map ≡ breadth
+-- 12 or 13 with its place; or 0, where the lines start, and the header
+pub data Judged (bytes : List ℕ) (f : File?) (r : Verdict) : Type 0 where
+  bad : r .number ≡ 12 → f ≡ malformed (r .at) → Judged bytes f r
+  reset : r .number ≡ 13 → f ≡ badReset (r .at) → Judged bytes f r
+  good : r .number ≡ 0 → Behind (r .head .variables) (r .start) bytes → f ≡ file (r .head .variables) (items (spotsOf r bytes)) → Judged bytes f r
+
+-- a number and its place
+pub record Refused (number at : ℕ) (r : Verdict) : Type 0 where
+  pub what : r .number ≡ number
+  pub place : r .at ≡ at
 
 -- what stands behind the header
 unfoldable pub bodyFile : Header → (start : ℕ) → List ℕ → File?
@@ -44,10 +38,15 @@ bodyFile h start bytes =
     let ls = linesFrom bytes start in
     elim (isCut h bytes ls) [ true ↦ malformed (placeOr (length bytes) (firstAgain [] (spotsAt h 0 ls))) | false ↦ judged (h .variables) (spotsAt h 0 ls) ]
 
-pub record BodyJudged (h : Header) (start₀ : ℕ) (bytes map map′ : List ℕ) (number at start variables inputs latches outputs gates : ℕ) : Type 0 where
+-- that judged
+pub record BodyJudged (h : Header) (start : ℕ) (bytes map map′ w w′ : List ℕ) (r : Verdict) : Type 0 where
   pub len : length map′ ≡ length map
-  pub is : Judged bytes (bodyFile h start₀ bytes) number at start variables inputs latches outputs gates
+  pub size : length w′ ≡ length w
+  pub is : Judged bytes (bodyFile h start bytes) r
+  pub stored : r .number ≡ 0 → r .head .variables < 65536 → w′ ≡ storeAll (spotsOf r bytes) w
 
-pub record FileJudged (bytes map map′ : List ℕ) (number at start variables inputs latches outputs gates : ℕ) : Type 0 where
-  pub len : length map′ ≡ length map
-  pub is : Judged bytes (fileOf bytes) number at start variables inputs latches outputs gates
+-- and the whole file
+pub record FileJudged (bytes w w′ : List ℕ) (r : Verdict) : Type 0 where
+  pub size : length w′ ≡ length w
+  pub is : Judged bytes (fileOf bytes) r
+  pub stored : r .number ≡ 0 → r .head .variables < 65536 → w′ ≡ storeAll (spotsOf r bytes) w

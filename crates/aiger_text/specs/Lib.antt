@@ -1,5 +1,6 @@
 pub mod Cursor
 pub mod Rows
 pub mod Passes
+pub mod Lines
 pub mod Whole
 pub mod File

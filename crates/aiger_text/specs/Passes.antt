@@ -1,14 +1,16 @@
 -- The lines behind the header one after the other, and what a pass over them finds that remembers a window of variables. Assumes nothing.
-use Prim.Native.Nat.{ℕ, suc, min, _+_, _-_, _≤_, _<_}
+use Prim.Native.Nat.{ℕ, suc, min, _+_, _-_, _*_, _≤_, _<_}
 use mathlib.Core.Path.{_≡_}
 use mathlib.Core.Bool.{Bool, true, false, not, _&&_}
 use mathlib.Core.List.{List, [], _∷_, _++_}
 use lib.Dec.{eqb}
-use lib.ListN.{length, getD, drop}
+use lib.ListN.{length, getD, set, drop}
 use Rattle.rules.specs.Lists.{Found, nothing, found, mem, every, keep}
 use Rattle.aiger_form.specs.Text.{Line, lineFeed, parts, placed}
-use Rattle.aiger_form.specs.Aag.{Header, Item, Spot, isText, defines, uses, placeOr, items, defined}
+use Rattle.rules.specs.Graph.{pinOf}
+use Rattle.aiger_form.specs.Aag.{Header, Item, badText, skipped, inputLine, latchLine, outputLine, gateLine, Spot, isCut, isText, defines, uses, placeOr, items, defined}
 use Rattle.aiger_form.specs.Windows.{window, firstBadIn}
+use Rattle.aiger_text.specs.declared.passes.Sweep.{Sweep}
 use Rattle.aiger_text.specs.Rows.{itemAt, stopsAt}
 
 -- the lines from the i-th on
@@ -31,6 +33,23 @@ firstUnknownIn f all (s ∷ ss) = elim (every (λ v. mem v all) (keep f (uses (s
 -- how many variables are remembered at a time
 abbrev pub breadth : ℕ
 breadth = 65536
+
+-- numbers in the area of gates: two for each of 65,536 pins
+abbrev pub area : ℕ
+area = 131072
+
+-- a gate's literals in the two numbers of its pin
+unfoldable pub storeItem : Item → List ℕ → List ℕ
+storeItem badText w = w
+storeItem skipped w = w
+storeItem (inputLine l) w = w
+storeItem (latchLine l n r) w = w
+storeItem (outputLine l) w = w
+storeItem (gateLine l a b) w = set (set w (2 * pinOf l) a) (2 * pinOf l + 1) b
+
+unfoldable pub storeAll : List Spot → List ℕ → List ℕ
+storeAll [] w = w
+storeAll (s ∷ ss) w = storeAll ss (storeItem (s .item) w)
 
 -- the variables of a list that stand in the window from lo on are marked
 pub record Marks (lo : ℕ) (seen map : List ℕ) : Type 0 where
@@ -67,17 +86,27 @@ definedOnto seen (s ∷ ss) = definedOnto (defines (s .item) ++ seen) ss
 unfoldable pub linesFrom : List ℕ → ℕ → List Line
 linesFrom bytes at = placed at (parts lineFeed (drop at bytes))
 
--- before the pass
-pub record Ready (m start lo : ℕ) (bytes map : List ℕ) : Type 0 where
+-- the lines from a place behind the header on
+pub record Behind (m start : ℕ) (bytes : List ℕ) : Type 0 where
   pub few : m ≤ 2147483647
+  pub some : 0 < start
+  pub inside : start ≤ length bytes
+
+-- before the pass
+pub record Ready (m start lo : ℕ) (bytes map w : List ℕ) : Type 0 where
+  pub few : m ≤ 2147483647
+  pub some : 0 < start
   pub inside : start ≤ length bytes
   pub blank : Marks lo [] map
+  pub wide : length w ≡ area
 
 -- and behind it
-pub record Swept (h : Header) (start lo : ℕ) (bytes map map′ : List ℕ) (r : ℕ) : Type 0 where
+pub record Swept (h : Header) (start lo : ℕ) (bytes map map′ w w′ : List ℕ) (r : Sweep) : Type 0 where
   pub len : length map′ ≡ length map
-  pub first : r ≡ passOver (window lo (lo + breadth)) [] (length bytes) (spotsAt h 0 (linesFrom bytes start))
+  pub first : r .first ≡ passOver (window lo (lo + breadth)) [] (length bytes) (spotsAt h 0 (linesFrom bytes start))
+  pub cut : r .cut ≡ isCut h bytes (linesFrom bytes start)
   pub marks : Marks lo (definedOnto [] (spotsAt h 0 (linesFrom bytes start))) map′
+  pub stored : w′ ≡ storeAll (spotsAt h 0 (linesFrom bytes start)) w
 
 -- ---- the pass over the uses
 
@@ -104,7 +133,3 @@ unfoldable pub badIn : Header → (start lo : ℕ) → List ℕ → ℕ
 badIn h start lo bytes =
     let ss = spotsAt h 0 (linesFrom bytes start) in
     min (length bytes) (placeOr (length bytes) (firstBadIn (window lo (lo + breadth)) (0 ∷ defined (items ss)) [] ss))
-
-pub record Windowed (h : Header) (start lo : ℕ) (bytes map map′ : List ℕ) (r : ℕ) : Type 0 where
-  pub len : length map′ ≡ length map
-  pub first : r ≡ badIn h start lo bytes

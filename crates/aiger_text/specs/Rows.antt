@@ -1,5 +1,5 @@
 -- What a line says, in numbers. Assumes nothing.
-use Prim.Native.Nat.{ℕ, _-_, _≤_}
+use Prim.Native.Nat.{ℕ, _-_, _≤_, _<_}
 use Rattle.aiger_text.specs.Cursor.{capped}
 use mathlib.Core.Path.{_≡_}
 use mathlib.Core.List.{List}
@@ -8,37 +8,23 @@ use Rattle.aiger_form.specs.Text.{numbersOf, words}
 use Rattle.rules.specs.Lists.{sameList}
 use Rattle.rules.specs.Listing.{text}
 use mathlib.Core.Bool.{Bool, true, false, _&&_, _||_}
+use Rattle.aiger_text.specs.declared.rows.Row.{Row}
+use Rattle.aiger_text.specs.declared.rows.Row.the-variants.{Bad, Symbol, Input, Latch, Output, Gate}
 use lib.Dec.{eqb, leb, ltb}
-use Rattle.aiger_form.specs.Aag.{Item, badText, skipped, inputLine, latchLine, outputLine, gateLine, Header, Header?, noHeader, header, mostVariables, headerOf, headerFrom, lineItem, inputItem, latchItem, outputItem, gateItem, symbolItem, orBad, isLiteral, isVariable}
+use Rattle.aiger_form.specs.Aag.{Item, badText, skipped, inputLine, latchLine, outputLine, gateLine, Header, Header?, noHeader, header, mostVariables, headerOf, headerFrom, lineItem, inputItem, latchItem, outputItem, gateItem, symbolItem}
 
--- 0 a bad text, 1 a symbol, 2 an input, 3 a latch, 4 an output, 5 a gate
-unfoldable pub itemOf : (kind a b c : ℕ) → Item
-itemOf kind a b c = elim (eqb kind 1) [
-  | true ↦ skipped
-  | false ↦ elim (eqb kind 2) [
-    | true ↦ inputLine a
-    | false ↦ elim (eqb kind 3) [
-      | true ↦ latchLine a b c
-      | false ↦ elim (eqb kind 4) [ true ↦ outputLine a | false ↦ elim (eqb kind 5) [ true ↦ gateLine a b c | false ↦ badText ] ]
-    ]
-  ]
-]
+-- what a row says
+unfoldable pub rowItem : Row → Item
+rowItem Bad = badText
+rowItem Symbol = skipped
+rowItem (Input l) = inputLine (l .0)
+rowItem (Latch l n r) = latchLine (l .0) (n .0) r
+rowItem (Output l) = outputLine (l .0)
+rowItem (Gate l a b) = gateLine (l .0) (a .0) (b .0)
 
--- what a line is, from the count and the first numbers
+-- a latch's reset, by the count of its line's numbers, the first and the third
 unfoldable pub resetIn : (count a c : ℕ) → Bool
 resetIn count a c = eqb count 2 || (eqb count 3 && (leb c 1 || eqb c a))
-
-unfoldable pub inputIn : (m : ℕ) → (is : Bool) → (count a : ℕ) → Item
-inputIn m is count a = orBad (is && (eqb count 1 && isVariable m a)) (itemOf 2 a 0 0)
-
-unfoldable pub latchIn : (m : ℕ) → (is : Bool) → (count a b c : ℕ) → Item
-latchIn m is count a b c = orBad (is && (resetIn count a c && isVariable m a && isLiteral m b)) (itemOf 3 a b c)
-
-unfoldable pub outputIn : (m : ℕ) → (is : Bool) → (count a : ℕ) → Item
-outputIn m is count a = orBad (is && (eqb count 1 && isLiteral m a)) (itemOf 4 a 0 0)
-
-unfoldable pub gateIn : (m : ℕ) → (is : Bool) → (count a b c : ℕ) → Item
-gateIn m is count a b c = orBad (is && (eqb count 3 && isVariable m a && isLiteral m b && isLiteral m c)) (itemOf 5 a b c)
 
 -- ---- the line at a place behind the header, from 0 on
 
@@ -56,6 +42,13 @@ itemAt h i line = elim (ltb i (h .inputs)) [
     ]
   ]
 ]
+
+-- the i-th line is a gate's
+pub record GateAt (h : Header) (i : ℕ) : Type 0 where
+  pub inputs : h .inputs ≤ i
+  pub latches : h .latches ≤ i - h .inputs
+  pub outputs : h .outputs ≤ i - h .inputs - h .latches
+  pub gates : i - h .inputs - h .latches - h .outputs < h .gates
 
 -- behind the gates a line `c` ends all
 unfoldable pub stopsAt : Header → ℕ → List ℕ → Bool

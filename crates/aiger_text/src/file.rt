@@ -1,69 +1,49 @@
 // A file judged: 12, 13, or where its lines start.
 use crate::cursor::until;
 use crate::header::header;
+use crate::lines::Step;
+use crate::lines::line_at;
 use crate::passes::first_place;
 use crate::rows::Head;
 use crate::rows::Row;
-use crate::rows::row_at;
-use crate::rows::stops_at;
 ghost use mathlib.Core.Path.{_≡_};
 ghost use mathlib.Core.Bool.{not};
 ghost use lib.Dec.{eqb, ltb};
 ghost use lib.ListN.{length};
-ghost use Rattle.aiger_form.specs.Aag.{bodySize, isCut, resetOf};
-ghost use Rattle.aiger_text.specs.Rows.{itemOf, head};
-ghost use Rattle.aiger_text.specs.Passes.{breadth, linesFrom};
-ghost use Rattle.aiger_text.specs.File.{Behind, Resets, Refused, Ahead, BodyJudged, FileJudged};
+ghost use Prim.Native.Nat.{_+_};
+ghost use Rattle.aiger_form.specs.Aag.{resetOf};
+ghost use Rattle.aiger_text.specs.Rows.{rowItem, head};
+ghost use Rattle.aiger_text.specs.Passes.{area, Behind};
+ghost use Rattle.aiger_text.specs.Whole.{Begun};
+ghost use Rattle.aiger_text.specs.File.{Resets, Refused, BodyJudged, FileJudged};
 
-// Is the i-th line one of those that the header counts?
-fn in_body(i: usize, h: Head) -> bool
-    ensures { λ r. ⌜ r ≡ ltb i (bodySize (head (h .variables) (h .inputs) (h .latches) (h .outputs) (h .gates))) ⌝ }
+// Malformed or cut.
+pub const MALFORMED: u32 = 12;
+
+// A latch's reset value isn't 0.
+pub const BAD_RESET: u32 = 13;
+
+fn is_reset(x: Row) -> bool
+    ensures { λ r. ⌜ r ≡ not (eqb (resetOf (rowItem x)) 0) ⌝ }
+{
+    match x {
+        Row::Bad => false,
+        Row::Symbol => false,
+        Row::Input(_) => false,
+        Row::Latch(_, _, reset) => reset != 0,
+        Row::Output(_) => false,
+        Row::Gate(_, _, _) => false,
+    }
+}
+
+// Is the i-th line an input's or a latch's?
+fn in_front(i: usize, h: Head) -> bool
+    ensures { λ r. ⌜ r ≡ ltb i (h .inputs + h .latches) ⌝ }
 {
     if i < h.inputs {
         return true;
     }
-    let j = i - h.inputs;
-    if j < h.latches {
-        return true;
-    }
-    let k = j - h.latches;
-    if k < h.outputs {
-        return true;
-    }
-    k - h.outputs < h.gates
-}
-
-// Are lines missing, or does the file end in the middle of one?
-fn is_cut(bytes: &[u8], start: usize, h: Head) -> bool
-    requires { ⌜ Behind (h .variables) start (now bytes) ⌝ }
-    ensures { λ r. ⌜ r ≡ isCut (head (h .variables) (h .inputs) (h .latches) (h .outputs) (h .gates)) (now (bytes .entry)) (linesFrom (now (bytes .entry)) start) ⌝ }
-{
-    let mut at = start;
-    let mut i = 0;
-    loop {
-        let e = until(bytes, at, 10);
-        if bytes.len() <= e {
-            if in_body(i, h) {
-                return true;
-            }
-            let last = bytes.len() - 1;
-            return bytes[last] != 10;
-        }
-        if stops_at(&bytes[at..e], i, h) {
-            return false;
-        }
-        at = e + 1;
-        i += 1;
-    }
-}
-
-fn is_reset(x: Row) -> bool
-    ensures { λ r. ⌜ r ≡ not (eqb (resetOf (itemOf (x .kind) (x .a) (x .b) (x .c))) 0) ⌝ }
-{
-    if x.kind != 3 {
-        return false;
-    }
-    x.c != 0
+    i - h.inputs < h.latches
 }
 
 // The first latch with a reset value, or the length.
@@ -73,91 +53,90 @@ fn reset_lines(bytes: &[u8], start: usize, h: Head) -> usize
 {
     let mut at = start;
     let mut i = 0;
-    loop {
-        let e = until(bytes, at, 10);
-        if bytes.len() <= e {
-            return bytes.len();
+    while in_front(i, h) {
+        let step = line_at(bytes, at, i, h);
+        match step {
+            Step::Last => {
+                return bytes.len();
+            }
+            Step::Stop => {
+                return bytes.len();
+            }
+            Step::Line(x, e) => {
+                if is_reset(x) {
+                    return at;
+                }
+                at = e + 1;
+                i += 1;
+            }
         }
-        if stops_at(&bytes[at..e], i, h) {
-            return bytes.len();
-        }
-        let x = row_at(&bytes[at..e], i, h);
-        if is_reset(x) {
-            return at;
-        }
-        at = e + 1;
-        i += 1;
     }
+    bytes.len()
 }
 
+// The number and its place; or 0, where the lines start, and the header.
 pub struct Verdict {
-    pub number: usize,
+    pub number: u32,
     pub at: usize,
     pub start: usize,
-    pub variables: usize,
-    pub inputs: usize,
-    pub latches: usize,
-    pub outputs: usize,
-    pub gates: usize,
+    pub head: Head,
 }
 
-pub fn refuse(number: usize, at: usize) -> Verdict
-    ensures { λ r. ⌜ Refused number at (r .number) (r .at) ⌝ }
+pub fn refuse(number: u32, at: usize) -> Verdict
+    ensures { λ r. ⌜ Refused number at r ⌝ }
 {
     Verdict {
         number: number,
         at: at,
         start: 0,
-        variables: 0,
-        inputs: 0,
-        latches: 0,
-        outputs: 0,
-        gates: 0,
+        head: Head {
+            variables: 0,
+            inputs: 0,
+            latches: 0,
+            outputs: 0,
+            gates: 0,
+        },
     }
 }
 
 // The verdict on a file whose header is read.
-fn body(bytes: &[u8], start: usize, h: Head, map: &mut [u8]) -> Verdict
-    requires { ⌜ Ahead (h .variables) start (now bytes) (now map) ⌝ }
-    ensures { λ r. ⌜ BodyJudged (head (h .variables) (h .inputs) (h .latches) (h .outputs) (h .gates)) start (now (bytes .entry)) (now (map .entry)) (now (map .exit)) (r .number) (r .at) (r .start) (r .variables) (r .inputs) (r .latches) (r .outputs) (r .gates) ⌝ }
+fn body(bytes: &[u8], start: usize, h: Head, map: &mut [u8], gates: &mut [u32]) -> Verdict
+    requires { ⌜ Begun (h .variables) start (now bytes) (now map) (now gates) ⌝ }
+    ensures { λ r. ⌜ BodyJudged (head (h .variables) (h .inputs) (h .latches) (h .outputs) (h .gates)) start (now (bytes .entry)) (now (map .entry)) (now (map .exit)) (now (gates .entry)) (now (gates .exit)) r ⌝ }
 {
-    let cut = is_cut(bytes, start, h);
-    let first = first_place(bytes, start, h, map, !cut);
-    if cut {
-        return refuse(12, first);
+    let s = first_place(bytes, start, h, map, gates);
+    if s.cut {
+        return refuse(MALFORMED, s.first);
     }
-    if first < bytes.len() {
-        return refuse(12, first);
+    if s.first < bytes.len() {
+        return refuse(MALFORMED, s.first);
     }
     let reset = reset_lines(bytes, start, h);
     if reset < bytes.len() {
-        return refuse(13, reset);
+        return refuse(BAD_RESET, reset);
     }
     Verdict {
         number: 0,
         at: 0,
         start: start,
-        variables: h.variables,
-        inputs: h.inputs,
-        latches: h.latches,
-        outputs: h.outputs,
-        gates: h.gates,
+        head: h,
     }
 }
 
-// The verdict on a file.
-pub fn file(bytes: &[u8], map: &mut [u8]) -> Verdict
-    requires { ⌜ length (now map) ≡ breadth ⌝ }
-    ensures { λ r. ⌜ FileJudged (now (bytes .entry)) (now (map .entry)) (now (map .exit)) (r .number) (r .at) (r .start) (r .variables) (r .inputs) (r .latches) (r .outputs) (r .gates) ⌝ }
+// The verdict on a file. The area then holds its gates, where there are at most 65,536 variables; the map is the function's own, 64 kB.
+pub fn file(bytes: &[u8], gates: &mut [u32]) -> Verdict
+    requires { ⌜ length (now gates) ≡ area ⌝ }
+    ensures { λ r. ⌜ FileJudged (now (bytes .entry)) (now (gates .entry)) (now (gates .exit)) r ⌝ }
 {
+    let mut map: [u8; 65536] = [0; 65536];
     let at = 0;
     let e = until(bytes, at, 10);
     if bytes.len() <= e {
-        return refuse(12, bytes.len());
+        return refuse(MALFORMED, bytes.len());
     }
     let x = header(&bytes[at..e]);
     if !x.is {
-        return refuse(12, 0);
+        return refuse(MALFORMED, 0);
     }
     let h = Head {
         variables: x.variables,
@@ -166,5 +145,5 @@ pub fn file(bytes: &[u8], map: &mut [u8]) -> Verdict
         outputs: x.outputs,
         gates: x.gates,
     };
-    body(bytes, e + 1, h, map)
+    body(bytes, e + 1, h, &mut map, gates)
 }

@@ -2,5 +2,6 @@
 pub mod cursor;
 pub mod file;
 pub mod header;
+pub mod lines;
 pub mod passes;
 pub mod rows;

@@ -2,40 +2,39 @@
 use crate::cursor::number;
 use crate::cursor::numbers;
 use crate::cursor::until;
+use graph::Literal;
 ghost use mathlib.Core.Path.{_≡_};
 ghost use mathlib.Core.Bool.{_&&_, _||_};
-ghost use Prim.Native.Nat.{_≤_};
-ghost use lib.Dec.{leb, eqb};
+ghost use Prim.Native.Nat.{_%_, _≤_};
 ghost use Rattle.rules.specs.Lists.{sameList};
 ghost use Rattle.rules.specs.Listing.{text};
-ghost use Rattle.aiger_form.specs.Aag.{orBad, isLiteral, isVariable, inputItem, latchItem, outputItem, gateItem, lineItem, symbolCount, symbolItem};
-ghost use Rattle.aiger_text.specs.Rows.{itemOf, resetIn, head, itemAt, stopsAt};
+ghost use Rattle.aiger_form.specs.Aag.{orBad, isLiteral, isVariable, inputItem, latchItem, outputItem, gateLine, gateItem, lineItem, symbolCount, symbolItem};
+ghost use Rattle.aiger_text.specs.Rows.{rowItem, resetIn, head, itemAt, stopsAt};
 
-// 0 a bad text, 1 a symbol, 2 an input, 3 a latch, 4 an output, 5 a gate; and its numbers.
-pub struct Row {
-    pub kind: usize,
-    pub a: usize,
-    pub b: usize,
-    pub c: usize,
+// A text that is bad, a symbol, or a line of a section with its literals. A latch's reset is 0, 1 or the latch.
+pub enum Row {
+    Bad,
+    Symbol,
+    Input(Literal),
+    Latch(Literal, Literal, u32),
+    Output(Literal),
+    Gate(Literal, Literal, Literal),
 }
 
-fn or_bad(right: bool, kind: usize, a: usize, b: usize, c: usize) -> Row
-    ensures { λ r. ⌜ itemOf (r .kind) (r .a) (r .b) (r .c) ≡ orBad right (itemOf kind a b c) ⌝ }
+fn row_if(right: bool, row: Row) -> Row
+    ensures { λ r. ⌜ rowItem r ≡ orBad right (rowItem row) ⌝ }
 {
     if right {
-        return Row {
-            kind: kind,
-            a: a,
-            b: b,
-            c: c,
-        };
+        return row;
     }
-    Row {
-        kind: 0,
-        a: 0,
-        b: 0,
-        c: 0,
-    }
+    Row::Bad
+}
+
+// The low 32 bits: all of a number that is in range.
+fn low(x: usize) -> u32
+    ensures { λ r. ⌜ r ≡ x % 4294967296 ⌝ }
+{
+    (x % 4294967296) as u32
 }
 
 pub fn both(a: bool, b: bool) -> bool
@@ -85,18 +84,18 @@ fn is_reset(count: usize, a: usize, c: usize) -> bool
 
 fn input_row(line: &[u8], m: usize) -> Row
     requires { ⌜ m ≤ 2147483647 ⌝ }
-    ensures { λ r. ⌜ itemOf (r .kind) (r .a) (r .b) (r .c) ≡ lineItem (inputItem m) (now (line .entry)) ⌝ }
+    ensures { λ r. ⌜ rowItem r ≡ lineItem (inputItem m) (now (line .entry)) ⌝ }
 {
     let n = numbers(line);
     let v = n.values;
     let one = n.count == 1;
     let right = both(n.is, both(one, is_variable(m, v[0])));
-    or_bad(right, 2, v[0], 0, 0)
+    row_if(right, Row::Input(Literal(low(v[0]))))
 }
 
 fn latch_row(line: &[u8], m: usize) -> Row
     requires { ⌜ m ≤ 2147483647 ⌝ }
-    ensures { λ r. ⌜ itemOf (r .kind) (r .a) (r .b) (r .c) ≡ lineItem (latchItem m) (now (line .entry)) ⌝ }
+    ensures { λ r. ⌜ rowItem r ≡ lineItem (latchItem m) (now (line .entry)) ⌝ }
 {
     let n = numbers(line);
     let v = n.values;
@@ -105,33 +104,43 @@ fn latch_row(line: &[u8], m: usize) -> Row
         n.is,
         both(both(reset, is_variable(m, v[0])), is_literal(m, v[1])),
     );
-    or_bad(right, 3, v[0], v[1], v[2])
+    row_if(
+        right,
+        Row::Latch(Literal(low(v[0])), Literal(low(v[1])), low(v[2])),
+    )
 }
 
 fn output_row(line: &[u8], m: usize) -> Row
     requires { ⌜ m ≤ 2147483647 ⌝ }
-    ensures { λ r. ⌜ itemOf (r .kind) (r .a) (r .b) (r .c) ≡ lineItem (outputItem m) (now (line .entry)) ⌝ }
+    ensures { λ r. ⌜ rowItem r ≡ lineItem (outputItem m) (now (line .entry)) ⌝ }
 {
     let n = numbers(line);
     let v = n.values;
     let one = n.count == 1;
     let right = both(n.is, both(one, is_literal(m, v[0])));
-    or_bad(right, 4, v[0], 0, 0)
+    row_if(right, Row::Output(Literal(low(v[0]))))
+}
+
+// The row of a gate's three numbers.
+pub fn gate_of(m: usize, a: usize, b: usize, c: usize) -> Row
+    requires { ⌜ m ≤ 2147483647 ⌝ }
+    ensures { λ r. ⌜ rowItem r ≡ orBad (isVariable m a && isLiteral m b && isLiteral m c) (gateLine a b c) ⌝ }
+{
+    let right = both(both(is_variable(m, a), is_literal(m, b)), is_literal(m, c));
+    row_if(
+        right,
+        Row::Gate(Literal(low(a)), Literal(low(b)), Literal(low(c))),
+    )
 }
 
 fn gate_row(line: &[u8], m: usize) -> Row
     requires { ⌜ m ≤ 2147483647 ⌝ }
-    ensures { λ r. ⌜ itemOf (r .kind) (r .a) (r .b) (r .c) ≡ lineItem (gateItem m) (now (line .entry)) ⌝ }
+    ensures { λ r. ⌜ rowItem r ≡ lineItem (gateItem m) (now (line .entry)) ⌝ }
 {
     let n = numbers(line);
     let v = n.values;
     let three = n.count == 3;
-    let defines = both(three, is_variable(m, v[0]));
-    let right = both(
-        n.is,
-        both(both(defines, is_literal(m, v[1])), is_literal(m, v[2])),
-    );
-    or_bad(right, 5, v[0], v[1], v[2])
+    row_if(both(n.is, three), gate_of(m, v[0], v[1], v[2]))
 }
 
 // How many there are of what a symbol's letter names.
@@ -151,19 +160,19 @@ fn symbol_count(letter: u8, inputs: usize, latches: usize, outputs: usize) -> us
 }
 
 fn symbol_row(line: &[u8], inputs: usize, latches: usize, outputs: usize) -> Row
-    ensures { λ r. ⌜ itemOf (r .kind) (r .a) (r .b) (r .c) ≡ symbolItem (head 0 inputs latches outputs 0) (now (line .entry)) ⌝ }
+    ensures { λ r. ⌜ rowItem r ≡ symbolItem (head 0 inputs latches outputs 0) (now (line .entry)) ⌝ }
 {
     if line.len() == 0 {
-        return or_bad(false, 1, 0, 0, 0);
+        return Row::Bad;
     }
     let n = symbol_count(line[0], inputs, latches, outputs);
     let e = until(line, 1, 32);
     if line.len() <= e {
-        return or_bad(false, 1, 0, 0, 0);
+        return Row::Bad;
     }
     let x = number(&line[1..e]);
     let below = x.value < n;
-    or_bad(both(x.is, below), 1, 0, 0, 0)
+    row_if(both(x.is, below), Row::Symbol)
 }
 
 fn is_comment(line: &[u8]) -> bool
@@ -187,7 +196,7 @@ pub struct Head {
 // The i-th line behind the header, from 0 on.
 pub fn row_at(line: &[u8], i: usize, h: Head) -> Row
     requires { ⌜ h .variables ≤ 2147483647 ⌝ }
-    ensures { λ r. ⌜ itemOf (r .kind) (r .a) (r .b) (r .c) ≡ itemAt (head (h .variables) (h .inputs) (h .latches) (h .outputs) (h .gates)) i (now (line .entry)) ⌝ }
+    ensures { λ r. ⌜ rowItem r ≡ itemAt (head (h .variables) (h .inputs) (h .latches) (h .outputs) (h .gates)) i (now (line .entry)) ⌝ }
 {
     if i < h.inputs {
         return input_row(line, h.variables);

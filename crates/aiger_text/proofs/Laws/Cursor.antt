@@ -1,14 +1,14 @@
 -- Laws of the cursor. Assumes nothing.
-use Prim.Native.Nat.{ℕ, zero, suc, min, _+_, _-_, _*_, _<_, _≤_}
+use Prim.Native.Nat.{ℕ, zero, suc, _+_, _-_, _*_, _<_, _≤_}
 use mathlib.Core.Path.{_≡_, refl, sym, ap, _∙_}
 use mathlib.Core.Logic.{_⊎_, inl, inr}
 use mathlib.Core.Bool.{Bool, true, false, _&&_}
-use mathlib.Core.List.{List, [], _∷_, _++_, append-assoc}
+use mathlib.Core.List.{List, [], _∷_, _++_}
 use native.Mathlib.Omega.{arith}
 use native.Mathlib.Numerals.{add-one}
 use lib.Dec.{eqb, leb, ltb}
 use lib.ListN.{length, getD, take, drop, set, length-append, length-drop, length-set, drop-of-length-le, List·getD-append, List·getD-eq-default}
-use lib.Seq.{drop-cons, drop-append-le, take-append-le, drop-drop, set-out, getD-set-same, getD-set-other, getD-at, slice}
+use lib.Seq.{drop-cons, drop-append-le, take-append-le, drop-drop, getD-set-same, getD-set-other, getD-at}
 use borrow.Author.Tests.{eqb-true, eqb-false, ltb-true, ltb-false, le-leb, lt-leb, ne-eqb, eq-eqb}
 use Rattle.rules.specs.Lists.{Found, nothing, found}
 use Rattle.rules.proofs.Lists.Members.{split}
@@ -57,7 +57,8 @@ until-behind e (x ∷ xs) = split (eqb x e) (λ t. rw (t, until)) (λ t. rw (t, 
 
 -- ---- digits
 
-is-digit : (c : ℕ) → 48 ≤ c → c ≤ 57 → isDigit c ≡ true
+-- a byte in range is a digit
+pub is-digit : (c : ℕ) → 48 ≤ c → c ≤ 57 → isDigit c ≡ true
 unfolding isDigit
 is-digit c a b = rw (le-leb 48 c a, le-leb c 57 b)
 

@@ -1,19 +1,19 @@
 -- Laws of the header's line. Assumes nothing.
-use Prim.Native.Nat.{ℕ, zero, suc, min, _+_, _-_, _≤_, _<_}
-use mathlib.Core.Path.{_≡_, refl, sym, ap, _∙_}
+use Prim.Native.Nat.{ℕ, _+_, _-_, _≤_, _<_}
+use mathlib.Core.Path.{_≡_, refl, sym, _∙_}
 use mathlib.Core.Bool.{Bool, true, false, _&&_}
-use mathlib.Core.List.{List, [], _∷_, _++_}
+use mathlib.Core.List.{List, [], _∷_}
 use native.Mathlib.Omega.{arith}
-use lib.Dec.{eqb, leb, ltb}
+use lib.Dec.{eqb, leb}
 use lib.ListN.{length, getD, take, drop, length-drop}
 use lib.Seq.{length-take-le, drop-append-le, take-all}
-use borrow.Author.Tests.{eqb-true, ne-eqb, eq-eqb, leb-true, leb-false, le-leb, lt-leb}
+use borrow.Author.Tests.{ne-eqb, eq-eqb, leb-true, leb-false, le-leb, lt-leb}
 use Rattle.rules.proofs.Bools.{and-none}
 use Rattle.rules.specs.Lists.{sameList}
 use Rattle.rules.specs.Listing.{text}
 use Rattle.rules.proofs.Lists.Members.{split, and-true}
-use Rattle.aiger_form.specs.Text.{space, parts, words, Numbers?, noNumbers, numbers, numbersOf}
-use Rattle.aiger_form.specs.Aag.{Header, Header?, noHeader, header, headerRight, mostVariables, headerFrom, afterMagic, headerOf}
+use Rattle.aiger_form.specs.Text.{space, words, Numbers?, numbers, numbersOf}
+use Rattle.aiger_form.specs.Aag.{header, headerRight, mostVariables, headerFrom, afterMagic, headerOf}
 use Rattle.aiger_text.specs.Cursor.{until, capped, Got, none, some}
 use Rattle.aiger_text.specs.Rows.{Magic, HeadIs, no, yes}
 use Rattle.aiger_text.proofs.Laws.Cursor.{words-step, wordsFrom, words-end}

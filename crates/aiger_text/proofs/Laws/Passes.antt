@@ -1,6 +1,5 @@
 -- Laws of the passes. Assumes nothing.
-use native.Mathlib.Numerals.{add-one}
-use Prim.Native.Nat.{ℕ, zero, suc, min, _+_, _-_, _/_, _≤_, _<_}
+use Prim.Native.Nat.{ℕ, zero, suc, _+_, _-_, _*_, _≤_, _<_}
 use mathlib.Core.Path.{_≡_, refl, sym, ap, _∙_}
 use mathlib.Core.Logic.{_⊎_, inl, inr}
 use mathlib.Core.Bool.{Bool, true, false, not, _&&_}
@@ -8,19 +7,21 @@ use mathlib.Core.List.{List, [], _∷_, _++_}
 use native.Mathlib.Omega.{arith}
 use lib.Dec.{eqb, leb, ltb}
 use lib.ListN.{length, getD, set, take, drop, length-set, length-drop}
-use lib.Seq.{getD-set-same, getD-set-other, drop-drop, length-take-le}
+use lib.Seq.{getD-set-same, getD-set-other, set-out, drop-drop, length-take-le}
 use borrow.Author.Tests.{eqb-true, eqb-false, le-leb, lt-leb, lt-ltb, le-ltb, ne-eqb, eq-eqb}
-use Rattle.rules.specs.Lists.{Found, nothing, found, mem, every, keep, sameList}
+use Rattle.rules.specs.Lists.{found, mem, every, keep, sameList}
 use Rattle.rules.specs.Listing.{text}
 use Rattle.rules.specs.Graph.{pinOf}
-use Rattle.rules.proofs.Lists.Members.{split, mem-other}
-use Rattle.aiger_form.specs.Text.{Line, placed}
-use Rattle.aiger_form.specs.Aag.{Header, Item, badText, skipped, inputLine, latchLine, outputLine, gateLine, isText, defines, uses, placeOr, Spot, spots, lineItem, inputItem, latchItem, outputItem, gateItem, symbolItem, symbolLines, isComment, gateSpots, outputSpots, latchSpots, allSpots, bodySize}
+use Rattle.rules.proofs.Lists.Members.{split}
+use Rattle.aiger_form.specs.Text.{Line, placed, ended}
+use Rattle.aiger_form.specs.Aag.{Header, Item, badText, skipped, inputLine, latchLine, outputLine, gateLine, isText, defines, uses, placeOr, Spot, spots, lineItem, inputItem, latchItem, outputItem, gateItem, symbolItem, symbolLines, isComment, gateSpots, outputSpots, latchSpots, allSpots, bodySize, isCut}
 use Rattle.aiger_form.specs.Windows.{window}
-use Rattle.aiger_text.specs.Rows.{itemOf, itemAt, stopsAt, head}
-use Rattle.aiger_text.specs.Passes.{spotsAt, breadth, Marks, Marked, Passed, freshIn, noted, passOver, definedOnto, linesFrom, Ready, Swept, Known, Set, Used, firstUnknownIn}
+use Rattle.aiger_text.specs.Rows.{itemAt, stopsAt, head}
+use Rattle.aiger_text.specs.Lines.{cutFrom, NoLine, EndLine, NextLine, Short}
+use Rattle.aiger_text.specs.Passes.{spotsAt, breadth, area, storeItem, storeAll, Marks, Marked, Passed, freshIn, noted, passOver, definedOnto, linesFrom, Ready, Swept, Known, Set, Used, firstUnknownIn}
 use Rattle.aiger_text.specs.Cursor.{until}
 use Rattle.aiger_text.proofs.Laws.Cursor.{until-length, parts-until, parts-rest}
+use Rattle.aiger_text.proofs.Laws.Cut.{cut-is}
 use Rattle.aiger_text.proofs.Laws.Rows.{at-input, at-latch, at-output, at-gate, at-symbol, symbol-head}
 
 -- ---- marks
@@ -88,31 +89,6 @@ pub passed-one : (lo v : ℕ) (x : Item) (map map′ : List ℕ) (r : Bool) → 
 unfolding freshIn
 passed-one lo v x map map′ r d t M = record { len = M .len; marks = λ seen N. rw d (M .marks seen N); new = λ seen N. rw (t, d) (M .new seen N) }
 
-module _ (lo kind a b c : ℕ) (map : List ℕ) where
-  pub row-skipped : kind ≡ 1 → Passed lo (itemOf kind a b c) map map true
-  unfolding itemOf isText defines
-  row-skipped e = rw e (passed-none lo skipped map true refl refl)
-
-  pub row-output : kind ≡ 4 → Passed lo (itemOf kind a b c) map map true
-  unfolding itemOf isText defines
-  row-output e = rw e (passed-none lo (outputLine a) map true refl refl)
-
-  pub row-input : kind ≡ 2 → (map′ : List ℕ) (r : Bool) → Marked lo (a / 2) map map′ r → Passed lo (itemOf kind a b c) map map′ r
-  unfolding itemOf isText defines pinOf
-  row-input e map′ r M = rw e (passed-one lo (a / 2) (inputLine a) map map′ r refl refl M)
-
-  pub row-latch : kind ≡ 3 → (map′ : List ℕ) (r : Bool) → Marked lo (a / 2) map map′ r → Passed lo (itemOf kind a b c) map map′ r
-  unfolding itemOf isText defines pinOf
-  row-latch e map′ r M = rw e (passed-one lo (a / 2) (latchLine a b c) map map′ r refl refl M)
-
-  pub row-gate : kind ≡ 5 → (map′ : List ℕ) (r : Bool) → Marked lo (a / 2) map map′ r → Passed lo (itemOf kind a b c) map map′ r
-  unfolding itemOf isText defines pinOf
-  row-gate e map′ r M = rw e (passed-one lo (a / 2) (gateLine a b c) map map′ r refl refl M)
-
-  pub row-bad : (kind ≡ 1 → ⊥) → (kind ≡ 4 → ⊥) → (kind ≡ 2 → ⊥) → (kind ≡ 3 → ⊥) → (kind ≡ 5 → ⊥) → Passed lo (itemOf kind a b c) map map false
-  unfolding itemOf isText defines
-  row-bad n1 n4 n2 n3 n5 = rw (ne-eqb kind 1 n1, itemOf, ne-eqb kind 2 n2, ne-eqb kind 3 n3, ne-eqb kind 4 n4, ne-eqb kind 5 n5) (passed-none lo badText map false refl refl)
-
 -- ---- the sections, one line after the other
 
 module _ (h : Header) where
@@ -177,60 +153,92 @@ module _ (bytes : List ℕ) (at e : ℕ) (h : at ≤ length bytes) (d : e ≡ at
       let z : at + suc (length (take (e - at) (drop at bytes))) ≡ e + 1 = omega arith in
       rw (s, q, placed, z, w)
 
-pub record Scan (H : Header) (start lo : ℕ) (bytes map₀ map : List ℕ) (at i first : ℕ) : Type 0 where
+-- ---- the pass that marks and stores
+
+-- what holds before the i-th line, at a place
+pub record Scan (H : Header) (start lo : ℕ) (bytes map₀ map w₀ w : List ℕ) (at i first : ℕ) : Type 0 where
   pub seen : List ℕ
   pub marks : Marks lo seen map
   pub here : passOver (window lo (lo + breadth)) seen first (spotsAt H i (linesFrom bytes at)) ≡ passOver (window lo (lo + breadth)) [] (length bytes) (spotsAt H 0 (linesFrom bytes start))
   pub onto : definedOnto seen (spotsAt H i (linesFrom bytes at)) ≡ definedOnto [] (spotsAt H 0 (linesFrom bytes start))
+  pub stored : storeAll (spotsAt H i (linesFrom bytes at)) w ≡ storeAll (spotsAt H 0 (linesFrom bytes start)) w₀
+  pub cut : cutFrom H i (ended bytes) (linesFrom bytes at) ≡ isCut H bytes (linesFrom bytes start)
+  pub some : 0 < length bytes
   pub inside : at ≤ length bytes
   pub few : i ≤ at
   pub len : length map ≡ length map₀
+  pub size : length w ≡ length w₀
+  pub wide : length w ≡ area
 
-pub scan-start : (H : Header) (m start lo : ℕ) (bytes map : List ℕ) → Ready m start lo bytes map → Scan H start lo bytes map map start 0 (length bytes)
-scan-start H m start lo bytes map R = record { seen = []; marks = R .blank; here = refl; onto = refl; inside = R .inside; few = omega arith; len = refl }
+-- before the first line
+pub scan-start : (H : Header) (m start lo : ℕ) (bytes map w : List ℕ) → Ready m start lo bytes map w → Scan H start lo bytes map map w w start 0 (length bytes)
+scan-start H m start lo bytes map w R = record { seen = []; marks = R .blank; here = refl; onto = refl; stored = refl; cut = cut-is H bytes (linesFrom bytes start); some = omega (arith, R .some, R .inside); inside = R .inside; few = omega arith; len = refl; size = refl; wide = R .wide }
 
-module _ {H : Header} {start lo : ℕ} {bytes map₀ map : List ℕ} {at i first : ℕ} (S : Scan H start lo bytes map₀ map at i first) (e : ℕ) (d : e ≡ at + until 10 (drop at bytes)) where
-  scan-over : spotsAt H i (linesFrom bytes at) ≡ [] → Swept H start lo bytes map₀ map first
-  unfolding passOver definedOnto
-  scan-over z = record {
+-- storing keeps the length
+pub store-length : (x : Item) (w : List ℕ) → length (storeItem x w) ≡ length w
+unfolding storeItem
+store-length badText w = refl
+store-length skipped w = refl
+store-length (inputLine l) w = refl
+store-length (latchLine l n r) w = refl
+store-length (outputLine l) w = refl
+store-length (gateLine l a b) w = length-set (set w (2 * pinOf l) a) (2 * pinOf l + 1) b ∙ length-set w (2 * pinOf l) a
+
+-- a gate of a pin that the area has no room for is not stored
+pub store-past : (w : List ℕ) (l a b p : ℕ) → p ≡ pinOf l → 65536 ≤ p → length w ≡ area → w ≡ storeItem (gateLine l a b) w
+unfolding storeItem
+store-past w l a b p e h k = sym (set-out (set w (2 * pinOf l) a) (2 * pinOf l + 1) b (rw (length-set w (2 * pinOf l) a) (omega arith)) ∙ set-out w (2 * pinOf l) a (omega arith))
+
+module _ {H : Header} {start lo : ℕ} {bytes map₀ map w₀ w : List ℕ} {at i first : ℕ} (S : Scan H start lo bytes map₀ map w₀ w at i first) where
+  scan-over : spotsAt H i (linesFrom bytes at) ≡ [] → (c : Bool) → c ≡ cutFrom H i (ended bytes) (linesFrom bytes at) → Swept H start lo bytes map₀ map w₀ w (record { first = first; cut = c })
+  unfolding passOver definedOnto storeAll
+  scan-over z c e = record {
     len = S .len;
     first = let q : first ≡ passOver (window lo (lo + breadth)) (S .seen) first (spotsAt H i (linesFrom bytes at)) = rw z in q ∙ S .here;
+    cut = e ∙ S .cut;
     marks = let q : S .seen ≡ definedOnto (S .seen) (spotsAt H i (linesFrom bytes at)) = rw z in rw (← (S .onto), ← q) (S .marks);
+    stored = let q : w ≡ storeAll (spotsAt H i (linesFrom bytes at)) w = rw z in q ∙ S .stored;
   }
 
-  pub scan-last : length bytes ≤ e → Swept H start lo bytes map₀ map first
-  unfolding spotsAt
-  scan-last k = scan-over (rw (line-last bytes at e (S .inside) d k))
+  -- no line is left
+  pub scan-last : NoLine H i at bytes → (c : Bool) → Short H i bytes c → Swept H start lo bytes map₀ map w₀ w (record { first = first; cut = c })
+  scan-last L c s = scan-over (L .spots) c (s .is ∙ sym (L .cut (ended bytes)))
 
-  pub scan-stop : e < length bytes → (t : Bool) → t ≡ stopsAt H i (take (e - at) (drop at bytes)) → t ≡ true → Swept H start lo bytes map₀ map first
-  unfolding spotsAt
-  scan-stop k t q p = let u : stopsAt H i (take (e - at) (drop at bytes)) ≡ true = sym q ∙ p in scan-over (rw (line-next bytes at e (S .inside) d k, spotsAt, u))
+  -- a comment ends the lines
+  pub scan-stop : EndLine H i at bytes → Swept H start lo bytes map₀ map w₀ w (record { first = first; cut = false })
+  scan-stop L = scan-over (L .spots) false (sym (L .cut (ended bytes)))
 
-  one-line : e < length bytes → stopsAt H i (take (e - at) (drop at bytes)) ≡ false → (x : Item) → x ≡ itemAt H i (take (e - at) (drop at bytes)) → spotsAt H i (linesFrom bytes at) ≡ record { at = at; item = x } ∷ spotsAt H (i + 1) (linesFrom bytes (e + 1))
-  unfolding spotsAt
-  one-line k u x y = rw (line-next bytes at e (S .inside) d k, spotsAt, u, add-one i, y)
+  module _ {x : Item} {e : ℕ} (L : NextLine H i at bytes x e) where
+    passed-on : (first′ : ℕ) → first′ ≡ noted (freshIn (window lo (lo + breadth)) (S .seen) x) first at → passOver (window lo (lo + breadth)) (defines x ++ S .seen) first′ (spotsAt H (i + 1) (linesFrom bytes (e + 1))) ≡ passOver (window lo (lo + breadth)) (S .seen) first (spotsAt H i (linesFrom bytes at))
+    unfolding passOver
+    passed-on first′ g = rw (L .spots, g)
 
-  passed-on : (x : Item) (first′ : ℕ) → spotsAt H i (linesFrom bytes at) ≡ record { at = at; item = x } ∷ spotsAt H (i + 1) (linesFrom bytes (e + 1)) → first′ ≡ noted (freshIn (window lo (lo + breadth)) (S .seen) x) first at → passOver (window lo (lo + breadth)) (defines x ++ S .seen) first′ (spotsAt H (i + 1) (linesFrom bytes (e + 1))) ≡ passOver (window lo (lo + breadth)) (S .seen) first (spotsAt H i (linesFrom bytes at))
-  unfolding passOver
-  passed-on x first′ one g = rw (one, g)
+    onto-on : definedOnto (defines x ++ S .seen) (spotsAt H (i + 1) (linesFrom bytes (e + 1))) ≡ definedOnto (S .seen) (spotsAt H i (linesFrom bytes at))
+    unfolding definedOnto
+    onto-on = rw (L .spots)
 
-  onto-on : (x : Item) → spotsAt H i (linesFrom bytes at) ≡ record { at = at; item = x } ∷ spotsAt H (i + 1) (linesFrom bytes (e + 1)) → definedOnto (defines x ++ S .seen) (spotsAt H (i + 1) (linesFrom bytes (e + 1))) ≡ definedOnto (S .seen) (spotsAt H i (linesFrom bytes at))
-  unfolding definedOnto
-  onto-on x one = rw one
+    stored-on : storeAll (spotsAt H (i + 1) (linesFrom bytes (e + 1))) (storeItem x w) ≡ storeAll (spotsAt H i (linesFrom bytes at)) w
+    unfolding storeAll
+    stored-on = rw (L .spots)
 
-  pub scan-more : e < length bytes → (t : Bool) → t ≡ stopsAt H i (take (e - at) (drop at bytes)) → t ≡ false → (x : Item) → x ≡ itemAt H i (take (e - at) (drop at bytes)) → (map′ : List ℕ) (good : Bool) → Passed lo x map map′ good → (first′ : ℕ) → first′ ≡ noted good first at → Scan H start lo bytes map₀ map′ (e + 1) (i + 1) first′
-  scan-more k t q p x y map′ good P first′ f =
-      let w = line-inside bytes at e (S .inside) d in
-      let one = one-line k (sym q ∙ p) x y in
-      record {
-        seen = defines x ++ S .seen;
-        marks = P .marks (S .seen) (S .marks);
-        here = passed-on x first′ one (f ∙ ap (λ (b : Bool). noted b first at) (P .new (S .seen) (S .marks))) ∙ S .here;
-        onto = onto-on x one ∙ S .onto;
-        inside = omega arith;
-        few = omega (arith, S .few);
-        len = P .len ∙ S .len;
-      }
+    -- one line more
+    pub scan-more : (map′ w′ : List ℕ) (good : Bool) → w′ ≡ storeItem x w → Passed lo x map map′ good → (first′ : ℕ) → first′ ≡ noted good first at → Scan H start lo bytes map₀ map′ w₀ w′ (e + 1) (i + 1) first′
+    scan-more map′ w′ good g P first′ f =
+        let n : length w′ ≡ length w = ap length g ∙ store-length x w in
+        record {
+          seen = defines x ++ S .seen;
+          marks = P .marks (S .seen) (S .marks);
+          here = passed-on first′ (f ∙ ap (λ (b : Bool). noted b first at) (P .new (S .seen) (S .marks))) ∙ S .here;
+          onto = onto-on ∙ S .onto;
+          stored = rw g (stored-on ∙ S .stored);
+          cut = sym (L .cut (ended bytes)) ∙ S .cut;
+          some = S .some;
+          inside = omega (arith, L .inside);
+          few = omega (arith, S .few, L .from);
+          len = P .len ∙ S .len;
+          size = n ∙ S .size;
+          wide = n ∙ S .wide;
+        }
 
 -- ---- uses
 
@@ -273,70 +281,49 @@ every-two P f v u = split (f v)
     (λ t. split (P v) (λ p. rw (t, keep, p, every)) (λ p. rw (t, keep, p, every)))
     (λ t. rw (t, keep))
 
-module _ (lo kind a b c : ℕ) (map : List ℕ) (r : Bool) where
-  pub use-output : kind ≡ 4 → Known lo ((a / 2) ∷ []) map r → Known lo (uses (itemOf kind a b c)) map r
-  unfolding itemOf uses pinOf
-  use-output e K = rw e K
+-- two uses
+pub known-both : (lo a b : ℕ) (map : List ℕ) (s r : Bool) → s ≡ true → Known lo (a ∷ []) map s → Known lo (b ∷ []) map r → Known lo (a ∷ b ∷ []) map r
+known-both lo a b map s r q K J = record { is = λ seen M. let t = sym q ∙ K .is seen M in rw (every-two (λ u. mem u (0 ∷ seen)) (window lo (lo + breadth)) a b, ← t) (J .is seen M) }
 
-  pub use-latch : kind ≡ 3 → Known lo ((b / 2) ∷ []) map r → Known lo (uses (itemOf kind a b c)) map r
-  unfolding itemOf uses pinOf
-  use-latch e K = rw e K
+-- the first of which is unknown
+pub known-not : (lo a b : ℕ) (map : List ℕ) (s : Bool) → s ≡ false → Known lo (a ∷ []) map s → Known lo (a ∷ b ∷ []) map false
+known-not lo a b map s q K = record { is = λ seen M. let t = sym q ∙ K .is seen M in rw (every-two (λ u. mem u (0 ∷ seen)) (window lo (lo + breadth)) a b, ← t) refl }
 
-  pub use-gate : kind ≡ 5 → (s : Bool) → s ≡ true → Known lo ((b / 2) ∷ []) map s → Known lo ((c / 2) ∷ []) map r → Known lo (uses (itemOf kind a b c)) map r
-  unfolding itemOf uses pinOf
-  use-gate e s q K J = rw e (record { is = λ seen M. let t = sym q ∙ K .is seen M in rw (every-two (λ u. mem u (0 ∷ seen)) (window lo (lo + breadth)) (b / 2) (c / 2), ← t) (J .is seen M) })
-
-  pub use-not : kind ≡ 5 → (s : Bool) → s ≡ false → Known lo ((b / 2) ∷ []) map s → Known lo (uses (itemOf kind a b c)) map false
-  unfolding itemOf uses pinOf
-  use-not e s q K = rw e (record { is = λ seen M. let t = sym q ∙ K .is seen M in rw (every-two (λ u. mem u (0 ∷ seen)) (window lo (lo + breadth)) (b / 2) (c / 2), ← t) refl })
-
-  pub use-none : (kind ≡ 3 → ⊥) → (kind ≡ 4 → ⊥) → (kind ≡ 5 → ⊥) → Known lo (uses (itemOf kind a b c)) map true
-  unfolding itemOf uses
-  use-none n3 n4 n5 = known-none lo _ map (split (eqb kind 1) (λ t. rw (t, itemOf)) (λ t. split (eqb kind 2) (λ u. rw (t, itemOf, u)) (λ u. rw (t, itemOf, u, ne-eqb kind 3 n3, ne-eqb kind 4 n4, ne-eqb kind 5 n5))))
-
+-- what holds before the i-th line, at a place
 pub record Look (H : Header) (start lo : ℕ) (bytes map : List ℕ) (at i : ℕ) : Type 0 where
   pub here : (seen : List ℕ) → Marks lo seen map → placeOr (length bytes) (firstUnknownIn (window lo (lo + breadth)) (0 ∷ seen) (spotsAt H i (linesFrom bytes at))) ≡ placeOr (length bytes) (firstUnknownIn (window lo (lo + breadth)) (0 ∷ seen) (spotsAt H 0 (linesFrom bytes start)))
   pub inside : at ≤ length bytes
   pub few : i ≤ at
 
+-- before the first line
 pub look-start : (H : Header) (m start lo : ℕ) (bytes map : List ℕ) → Set m start bytes map → Look H start lo bytes map start 0
 look-start H m start lo bytes map S = record { here = λ seen M. refl; inside = S .inside; few = omega arith }
 
-module _ {H : Header} {start lo : ℕ} {bytes map : List ℕ} {at i : ℕ} (S : Look H start lo bytes map at i) (e : ℕ) (d : e ≡ at + until 10 (drop at bytes)) where
-  look-over : spotsAt H i (linesFrom bytes at) ≡ [] → Used H start lo bytes map (length bytes)
+module _ {H : Header} {start lo : ℕ} {bytes map : List ℕ} {at i : ℕ} (S : Look H start lo bytes map at i) where
+  -- no line is left
+  pub look-over : spotsAt H i (linesFrom bytes at) ≡ [] → Used H start lo bytes map (length bytes)
   unfolding firstUnknownIn placeOr
   look-over z = record { is = λ seen M. let q : length bytes ≡ placeOr (length bytes) (firstUnknownIn (window lo (lo + breadth)) (0 ∷ seen) (spotsAt H i (linesFrom bytes at))) = rw z in q ∙ S .here seen M }
 
-  pub look-last : length bytes ≤ e → Used H start lo bytes map (length bytes)
-  unfolding spotsAt
-  look-last k = look-over (rw (line-last bytes at e (S .inside) d k))
+  module _ {x : Item} {e : ℕ} (L : NextLine H i at bytes x e) (good : Bool) (K : Known lo (uses x) map good) where
+    -- a line that uses an unknown variable
+    pub look-found : good ≡ false → Used H start lo bytes map at
+    unfolding firstUnknownIn placeOr
+    look-found g = record {
+      is = λ seen M.
+          let u = sym g ∙ K .is seen M in
+          let w : at ≡ placeOr (length bytes) (firstUnknownIn (window lo (lo + breadth)) (0 ∷ seen) (spotsAt H i (linesFrom bytes at))) = rw (L .spots, firstUnknownIn, ← u) in
+          w ∙ S .here seen M;
+    }
 
-  pub look-stop : e < length bytes → (t : Bool) → t ≡ stopsAt H i (take (e - at) (drop at bytes)) → t ≡ true → Used H start lo bytes map (length bytes)
-  unfolding spotsAt
-  look-stop k t q p = let u : stopsAt H i (take (e - at) (drop at bytes)) ≡ true = sym q ∙ p in look-over (rw (line-next bytes at e (S .inside) d k, spotsAt, u))
-
-  next-spot : e < length bytes → stopsAt H i (take (e - at) (drop at bytes)) ≡ false → (x : Item) → x ≡ itemAt H i (take (e - at) (drop at bytes)) → spotsAt H i (linesFrom bytes at) ≡ record { at = at; item = x } ∷ spotsAt H (i + 1) (linesFrom bytes (e + 1))
-  unfolding spotsAt
-  next-spot k u x y = rw (line-next bytes at e (S .inside) d k, spotsAt, u, add-one i, y)
-
-  pub look-found : e < length bytes → (t : Bool) → t ≡ stopsAt H i (take (e - at) (drop at bytes)) → t ≡ false → (x : Item) → x ≡ itemAt H i (take (e - at) (drop at bytes)) → (good : Bool) → good ≡ false → Known lo (uses x) map good → Used H start lo bytes map at
-  unfolding firstUnknownIn placeOr
-  look-found k t q p x y good g K = record {
-    is = λ seen M.
-        let u = sym g ∙ K .is seen M in
-        let w : at ≡ placeOr (length bytes) (firstUnknownIn (window lo (lo + breadth)) (0 ∷ seen) (spotsAt H i (linesFrom bytes at))) = rw (next-spot k (sym q ∙ p) x y, firstUnknownIn, ← u) in
-        w ∙ S .here seen M;
-  }
-
-  pub look-more : e < length bytes → (t : Bool) → t ≡ stopsAt H i (take (e - at) (drop at bytes)) → t ≡ false → (x : Item) → x ≡ itemAt H i (take (e - at) (drop at bytes)) → (good : Bool) → good ≡ true → Known lo (uses x) map good → Look H start lo bytes map (e + 1) (i + 1)
-  unfolding firstUnknownIn
-  look-more k t q p x y good g K =
-      let v = line-inside bytes at e (S .inside) d in
-      record {
-        here = λ seen M.
-            let u = sym g ∙ K .is seen M in
-            let w : placeOr (length bytes) (firstUnknownIn (window lo (lo + breadth)) (0 ∷ seen) (spotsAt H (i + 1) (linesFrom bytes (e + 1)))) ≡ placeOr (length bytes) (firstUnknownIn (window lo (lo + breadth)) (0 ∷ seen) (spotsAt H i (linesFrom bytes at))) = rw (next-spot k (sym q ∙ p) x y, firstUnknownIn, ← u) in
-            w ∙ S .here seen M;
-        inside = omega arith;
-        few = omega (arith, S .few);
-      }
+    -- one line more
+    pub look-more : good ≡ true → Look H start lo bytes map (e + 1) (i + 1)
+    unfolding firstUnknownIn
+    look-more g = record {
+      here = λ seen M.
+          let u = sym g ∙ K .is seen M in
+          let w : placeOr (length bytes) (firstUnknownIn (window lo (lo + breadth)) (0 ∷ seen) (spotsAt H (i + 1) (linesFrom bytes (e + 1)))) ≡ placeOr (length bytes) (firstUnknownIn (window lo (lo + breadth)) (0 ∷ seen) (spotsAt H i (linesFrom bytes at))) = rw (L .spots, firstUnknownIn, ← u) in
+          w ∙ S .here seen M;
+      inside = omega (arith, L .inside);
+      few = omega (arith, S .few, L .from);
+    }

@@ -1,5 +1,5 @@
 -- Laws of a line's items. Assumes nothing.
-use Prim.Native.Nat.{ℕ, zero, suc, min, _+_, _-_, _*_, _<_, _≤_}
+use Prim.Native.Nat.{ℕ, _+_, _-_, _*_, _%_, _<_, _≤_}
 use mathlib.Core.Path.{_≡_, refl, sym, ap, _∙_}
 use mathlib.Core.Logic.{_⊎_, inl, inr}
 use mathlib.Core.Bool.{Bool, true, false, _&&_, _||_}
@@ -7,17 +7,17 @@ use mathlib.Core.List.{List, [], _∷_}
 use native.Mathlib.Omega.{arith}
 use lib.Dec.{eqb, leb, ltb}
 use lib.ListN.{length, getD, take, drop, List·getD-eq-default}
-use borrow.Author.Tests.{eqb-true, ltb-true, ltb-false, leb-true, le-leb, lt-leb, ne-eqb, eq-eqb, lt-ltb, le-ltb}
+use borrow.Author.Tests.{eqb-true, ltb-true, ltb-false, leb-true, lt-leb, ne-eqb, lt-ltb, le-ltb}
 use Rattle.rules.specs.Lists.{Found, nothing, found, sameList}
 use Rattle.rules.specs.Listing.{text}
 use Rattle.rules.specs.Graph.{inversionOf}
 use Rattle.rules.proofs.Lists.Members.{split}
 use Rattle.rules.proofs.Bools.{and-none}
-use Rattle.aiger_form.specs.Text.{Numbers?, noNumbers, numbers, number}
+use Rattle.aiger_form.specs.Text.{Numbers?, number}
 use Rattle.aiger_text.proofs.Laws.Cursor.{parts-until, parts-rest}
 use Rattle.aiger_form.specs.Aag.{Header, symbolCount, symbolItem, symbolWord, symbolNumber, Item, badText, skipped, inputLine, latchLine, outputLine, gateLine, orBad, isLiteral, isVariable, inputItem, resetRight, latchItem, outputItem, gateItem, numbersItem, lineItem}
 use Rattle.aiger_text.specs.Cursor.{until, cap, capped, cappedFound, numeral, Got, none, some}
-use Rattle.aiger_text.specs.Rows.{itemOf, resetIn, inputIn, latchIn, outputIn, gateIn, head, itemAt, stopsAt}
+use Rattle.aiger_text.specs.Rows.{resetIn, head, itemAt, stopsAt}
 
 -- a number in range is exact, and one that is not stays out of range
 data Exact (m l : ℕ) : Type 0 where
@@ -55,6 +55,15 @@ module _ (m : ℕ) (h : m ≤ 2147483647) where
   and-parts true false e = absurd (let z : _≡_ {A = ℕ} 0 1 = cc in omega arith)
   and-parts false b e = absurd (let z : _≡_ {A = ℕ} 0 1 = cc in omega arith)
 
+  -- a literal in range has 32 bits
+  literal-low : (l k : ℕ) → k ≡ l % 4294967296 → isLiteral m l ≡ true → k ≡ l
+  unfolding isLiteral
+  literal-low l k q e = omega (arith, leb-true l (2 * m + 1) e)
+
+  variable-low : (l k : ℕ) → k ≡ l % 4294967296 → isVariable m l ≡ true → k ≡ l
+  unfolding isVariable
+  variable-low l k q e = literal-low l k q (and-parts (eqb (inversionOf l) 0 && ltb 0 l) (isLiteral m l) e .1)
+
   literal-exact : (l : ℕ) → isLiteral m l ≡ true → capped l ≡ l
   unfolding isLiteral
   literal-exact l e = omega (arith, leb-true l (2 * m + 1) e)
@@ -63,38 +72,72 @@ module _ (m : ℕ) (h : m ≤ 2147483647) where
   unfolding isVariable
   variable-exact l e = literal-exact l (and-parts (eqb (inversionOf l) 0 && ltb 0 l) (isLiteral m l) e .1)
 
-  pub input-is : {r : Numbers?} {is : Bool} {count : ℕ} {values : List ℕ} → Got r is count values → inputIn m is count (getD values 0 0) ≡ numbersItem (inputItem m) r
-  unfolding inputIn inputItem numbersItem itemOf orBad
-  input-is none = refl
-  input-is (some {ns = ns} c v) =
-      let a = getD ns 0 0 in
-      rw (v 0 (omega arith), c, variable-same a)
-      (or-bad-same (eqb (length ns) 1 && isVariable m a) (inputLine (capped a)) (inputLine a) (λ t. ap inputLine (variable-exact a (and-parts (eqb (length ns) 1) (isVariable m a) t .1))))
+  -- so a literal is exact in 32 bits, from a number that stops at the cap
+  literal-kept : (l v k : ℕ) → v ≡ capped l → k ≡ v % 4294967296 → isLiteral m l ≡ true → k ≡ l
+  literal-kept l v k e q h = literal-low l k (q ∙ ap (λ (n : ℕ). n % 4294967296) (e ∙ literal-exact l h)) h
 
-  pub output-is : {r : Numbers?} {is : Bool} {count : ℕ} {values : List ℕ} → Got r is count values → outputIn m is count (getD values 0 0) ≡ numbersItem (outputItem m) r
-  unfolding outputIn outputItem numbersItem itemOf orBad
-  output-is none = refl
-  output-is (some {ns = ns} c v) =
-      let a = getD ns 0 0 in
-      rw (v 0 (omega arith), c, literal-same a)
-      (or-bad-same (eqb (length ns) 1 && isLiteral m a) (outputLine (capped a)) (outputLine a) (λ t. ap outputLine (literal-exact a (and-parts (eqb (length ns) 1) (isLiteral m a) t .1))))
+  variable-kept : (l v k : ℕ) → v ≡ capped l → k ≡ v % 4294967296 → isVariable m l ≡ true → k ≡ l
+  variable-kept l v k e q h = variable-low l k (q ∙ ap (λ (n : ℕ). n % 4294967296) (e ∙ variable-exact l h)) h
 
-  pub gate-is : {r : Numbers?} {is : Bool} {count : ℕ} {values : List ℕ} → Got r is count values → gateIn m is count (getD values 0 0) (getD values 1 0) (getD values 2 0) ≡ numbersItem (gateItem m) r
-  unfolding gateIn gateItem numbersItem itemOf orBad
+  -- an input's line, by its numbers
+  pub input-is : {r : Numbers?} {is : Bool} {count : ℕ} {values : List ℕ} → Got r is count values → (k : ℕ) → k ≡ getD values 0 0 % 4294967296 → orBad (is && (eqb count 1 && isVariable m (getD values 0 0))) (inputLine k) ≡ numbersItem (inputItem m) r
+  unfolding inputItem numbersItem orBad
+  input-is none k q = refl
+  input-is (some {ns = ns} {values = values} c v) k q =
+      let a = getD ns 0 0 in
+      let va = v 0 (omega arith) in
+      rw (va, c, variable-same a)
+      (or-bad-same (eqb (length ns) 1 && isVariable m a) (inputLine k) (inputLine a) (λ t. ap inputLine (variable-kept a (getD values 0 0) k va q (and-parts (eqb (length ns) 1) (isVariable m a) t .1))))
+
+  -- an output's
+  pub output-is : {r : Numbers?} {is : Bool} {count : ℕ} {values : List ℕ} → Got r is count values → (k : ℕ) → k ≡ getD values 0 0 % 4294967296 → orBad (is && (eqb count 1 && isLiteral m (getD values 0 0))) (outputLine k) ≡ numbersItem (outputItem m) r
+  unfolding outputItem numbersItem orBad
+  output-is none k q = refl
+  output-is (some {ns = ns} {values = values} c v) k q =
+      let a = getD ns 0 0 in
+      let va = v 0 (omega arith) in
+      rw (va, c, literal-same a)
+      (or-bad-same (eqb (length ns) 1 && isLiteral m a) (outputLine k) (outputLine a) (λ t. ap outputLine (literal-kept a (getD values 0 0) k va q (and-parts (eqb (length ns) 1) (isLiteral m a) t .1))))
+
+  -- three numbers of a gate, in 32 bits
+  pub gate-low : (a b c k l n : ℕ) → k ≡ a % 4294967296 → l ≡ b % 4294967296 → n ≡ c % 4294967296 → orBad (isVariable m a && isLiteral m b && isLiteral m c) (gateLine k l n) ≡ orBad (isVariable m a && isLiteral m b && isLiteral m c) (gateLine a b c)
+  gate-low a b c k l n p q r = or-bad-same (isVariable m a && isLiteral m b && isLiteral m c) (gateLine k l n) (gateLine a b c) (λ t.
+      let w = and-parts (isVariable m a && isLiteral m b) (isLiteral m c) t in
+      let u = and-parts (isVariable m a) (isLiteral m b) (w .0) in
+      rw (variable-low a k p (u .0), literal-low b l q (u .1), literal-low c n r (w .1)))
+
+  or-bad-and : (s t : Bool) (x : Item) → orBad s (orBad t x) ≡ orBad (s && t) x
+  unfolding orBad
+  or-bad-and true t x = refl
+  or-bad-and false t x = refl
+
+  and-four : (a b c d : Bool) → a && (b && c && d) ≡ a && b && c && d
+  and-four true b c d = refl
+  and-four false b c d = refl
+
+  -- a gate's line
+  pub gate-is : {r : Numbers?} {is : Bool} {count : ℕ} {values : List ℕ} → Got r is count values → orBad (is && eqb count 3) (orBad (isVariable m (getD values 0 0) && isLiteral m (getD values 1 0) && isLiteral m (getD values 2 0)) (gateLine (getD values 0 0) (getD values 1 0) (getD values 2 0))) ≡ numbersItem (gateItem m) r
+  unfolding gateItem numbersItem orBad
   gate-is none = refl
   gate-is (some {ns = ns} n v) =
       let a = getD ns 0 0 in
       let b = getD ns 1 0 in
       let c = getD ns 2 0 in
       rw (v 0 (omega arith), v 1 (omega arith), v 2 (omega arith), n, variable-same a, literal-same b, literal-same c)
+      (or-bad-and (eqb (length ns) 3) (isVariable m a && isLiteral m b && isLiteral m c) (gateLine (capped a) (capped b) (capped c)) ∙ rw (and-four (eqb (length ns) 3) (isVariable m a) (isLiteral m b) (isLiteral m c))
       (or-bad-same (eqb (length ns) 3 && isVariable m a && isLiteral m b && isLiteral m c) (gateLine (capped a) (capped b) (capped c)) (gateLine a b c) (λ t.
       let w = and-parts (eqb (length ns) 3 && isVariable m a && isLiteral m b) (isLiteral m c) t in
       let u = and-parts (eqb (length ns) 3 && isVariable m a) (isLiteral m b) (w .0) in
       let s = and-parts (eqb (length ns) 3) (isVariable m a) (u .0) in
-      rw (variable-exact a (s .1), literal-exact b (u .1), literal-exact c (w .1))))
+      rw (variable-exact a (s .1), literal-exact b (u .1), literal-exact c (w .1)))))
+
+  -- the item of three numbers
+  pub gate-three : (a b c : ℕ) → orBad (isVariable m a && isLiteral m b && isLiteral m c) (gateLine a b c) ≡ gateItem m (a ∷ b ∷ c ∷ [])
+  unfolding gateItem
+  gate-three a b c = refl
 
   -- where a latch's variable is in range, so is its reset
-  variable-below : (l : ℕ) → isVariable m l ≡ true → l < cap
+  variable-below : (l : ℕ) → isVariable m l ≡ true → l < 4294967296
   unfolding isVariable isLiteral
   variable-below l e = omega (arith, leb-true l (2 * m + 1) (and-parts (eqb (inversionOf l) 0 && ltb 0 l) (isLiteral m l) e .1))
 
@@ -108,7 +151,7 @@ module _ (m : ℕ) (h : m ≤ 2147483647) where
   reset-same ns v =
       let a = getD ns 0 0 in
       let c = getD ns 2 0 in
-      rw (variable-exact a v, bit-same a c (variable-below a v))
+      rw (variable-exact a v, bit-same a c (let h = variable-below a v in omega arith))
 
   test-same : (ns : List ℕ) → (resetIn (length ns) (capped (getD ns 0 0)) (capped (getD ns 2 0)) && isVariable m (capped (getD ns 0 0)) && isLiteral m (capped (getD ns 1 0))) ≡ (resetRight ns && isVariable m (getD ns 0 0) && isLiteral m (getD ns 1 0))
   test-same ns =
@@ -121,31 +164,36 @@ module _ (m : ℕ) (h : m ≤ 2147483647) where
   or-parts true b e = inl refl
   or-parts false b e = inr e
 
-  reset-exact : (ns : List ℕ) → getD ns 0 0 < cap → resetRight ns ≡ true → capped (getD ns 2 0) ≡ getD ns 2 0
+  reset-exact : (ns : List ℕ) → isVariable m (getD ns 0 0) ≡ true → resetRight ns ≡ true → (k : ℕ) → k ≡ capped (getD ns 2 0) % 4294967296 → k ≡ getD ns 2 0
   unfolding resetRight
-  reset-exact ns l e =
+  reset-exact ns l e k q =
       let a = getD ns 0 0 in
       let c = getD ns 2 0 in
+      let h = variable-below a l in
       elim (or-parts (eqb (length ns) 2) (eqb (length ns) 3 && (leb c 1 || eqb c a)) e) [
-        | inl two ↦ let q : length ns ≤ 2 = omega (arith, eqb-true (length ns) 2 two) in let z : c ≡ 0 = List·getD-eq-default ns 0 q in rw z refl
+        | inl two ↦ let p : length ns ≤ 2 = omega (arith, eqb-true (length ns) 2 two) in let z : c ≡ 0 = List·getD-eq-default ns 0 p in omega arith
         | inr rest ↦ elim (or-parts (leb c 1) (eqb c a) (and-parts (eqb (length ns) 3) (leb c 1 || eqb c a) rest .1)) [
           | inl bit ↦ omega (arith, leb-true c 1 bit)
           | inr own ↦ omega (arith, eqb-true c a own)
         ]
       ]
 
-  pub latch-is : {r : Numbers?} {is : Bool} {count : ℕ} {values : List ℕ} → Got r is count values → latchIn m is count (getD values 0 0) (getD values 1 0) (getD values 2 0) ≡ numbersItem (latchItem m) r
-  unfolding latchIn latchItem numbersItem itemOf orBad
-  latch-is none = refl
-  latch-is (some {ns = ns} n v) =
+  -- a latch's line
+  pub latch-is : {r : Numbers?} {is : Bool} {count : ℕ} {values : List ℕ} → Got r is count values → (k l n : ℕ) → k ≡ getD values 0 0 % 4294967296 → l ≡ getD values 1 0 % 4294967296 → n ≡ getD values 2 0 % 4294967296 → orBad (is && (resetIn count (getD values 0 0) (getD values 2 0) && isVariable m (getD values 0 0) && isLiteral m (getD values 1 0))) (latchLine k l n) ≡ numbersItem (latchItem m) r
+  unfolding latchItem numbersItem orBad
+  latch-is none k l n p q s = refl
+  latch-is (some {ns = ns} {values = values} d v) k l n p q s =
       let a = getD ns 0 0 in
       let b = getD ns 1 0 in
       let c = getD ns 2 0 in
-      rw (v 0 (omega arith), v 1 (omega arith), v 2 (omega arith), n, test-same ns)
-      (or-bad-same (resetRight ns && isVariable m a && isLiteral m b) (latchLine (capped a) (capped b) (capped c)) (latchLine a b c) (λ t.
+      let va = v 0 (omega arith) in
+      let vb = v 1 (omega arith) in
+      let vc = v 2 (omega arith) in
+      rw (va, vb, vc, d, test-same ns)
+      (or-bad-same (resetRight ns && isVariable m a && isLiteral m b) (latchLine k l n) (latchLine a b c) (λ t.
       let w = and-parts (resetRight ns && isVariable m a) (isLiteral m b) t in
       let u = and-parts (resetRight ns) (isVariable m a) (w .0) in
-      rw (reset-exact ns (variable-below a (u .1)) (u .0), variable-exact a (u .1), literal-exact b (w .1))))
+      rw (reset-exact ns (u .1) (u .0) n (s ∙ ap (λ (x : ℕ). x % 4294967296) vc), variable-kept a (getD values 0 0) k va p (u .1), literal-kept b (getD values 1 0) l vb q (w .1))))
 
 -- ---- symbols
 

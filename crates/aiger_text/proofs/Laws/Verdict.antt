@@ -1,22 +1,24 @@
 -- The verdict on a file: laws. Assumes nothing.
-use Prim.Native.Nat.{ℕ, zero, suc, min, _+_, _-_, _≤_, _<_}
+use Prim.Native.Nat.{ℕ, zero, suc, _+_, _-_, _≤_, _<_}
 use mathlib.Core.Path.{_≡_, refl, sym, ap, _∙_}
-use mathlib.Core.Bool.{Bool, true, false, not, _&&_, _||_}
+use mathlib.Core.Bool.{Bool, true, false}
 use mathlib.Core.List.{List, [], _∷_, _++_}
 use native.Mathlib.Omega.{arith}
 use lib.Dec.{eqb, ltb}
-use lib.ListN.{length, getD, take, drop, length-drop}
+use lib.ListN.{length, take, drop, length-drop}
 use borrow.Author.Tests.{lt-ltb, ltb-true, ltb-false}
 use Rattle.rules.specs.Lists.{Found, nothing, found}
 use Rattle.rules.proofs.Lists.Members.{split, true-false}
-use Rattle.aiger_form.specs.Text.{Line, placed, parts, ended}
-use Rattle.aiger_form.specs.Aag.{Header, Header?, noHeader, header, headerOf, Item, Spot, spots, symbolLines, gateSpots, outputSpots, latchSpots, allSpots, bodySize, isCut, placeOr, items, defined, defines, stands, firstAgain, firstBad, resetOf, firstReset, File?, malformed, badReset, file, resets, judge, judged, bodyOf, linesOf, fileOf}
+use Rattle.aiger_form.specs.Text.{Line, placed, parts}
+use Rattle.aiger_form.specs.Aag.{Header, Header?, noHeader, header, headerOf, Spot, spots, symbolLines, gateSpots, outputSpots, latchSpots, allSpots, bodySize, isCut, placeOr, items, defined, defines, stands, firstAgain, firstBad, resetOf, firstReset, malformed, badReset, file, resets, judge, judged, bodyOf, linesOf, fileOf}
 use Rattle.aiger_text.specs.Rows.{head, HeadIs, no, yes}
-use Rattle.aiger_text.specs.Passes.{spotsAt, linesFrom, breadth}
+use Rattle.aiger_text.specs.declared.passes.Sweep.{Sweep}
+use Rattle.aiger_text.specs.declared.file.Verdict.{Verdict}
+use Rattle.aiger_text.specs.Passes.{spotsAt, linesFrom, breadth, area, Behind}
 use Rattle.aiger_text.specs.Cursor.{until, cap, capped}
-use Rattle.aiger_text.specs.Whole.{judgedAt, First}
-use Rattle.aiger_text.specs.File.{Behind, Resets, Judged, bad, reset, good, Refused, Ahead, bodyFile, BodyJudged, FileJudged}
-use Rattle.aiger_text.proofs.Laws.Passes.{spots-all, line-inside, line-last, line-next}
+use Rattle.aiger_text.specs.Whole.{judgedAt, Begun, First}
+use Rattle.aiger_text.specs.File.{headOf, spotsOf, Resets, bad, reset, good, Refused, bodyFile, BodyJudged, FileJudged}
+use Rattle.aiger_text.proofs.Laws.Passes.{spots-all, line-last, line-next}
 use Rattle.aiger_text.proofs.Laws.Whole.{Within, none, one, within, total, total-parts}
 
 -- ---- a place below the length is a line's
@@ -47,59 +49,66 @@ reset-inside (one {s = s} b w) p e = split (eqb (resetOf (s .item)) 0)
 
 -- ---- behind the header
 
-module _ {H : Header} {start : ℕ} {bytes map map′ : List ℕ} {first : ℕ} (cut : Bool) (c : cut ≡ isCut H bytes (linesFrom bytes start)) (F : First H (not cut) start bytes map map′ first) where
-  pub body-cut : cut ≡ true → {n p start′ m i l o a : ℕ} → Refused 12 first n p → BodyJudged H start bytes map map′ n p start′ m i l o a
+module _ {H : Header} {start : ℕ} {bytes map map′ w w′ : List ℕ} {s : Sweep} (F : First H start bytes map map′ w w′ s) where
+  -- a cut file
+  pub body-cut : s .cut ≡ true → {r : Verdict} → Refused 12 (s .first) r → BodyJudged H start bytes map map′ w w′ r
   unfolding bodyFile judgedAt
-  body-cut t R =
-      let u : isCut H bytes (linesFrom bytes start) ≡ true = sym c ∙ t in
-      let q : first ≡ placeOr (length bytes) (firstAgain [] (spotsAt H 0 (linesFrom bytes start))) = rw t at (F .first) in
-      let e : bodyFile H start bytes ≡ malformed first = rw (bodyFile, u, q) in
-      record { len = F .len; is = rw (e, R .what, R .place) bad }
+  body-cut t {r} R =
+      let u : isCut H bytes (linesFrom bytes start) ≡ true = sym (F .cut) ∙ t in
+      let q : s .first ≡ placeOr (length bytes) (firstAgain [] (spotsAt H 0 (linesFrom bytes start))) = rw u at (F .first) in
+      let e : bodyFile H start bytes ≡ malformed (r .at) = rw (bodyFile, u, R .place, q) in
+      record { len = F .len; size = F .size; is = bad (R .what) e; stored = λ y h. absurd (omega (arith, R .what)) }
 
-  body-whole : cut ≡ false → bodyFile H start bytes ≡ judge (H .variables) (spotsAt H 0 (linesFrom bytes start)) (firstBad (0 ∷ defined (items (spotsAt H 0 (linesFrom bytes start)))) [] (spotsAt H 0 (linesFrom bytes start)))
+  body-whole : s .cut ≡ false → bodyFile H start bytes ≡ judge (H .variables) (spotsAt H 0 (linesFrom bytes start)) (firstBad (0 ∷ defined (items (spotsAt H 0 (linesFrom bytes start)))) [] (spotsAt H 0 (linesFrom bytes start)))
   unfolding bodyFile judged
-  body-whole t = let u : isCut H bytes (linesFrom bytes start) ≡ false = sym c ∙ t in rw (bodyFile, u)
+  body-whole t = let u : isCut H bytes (linesFrom bytes start) ≡ false = sym (F .cut) ∙ t in rw (bodyFile, u)
 
-  first-whole : cut ≡ false → first ≡ placeOr (length bytes) (firstBad (0 ∷ defined (items (spotsAt H 0 (linesFrom bytes start)))) [] (spotsAt H 0 (linesFrom bytes start)))
+  first-whole : s .cut ≡ false → s .first ≡ placeOr (length bytes) (firstBad (0 ∷ defined (items (spotsAt H 0 (linesFrom bytes start)))) [] (spotsAt H 0 (linesFrom bytes start)))
   unfolding judgedAt
-  first-whole t = rw t at (F .first)
+  first-whole t = let u : isCut H bytes (linesFrom bytes start) ≡ false = sym (F .cut) ∙ t in rw u at (F .first)
 
-  pub body-bad : cut ≡ false → first < length bytes → {n p start′ m i l o a : ℕ} → Refused 12 first n p → BodyJudged H start bytes map map′ n p start′ m i l o a
+  -- a bad line
+  pub body-bad : s .cut ≡ false → s .first < length bytes → {r : Verdict} → Refused 12 (s .first) r → BodyJudged H start bytes map map′ w w′ r
   unfolding judge
-  body-bad t k R =
+  body-bad t k {r} R =
       let ss = spotsAt H 0 (linesFrom bytes start) in
       let f = firstBad (0 ∷ defined (items ss)) [] ss in
       let q = first-whole t in
-      let g : f ≡ found first = place-found (length bytes) f (omega arith) ∙ ap found (sym q) in
-      let e : bodyFile H start bytes ≡ malformed first = body-whole t ∙ (rw g) in
-      record { len = F .len; is = rw (e, R .what, R .place) bad }
+      let g : f ≡ found (r .at) = place-found (length bytes) f (omega arith) ∙ ap found (sym q ∙ sym (R .place)) in
+      let e : bodyFile H start bytes ≡ malformed (r .at) = body-whole t ∙ (rw g) in
+      record { len = F .len; size = F .size; is = bad (R .what) e; stored = λ y h. absurd (omega (arith, R .what)) }
 
-  body-fine : start ≤ length bytes → cut ≡ false → length bytes ≤ first → bodyFile H start bytes ≡ resets (H .variables) (spotsAt H 0 (linesFrom bytes start)) (firstReset (spotsAt H 0 (linesFrom bytes start)))
-  unfolding judge
-  body-fine b t k =
-      let ss = spotsAt H 0 (linesFrom bytes start) in
-      let f = firstBad (0 ∷ defined (items ss)) [] ss in
-      let q = first-whole t in
-      let g : f ≡ nothing = place-nothing (length bytes) f (bad-inside (0 ∷ defined (items ss)) [] (within H start bytes b)) (omega arith) in
-      body-whole t ∙ (rw g)
+  module _ (b : start ≤ length bytes) (t : s .cut ≡ false) (k : length bytes ≤ s .first) (p : ℕ) (S : Resets H start bytes p) where
+    body-fine : bodyFile H start bytes ≡ resets (H .variables) (spotsAt H 0 (linesFrom bytes start)) (firstReset (spotsAt H 0 (linesFrom bytes start)))
+    unfolding judge
+    body-fine =
+        let ss = spotsAt H 0 (linesFrom bytes start) in
+        let f = firstBad (0 ∷ defined (items ss)) [] ss in
+        let q = first-whole t in
+        let g : f ≡ nothing = place-nothing (length bytes) f (bad-inside (0 ∷ defined (items ss)) [] (within H start bytes b)) (omega arith) in
+        body-whole t ∙ (rw g)
 
-  pub body-reset : start ≤ length bytes → cut ≡ false → length bytes ≤ first → (r : ℕ) → Resets H start bytes r → r < length bytes → {n p start′ m i l o a : ℕ} → Refused 13 r n p → BodyJudged H start bytes map map′ n p start′ m i l o a
-  unfolding resets
-  body-reset b t k r S j R =
-      let ss = spotsAt H 0 (linesFrom bytes start) in
-      let q = S .is in
-      let g : firstReset ss ≡ found r = place-found (length bytes) (firstReset ss) (omega arith) ∙ ap found (sym q) in
-      let e : bodyFile H start bytes ≡ badReset r = body-fine b t k ∙ (rw g) in
-      record { len = F .len; is = rw (e, R .what, R .place) reset }
+    -- a reset value
+    pub body-reset : p < length bytes → {r : Verdict} → Refused 13 p r → BodyJudged H start bytes map map′ w w′ r
+    unfolding resets
+    body-reset j {r} R =
+        let ss = spotsAt H 0 (linesFrom bytes start) in
+        let q = S .is in
+        let g : firstReset ss ≡ found (r .at) = place-found (length bytes) (firstReset ss) (omega arith) ∙ ap found (sym q ∙ sym (R .place)) in
+        let e : bodyFile H start bytes ≡ badReset (r .at) = body-fine ∙ (rw g) in
+        record { len = F .len; size = F .size; is = reset (R .what) e; stored = λ y h. absurd (omega (arith, R .what)) }
 
-  pub body-good : Behind (H .variables) start bytes → cut ≡ false → length bytes ≤ first → (r : ℕ) → Resets H start bytes r → length bytes ≤ r → BodyJudged H start bytes map map′ 0 0 start (H .variables) (H .inputs) (H .latches) (H .outputs) (H .gates)
-  unfolding resets
-  body-good B t k r S j =
-      let ss = spotsAt H 0 (linesFrom bytes start) in
-      let q = S .is in
-      let g : firstReset ss ≡ nothing = place-nothing (length bytes) (firstReset ss) (reset-inside (within H start bytes (B .inside))) (omega arith) in
-      let e : bodyFile H start bytes ≡ file (H .variables) (items ss) = body-fine (B .inside) t k ∙ (rw g) in
-      record { len = F .len; is = rw e (good B refl) }
+    -- none
+    pub body-good : length bytes ≤ p → (r : Verdict) → r .number ≡ 0 → r .start ≡ start → headOf (r .head) ≡ H → Behind (r .head .variables) (r .start) bytes → BodyJudged H start bytes map map′ w w′ r
+    unfolding resets
+    body-good j r z es eh B =
+        let ss = spotsAt H 0 (linesFrom bytes start) in
+        let q = S .is in
+        let g : firstReset ss ≡ nothing = place-nothing (length bytes) (firstReset ss) (reset-inside (within H start bytes b)) (omega arith) in
+        let l : spotsOf r bytes ≡ ss = rw (eh, es) refl in
+        let v : r .head .variables ≡ H .variables = ap (λ (h : Header). h .variables) eh in
+        let e : bodyFile H start bytes ≡ file (r .head .variables) (items (spotsOf r bytes)) = rw (l, v) (body-fine ∙ (rw g)) in
+        record { len = F .len; size = F .size; is = good z B e; stored = λ y h. rw l (F .stored (omega arith)) }
 
 -- ---- the number of outputs is capped, and nothing changes
 
@@ -168,6 +177,7 @@ head-yes : {r : Header?} {is : Bool} {m i l o a : ℕ} → HeadIs r is m i l o a
 head-yes no e = true-false e refl
 head-yes (yes h q1 q2 q3 q4 q5 q6) e = record { h = h; is = refl; same = rw (q1, q2, q3, q5); cap = q4; few = q6 }
 
+-- a header has few variables
 pub head-few : {r : Header?} {is : Bool} {m i l o a : ℕ} → HeadIs r is m i l o a → is ≡ true → m ≤ 2147483647
 head-few H e = head-yes H e .few
 
@@ -182,21 +192,23 @@ module _ (bytes : List ℕ) (e : ℕ) (d : e ≡ 0 + until 10 (drop 0 bytes)) wh
   unfolding fileOf linesFrom
   file-lines = refl
 
-  pub file-none : length bytes ≤ e → {map : List ℕ} {n p start m i l o a : ℕ} → Refused 12 (length bytes) n p → FileJudged bytes map map n p start m i l o a
+  -- no line at all
+  pub file-none : length bytes ≤ e → {w : List ℕ} {r : Verdict} → Refused 12 (length bytes) r → FileJudged bytes w w r
   unfolding linesOf
-  file-none k R =
+  file-none k {w} R =
       let q : fileOf bytes ≡ malformed (length bytes) = file-lines ∙ (rw (line-last bytes 0 e (omega arith) d k)) in
-      record { len = refl; is = rw (q, R .what, R .place) bad }
+      record { size = refl; is = bad (R .what) (q ∙ ap malformed (sym (R .place))); stored = λ y h. absurd (omega (arith, R .what)) }
 
   file-first : e < length bytes → fileOf bytes ≡ bodyOf bytes (linesFrom bytes (e + 1)) (headerOf (take (e - 0) (drop 0 bytes)))
   unfolding linesOf
   file-first k = file-lines ∙ (rw (line-next bytes 0 e (omega arith) d k))
 
-  pub file-header : e < length bytes → (is : Bool) {m i l o a : ℕ} → HeadIs (headerOf (take (e - 0) (drop 0 bytes))) is m i l o a → is ≡ false → {map : List ℕ} {n p start m′ i′ l′ o′ a′ : ℕ} → Refused 12 0 n p → FileJudged bytes map map n p start m′ i′ l′ o′ a′
+  -- no header
+  pub file-header : e < length bytes → (is : Bool) {m i l o a : ℕ} → HeadIs (headerOf (take (e - 0) (drop 0 bytes))) is m i l o a → is ≡ false → {w : List ℕ} {r : Verdict} → Refused 12 0 r → FileJudged bytes w w r
   unfolding bodyOf
-  file-header k is H t R =
+  file-header k is H t {w} R =
       let q : fileOf bytes ≡ malformed 0 = file-first k ∙ (rw (head-no H t)) in
-      record { len = refl; is = rw (q, R .what, R .place) bad }
+      record { size = refl; is = bad (R .what) (q ∙ ap malformed (sym (R .place))); stored = λ y h. absurd (omega (arith, R .what)) }
 
   file-body : e < length bytes → length bytes ≤ cap → (is : Bool) {m i l o a : ℕ} → HeadIs (headerOf (take (e - 0) (drop 0 bytes))) is m i l o a → is ≡ true → fileOf bytes ≡ bodyFile (head m i l o a) (e + 1) bytes
   file-body k b is {m} {i} {l} {o} {a} H t =
@@ -208,8 +220,10 @@ module _ (bytes : List ℕ) (e : ℕ) (d : e ≡ 0 + until 10 (drop 0 bytes)) wh
       let c = cut-capped h o (Y .cap) bytes ls (omega arith) in
       file-first k ∙ (rw (Y .is, Y .same) (body-same h o (e + 1) bytes c s))
 
-  pub file-judged : e < length bytes → length bytes ≤ cap → (is : Bool) {m i l o a : ℕ} → HeadIs (headerOf (take (e - 0) (drop 0 bytes))) is m i l o a → is ≡ true → {map map′ : List ℕ} {n p start m′ i′ l′ o′ a′ : ℕ} → BodyJudged (head m i l o a) (e + 1) bytes map map′ n p start m′ i′ l′ o′ a′ → FileJudged bytes map map′ n p start m′ i′ l′ o′ a′
-  file-judged k b is H t B = record { len = B .len; is = rw (file-body k b is H t) (B .is) }
+  -- what stands behind the header is judged
+  pub file-judged : e < length bytes → length bytes ≤ cap → (is : Bool) {m i l o a : ℕ} → HeadIs (headerOf (take (e - 0) (drop 0 bytes))) is m i l o a → is ≡ true → {map map′ w w′ : List ℕ} {r : Verdict} → BodyJudged (head m i l o a) (e + 1) bytes map map′ w w′ r → FileJudged bytes w w′ r
+  file-judged k b is H t B = record { size = B .size; is = rw (file-body k b is H t) (B .is); stored = B .stored }
 
-  pub file-ahead : e < length bytes → (is : Bool) {m i l o a : ℕ} → HeadIs (headerOf (take (e - 0) (drop 0 bytes))) is m i l o a → is ≡ true → {map : List ℕ} → length map ≡ breadth → Ahead m (e + 1) bytes map
-  file-ahead k is H t w = record { behind = record { few = head-few H t; some = omega arith; inside = omega arith }; wide = w }
+  -- and can be
+  pub file-ahead : e < length bytes → (is : Bool) {m i l o a : ℕ} → HeadIs (headerOf (take (e - 0) (drop 0 bytes))) is m i l o a → is ≡ true → {map w : List ℕ} → length map ≡ breadth → length w ≡ area → Begun m (e + 1) bytes map w
+  file-ahead k is H t v w = record { behind = record { few = head-few H t; some = omega arith; inside = omega arith }; wide = v; room = w }

@@ -1,5 +1,5 @@
 -- All windows together find the first bad line of a file. Assumes nothing.
-use Prim.Native.Nat.{ℕ, zero, suc, min, _+_, _*_, _/_, _≤_, _<_}
+use Prim.Native.Nat.{ℕ, suc, min, _+_, _*_, _≤_, _<_}
 use mathlib.Core.Path.{_≡_, refl, sym, ap, _∙_}
 use mathlib.Core.Logic.{_⊎_, inl, inr}
 use mathlib.Core.Bool.{Bool, true, false, not, _&&_, _||_}
@@ -13,16 +13,17 @@ use Rattle.rules.specs.Graph.{pinOf, inversionOf}
 use Rattle.rules.proofs.Lists.Members.{split, and-true, in-cons, in-nil}
 use Rattle.rules.proofs.Bools.{and-right}
 use Rattle.aiger_form.specs.Text.{Line, placed, parts, grow}
-use Rattle.aiger_form.specs.Aag.{Header, Item, badText, skipped, inputLine, latchLine, outputLine, gateLine, isLiteral, isVariable, Spot, isText, defines, uses, placeOr, items, defined, fresh, firstAgain, stands, firstBad, allSpots}
+use Rattle.aiger_form.specs.Aag.{Header, Item, badText, skipped, inputLine, latchLine, outputLine, gateLine, isLiteral, isVariable, Spot, isText, defines, uses, placeOr, items, defined, fresh, firstAgain, stands, firstBad, isCut}
 use Rattle.aiger_form.specs.Meaning.{Among, here, there}
 use Rattle.aiger_form.specs.Windows.{standsIn, firstBadIn, earlier, under, window}
 use Rattle.aiger_form.proofs.Windows.{Rising, stop, step, bad-or, window-step, window-whole}
 use Rattle.aiger_form.proofs.Accepted.{fits, AllFit, all-fit}
-use Rattle.aiger_text.specs.Rows.{itemAt, stopsAt}
-use Rattle.aiger_text.specs.Passes.{spotsAt, freshIn, firstAgainIn, breadth, linesFrom, noted, Swept, Windowed, badIn}
+use Rattle.aiger_text.specs.Rows.{stopsAt}
+use Rattle.aiger_text.specs.Passes.{spotsAt, freshIn, firstAgainIn, breadth, area, linesFrom, noted, storeItem, storeAll, Swept, Used, badIn}
+use Rattle.aiger_text.specs.declared.passes.Sweep.{Sweep}
 use Rattle.aiger_text.specs.Whole.{judgedAt, judgedIn, Place, First}
-use Rattle.aiger_text.proofs.Laws.Passes.{spots-all}
-use Rattle.aiger_text.proofs.Laws.Windows.{pass-first, rising}
+use Rattle.aiger_text.proofs.Laws.Passes.{spots-all, store-length}
+use Rattle.aiger_text.proofs.Laws.Windows.{pass-first, rising, window-is}
 
 -- ---- a cut file is judged as one whose lines use nothing
 
@@ -214,12 +215,17 @@ place-earlier N nothing b = omega arith
 place-earlier N (found a) nothing = omega arith
 place-earlier N (found a) (found b) = split (leb a b) (λ t. rw (t, earlier) (omega (arith, leb-true a b t))) (λ t. rw (t, earlier) (omega (arith, leb-false a b t)))
 
-pub record Sofar (H : Header) (whole : Bool) (start : ℕ) (bytes map : List ℕ) (lo first : ℕ) : Type 0 where
+-- the windows under lo; w₀ is the area behind the first
+pub record Sofar (H : Header) (start : ℕ) (bytes map w₀ w : List ℕ) (cut : Bool) (lo first : ℕ) : Type 0 where
   pub len : length map ≡ breadth
-  pub is : first ≡ min (length bytes) (placeOr (length bytes) (firstBadIn (under lo) (0 ∷ defined (items (spotsAt H 0 (linesFrom bytes start)))) [] (shown whole (spotsAt H 0 (linesFrom bytes start)))))
+  pub room : length w ≡ area
+  pub cut-is : cut ≡ isCut H bytes (linesFrom bytes start)
+  pub is : first ≡ min (length bytes) (placeOr (length bytes) (firstBadIn (under lo) (0 ∷ defined (items (spotsAt H 0 (linesFrom bytes start)))) [] (shown (not (isCut H bytes (linesFrom bytes start))) (spotsAt H 0 (linesFrom bytes start)))))
+  pub past : 65536 ≤ lo
+  pub same : H .variables < 65536 → w ≡ w₀
 
-place-shown : {H : Header} {whole : Bool} {start lo : ℕ} {bytes map map′ : List ℕ} {r : ℕ} → Place H whole start lo bytes map map′ r → r ≡ min (length bytes) (placeOr (length bytes) (firstBadIn (window lo (lo + breadth)) (0 ∷ defined (items (spotsAt H 0 (linesFrom bytes start)))) [] (shown whole (spotsAt H 0 (linesFrom bytes start)))))
-place-shown {H} {whole} {start} {lo} {bytes} P = P .first ∙ ap (λ (f : Found). min (length bytes) (placeOr (length bytes) f)) (in-shown whole (window lo (lo + breadth)) (spotsAt H 0 (linesFrom bytes start)))
+place-shown : {H : Header} {start lo : ℕ} {bytes map map′ w w′ : List ℕ} {r : Sweep} → Place H start lo bytes map map′ w w′ r → r .first ≡ min (length bytes) (placeOr (length bytes) (firstBadIn (window lo (lo + breadth)) (0 ∷ defined (items (spotsAt H 0 (linesFrom bytes start)))) [] (shown (not (isCut H bytes (linesFrom bytes start))) (spotsAt H 0 (linesFrom bytes start)))))
+place-shown {H} {start} {lo} {bytes} P = P .first ∙ ap (λ (f : Found). min (length bytes) (placeOr (length bytes) f)) (in-shown (not (isCut H bytes (linesFrom bytes start))) (window lo (lo + breadth)) (spotsAt H 0 (linesFrom bytes start)))
 
 under-first : (hi v : ℕ) → under hi v ≡ window 0 hi v || window 0 hi v
 unfolding under window
@@ -229,46 +235,63 @@ under-first hi v = rw (le-leb 0 v (omega arith)) (twice (ltb v hi))
     twice true = refl
     twice false = refl
 
-pub sofar-start : {H : Header} {whole : Bool} {start : ℕ} {bytes map₀ map : List ℕ} {r : ℕ} → length map₀ ≡ breadth → Place H whole start 0 bytes map₀ map r → Sofar H whole start bytes map 65536 r
-sofar-start {H} {whole} {start} {bytes} {map₀} {map} {r} b P =
+-- and so does storing all
+pub all-length : (ss : List Spot) (w : List ℕ) → length (storeAll ss w) ≡ length w
+unfolding storeAll
+all-length [] w = refl
+all-length (s ∷ ss) w = all-length ss (storeItem (s .item) w) ∙ store-length (s .item) w
+
+-- the first window
+pub sofar-start : {H : Header} {start : ℕ} {bytes map₀ map w₀ w : List ℕ} {r : Sweep} → length map₀ ≡ breadth → length w₀ ≡ area → Place H start 0 bytes map₀ map w₀ w r → Sofar H start bytes map w w (r .cut) 65536 (r .first)
+sofar-start {H} {start} {bytes} {map₀} {map} {w₀} {w} {r} b k P =
     let ss = spotsAt H 0 (linesFrom bytes start) in
+    let whole = not (isCut H bytes (linesFrom bytes start)) in
     let N = length bytes in
     let all : List ℕ = 0 ∷ defined (items ss) in
     let p = place-shown P in
     let e = bad-or (window 0 breadth) (window 0 breadth) (under breadth) (under-first breadth) all [] (shown-rising whole (rising H start bytes)) in
-    let q : min N (placeOr N (firstBadIn (under breadth) all [] (shown whole ss))) ≡ min r r = rw e (place-earlier N _ _ ∙ (rw (← p) refl)) in
-    record { len = P .len ∙ b; is = omega arith }
+    let q : min N (placeOr N (firstBadIn (under breadth) all [] (shown whole ss))) ≡ min (r .first) (r .first) = rw e (place-earlier N _ _ ∙ (rw (← p) refl)) in
+    record { len = P .len ∙ b; room = ap length (P .stored) ∙ all-length ss w₀ ∙ k; cut-is = P .cut; is = omega arith; past = omega arith; same = λ h. refl }
 
-pub sofar-step : {H : Header} {whole : Bool} {start lo first : ℕ} {bytes map map′ : List ℕ} {r n : ℕ} → Sofar H whole start bytes map lo first → Place H whole start lo bytes map map′ r → n ≡ noted false first r → Sofar H whole start bytes map′ (lo + 65536) n
+-- one window more
+pub sofar-step : {H : Header} {start lo first : ℕ} {bytes map map′ w₀ w w′ : List ℕ} {cut : Bool} {r : Sweep} {n : ℕ} → Sofar H start bytes map w₀ w cut lo first → lo ≤ H .variables → Place H start lo bytes map map′ w w′ r → n ≡ noted false first (r .first) → Sofar H start bytes map′ w₀ w′ cut (lo + 65536) n
 unfolding noted
-sofar-step {H} {whole} {start} {lo} {first} {bytes} {map} {map′} {r} {n} S P e =
+sofar-step {H} {start} {lo} {first} {bytes} {map} {map′} {w₀} {w} {w′} {cut} {r} {n} S h P e =
     let ss = spotsAt H 0 (linesFrom bytes start) in
+    let whole = not (isCut H bytes (linesFrom bytes start)) in
     let N = length bytes in
     let all : List ℕ = 0 ∷ defined (items ss) in
     let p = place-shown P in
     let s = S .is in
-    let w = window-step lo (lo + breadth) (omega arith) all (shown-rising whole (rising H start bytes)) in
-    let q : min N (placeOr N (firstBadIn (under (lo + breadth)) all [] (shown whole ss))) ≡ min first r = rw w (place-earlier N _ _ ∙ (rw (← p, ← s) refl)) in
-    record { len = P .len ∙ S .len; is = e ∙ sym q }
+    let v = window-step lo (lo + breadth) (omega arith) all (shown-rising whole (rising H start bytes)) in
+    let q : min N (placeOr N (firstBadIn (under (lo + breadth)) all [] (shown whole ss))) ≡ min first (r .first) = rw v (place-earlier N _ _ ∙ (rw (← p, ← s) refl)) in
+    record { len = P .len ∙ S .len; room = ap length (P .stored) ∙ all-length ss w ∙ S .room; cut-is = S .cut-is; is = e ∙ sym q; past = omega (arith, S .past); same = λ k. absurd (omega (arith, S .past)) }
 
-pub sofar-end : {H : Header} {whole : Bool} {start lo first : ℕ} {bytes map₀ map : List ℕ} → Sofar H whole start bytes map lo first → length map₀ ≡ breadth → H .variables < lo → start ≤ length bytes → First H whole start bytes map₀ map first
+-- all windows
+pub sofar-end : {H : Header} {start lo first : ℕ} {bytes map₀ map₁ map w₀ w₁ w : List ℕ} {cut : Bool} {r : Sweep} → Sofar H start bytes map w₁ w cut lo first → Place H start 0 bytes map₀ map₁ w₀ w₁ r → length map₀ ≡ breadth → length w₀ ≡ area → H .variables < lo → start ≤ length bytes → First H start bytes map₀ map w₀ w (record { first = first; cut = cut })
 unfolding under
-sofar-end {H} {whole} {start} {lo} {first} {bytes} S b h k =
+sofar-end {H} {start} {lo} {first} {bytes} S P b g h k =
     let ls = linesFrom bytes start in
     let ss = spotsAt H 0 ls in
+    let whole = not (isCut H bytes ls) in
     let N = length bytes in
     let all : List ℕ = 0 ∷ defined (items ss) in
     let F : AllFit (H .variables) (items ss) = rw (spots-all H ls) at (all-fit H ls) in
-    let w = window-whole (under lo) all [] (shown whole ss) (λ x a v i. lt-ltb v lo (let b = below-shown whole (H .variables) ss F x a v i in omega arith)) in
-    let q : first ≡ min N (placeOr N (firstBad all [] (shown whole ss))) = rw w at (S .is) in
-    record { len = S .len ∙ sym b; first = q ∙ found-within all [] (shown-within whole (within H start bytes k)) ∙ ap (placeOr N) (sym (at-shown whole ss)) }
+    let v = window-whole (under lo) all [] (shown whole ss) (λ x a u i. lt-ltb u lo (let b = below-shown whole (H .variables) ss F x a u i in omega arith)) in
+    let q : first ≡ min N (placeOr N (firstBad all [] (shown whole ss))) = rw v at (S .is) in
+    record { len = S .len ∙ sym b; size = S .room ∙ sym g; cut = S .cut-is; first = q ∙ found-within all [] (shown-within whole (within H start bytes k)) ∙ ap (placeOr N) (sym (at-shown whole ss)); stored = λ v. S .same v ∙ P .stored }
 
 -- ---- one window
 
-pub place-whole : {H : Header} {start lo : ℕ} {bytes map map′ : List ℕ} {r : ℕ} (whole : Bool) → whole ≡ true → Windowed H start lo bytes map map′ r → Place H whole start lo bytes map map′ r
-unfolding judgedIn badIn
-place-whole whole e W = rw e (record { len = W .len; first = W .first })
+not-cut : {H : Header} {start lo : ℕ} {bytes map₀ map w₀ w : List ℕ} {a : Sweep} → Swept H start lo bytes map₀ map w₀ w a → (b : Bool) → a .cut ≡ b → not (isCut H bytes (linesFrom bytes start)) ≡ not b
+not-cut S b e = ap not (sym (S .cut) ∙ e)
 
-pub place-cut : {H : Header} {start lo : ℕ} {bytes map₀ map map′ : List ℕ} {r : ℕ} (whole : Bool) → whole ≡ false → length map ≡ length map₀ → Swept H start lo bytes map map′ r → Place H whole start lo bytes map₀ map′ r
+-- of a whole file
+pub place-whole : {H : Header} {start lo : ℕ} {bytes map₀ map map′ w₀ w : List ℕ} {a : Sweep} {b n : ℕ} → length map ≡ length map₀ → Swept H start lo bytes map map′ w₀ w a → a .cut ≡ false → Used H start lo bytes map′ b → n ≡ noted false (a .first) b → Place H start lo bytes map₀ map′ w₀ w (record { first = n; cut = false })
+unfolding judgedIn badIn
+place-whole {H} {start} {lo} {bytes} l S e U g = record { len = S .len ∙ l; cut = sym e ∙ S .cut; first = rw (not-cut S false e) (window-is S U g); stored = S .stored }
+
+-- of a cut one
+pub place-cut : {H : Header} {start lo : ℕ} {bytes map₀ map map′ w₀ w : List ℕ} {a : Sweep} → length map ≡ length map₀ → Swept H start lo bytes map map′ w₀ w a → a .cut ≡ true → Place H start lo bytes map₀ map′ w₀ w a
 unfolding judgedIn
-place-cut {H} {start} {lo} {bytes} whole e l S = rw e (record { len = S .len ∙ l; first = S .first ∙ pass-first (window lo (lo + breadth)) [] (length bytes) (rising H start bytes) })
+place-cut {H} {start} {lo} {bytes} l S e = record { len = S .len ∙ l; cut = S .cut; first = rw (not-cut S true e) (S .first ∙ pass-first (window lo (lo + breadth)) [] (length bytes) (rising H start bytes)); stored = S .stored }

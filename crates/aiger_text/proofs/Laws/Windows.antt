@@ -1,21 +1,22 @@
 -- A window's two passes find its first bad line. Assumes nothing.
-use Prim.Native.Nat.{ℕ, zero, suc, min, _+_, _-_, _≤_, _<_}
-use mathlib.Core.Path.{_≡_, refl, sym, ap, _∙_}
-use mathlib.Core.Bool.{Bool, true, false, not, _&&_, _||_}
+use Prim.Native.Nat.{ℕ, min, _+_, _-_, _≤_, _<_}
+use mathlib.Core.Path.{_≡_, refl, ap, _∙_}
+use mathlib.Core.Bool.{Bool, true, false, _&&_, _||_}
 use mathlib.Core.List.{List, [], _∷_, _++_}
 use native.Mathlib.Omega.{arith}
 use lib.Dec.{eqb, ltb}
-use lib.ListN.{length, getD, set, drop, length-set, List·getD-eq-default}
+use lib.ListN.{length, getD, set, drop, List·getD-eq-default}
 use lib.Seq.{getD-set-same, getD-set-other}
-use borrow.Author.Tests.{eqb-true, eqb-false, eq-eqb, ltb-true, ltb-false}
-use Rattle.rules.specs.Lists.{Found, nothing, found, mem, every, keep}
+use borrow.Author.Tests.{eqb-true, eqb-false, ltb-true, ltb-false}
+use Rattle.rules.specs.Lists.{mem, every, keep}
 use Rattle.rules.proofs.Lists.Members.{split}
-use Rattle.aiger_form.specs.Text.{Line, placed, parts}
+use Rattle.aiger_form.specs.Text.{placed, parts}
 use Rattle.aiger_text.proofs.Laws.Passes.{spots-all}
-use Rattle.aiger_form.specs.Aag.{Header, Item, Spot, isText, defines, uses, placeOr, items, gatherItems, defined, allSpots}
+use Rattle.aiger_form.specs.Aag.{Header, Item, Spot, isText, defines, uses, placeOr, items, gatherItems, defined}
 use Rattle.aiger_form.specs.Windows.{window, standsIn, firstBadIn}
 use Rattle.aiger_form.proofs.Windows.{Rising, stop, step, all-rising}
-use Rattle.aiger_text.specs.Passes.{spotsAt, freshIn, firstAgainIn, firstUnknownIn, breadth, Marks, noted, passOver, definedOnto, linesFrom, Ready, Swept, Set, Used, Cleared, badIn, Windowed}
+use Rattle.aiger_text.specs.Passes.{spotsAt, freshIn, firstAgainIn, firstUnknownIn, breadth, Marks, noted, passOver, definedOnto, linesFrom, Swept, Used, badIn}
+use Rattle.aiger_text.specs.declared.passes.Sweep.{Sweep}
 
 -- ---- the first pass
 
@@ -121,16 +122,16 @@ pub rising : (H : Header) (start : ℕ) (bytes : List ℕ) → Rising start (spo
 unfolding linesFrom
 rising H start bytes = rw (spots-all H (placed start (parts 10 (drop start bytes)))) at (all-rising H start (parts 10 (drop start bytes)))
 
-pub window-is : {H : Header} {start lo : ℕ} {bytes map₀ map : List ℕ} {a b r : ℕ} → Swept H start lo bytes map₀ map a → Used H start lo bytes map b → r ≡ noted false a b → r ≡ badIn H start lo bytes
+pub window-is : {H : Header} {start lo : ℕ} {bytes map₀ map w₀ w : List ℕ} {a : Sweep} {b r : ℕ} → Swept H start lo bytes map₀ map w₀ w a → Used H start lo bytes map b → r ≡ noted false (a .first) b → r ≡ badIn H start lo bytes
 unfolding badIn noted
-window-is {H} {start} {lo} {bytes} {map₀} {map} {a} {b} {r} S U e =
+window-is {H} {start} {lo} {bytes} {map₀} {map} {w₀} {w} {a} {b} {r} S U e =
     let ss = spotsAt H 0 (linesFrom bytes start) in
     let f = window lo (lo + breadth) in
     let N = length bytes in
     let R = rising H start bytes in
-    let p : a ≡ min N (placeOr N (firstAgainIn f [] ss)) = S .first ∙ pass-first f [] N R in
+    let p : a .first ≡ min N (placeOr N (firstAgainIn f [] ss)) = S .first ∙ pass-first f [] N R in
     let u : b ≡ placeOr N (firstUnknownIn f (0 ∷ defined (items ss)) ss) = U .is (definedOnto [] ss) (S .marks) ∙ ap (placeOr N) (unknown-same f _ _ (λ v. mem-all v ss) ss) in
-    let w = bad-parts f (0 ∷ defined (items ss)) [] N R in
+    let v = bad-parts f (0 ∷ defined (items ss)) [] N R in
     omega arith
 
 -- ---- clearing

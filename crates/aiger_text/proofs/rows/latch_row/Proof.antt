@@ -1,7 +1,7 @@
 -- `aiger_text::rows::latch_row` meets its contract. Assumes nothing.
 use mathlib.Core.Path.{_∙_}
 use Rattle.aiger_form.specs.Aag.{lineItem}
-use Rattle.aiger_text.specs.Rows.{latchIn}
+use Rattle.aiger_text.specs.Rows.{rowItem}
 use Rattle.aiger_text.proofs.Laws.Rows.{latch-is}
 use borrow.Author.Needs.{needs}
 use Rattle.aiger_text.proofs.rows.latch_row.Statement.{statement}
@@ -40,21 +40,30 @@ both-requires-2 c κs = search needs
 both-requires-3 : tie.Need-both-requires-3
 both-requires-3 c κs = search needs
 
-array-read-or-bad : tie.Need-array-read-or-bad
-array-read-or-bad c = search needs
+array-read-low : tie.Need-array-read-low
+array-read-low c = search needs
 
-array-read-or-bad-2 : tie.Need-array-read-or-bad-2
-array-read-or-bad-2 c = search needs
+low-requires : tie.Need-low-requires
+low-requires c κs = search needs
 
-array-read-or-bad-3 : tie.Need-array-read-or-bad-3
-array-read-or-bad-3 c = search needs
+array-read-low-2 : tie.Need-array-read-low-2
+array-read-low-2 c = search needs
 
-or-bad-requires : tie.Need-or-bad-requires
-or-bad-requires c κs = search needs
+low-requires-2 : tie.Need-low-requires-2
+low-requires-2 c κs = search needs
+
+array-read-low-3 : tie.Need-array-read-low-3
+array-read-low-3 c = search needs
+
+low-requires-3 : tie.Need-low-requires-3
+low-requires-3 c κs = search needs
+
+row-if-requires : tie.Need-row-if-requires
+row-if-requires c κs = search needs
 
 returns : tie.Need-returns
-unfolding lineItem latchIn
-returns c = c .or-bad .ensures ∙ rw (c .before .both3 .ensures, c .before .before .both2 .ensures, c .before .before .before .is-literal .ensures, c .before .before .before .before .both .ensures, c .before .before .before .before .before .is-variable .ensures, c .before .before .before .before .before .before .is-reset .ensures) (latch-is _ (c .before .before .before .before .before .before .before .before .before .before .pre) (c .before .before .before .before .before .before .before .before .numbers .ensures))
+unfolding lineItem rowItem
+returns c = c .row-if .ensures ∙ rw (c .before .before .before .before .both3 .ensures, c .before .before .before .before .before .both2 .ensures, c .before .before .before .before .before .before .is-literal .ensures, c .before .before .before .before .before .before .before .both .ensures, c .before .before .before .before .before .before .before .before .is-variable .ensures, c .before .before .before .before .before .before .before .before .before .is-reset .ensures) (latch-is _ (c .before .before .before .before .before .before .before .before .before .before .before .before .before .pre) (c .before .before .before .before .before .before .before .before .before .before .before .numbers .ensures) _ _ _ (c .before .before .before .low .ensures) (c .before .before .low2 .ensures) (c .before .low3 .ensures))
 
 pub latch-row-spec : {M : Type 1} → statement M
 latch-row-spec =
@@ -71,8 +80,11 @@ latch-row-spec =
     is-literal-requires
     both-requires-2
     both-requires-3
-    array-read-or-bad
-    array-read-or-bad-2
-    array-read-or-bad-3
-    or-bad-requires
+    array-read-low
+    low-requires
+    array-read-low-2
+    low-requires-2
+    array-read-low-3
+    low-requires-3
+    row-if-requires
     returns)

@@ -1,7 +1,6 @@
 -- `aiger_text::rows::symbol_count` meets its contract. Assumes nothing.
 use Rattle.aiger_form.specs.Aag.{symbolCount}
 use borrow.Author.Tests.{ne-eqb}
-use borrow.Author.Needs.{needs}
 use Rattle.aiger_text.proofs.rows.symbol_count.Statement.{statement}
 use Rattle.aiger_text.proofs.rows.symbol_count.Tie as tie
 
