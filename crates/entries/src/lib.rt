@@ -1,6 +1,7 @@
 // Every entry for other languages: numbers and slices only. One static library holds them all.
 mod answers;
 mod build_entry;
+mod fold_entry;
 mod list_entry;
 mod merge_entry;
 mod read_entry;

@@ -28,5 +28,6 @@ pub record Told (n : ℕ) (gates : List ℕ) (a : Answer) : Type 0 where
   pub number : numberFor a ≡ n
   pub pin : pinFor a ≡ pinShown n gates
 
+-- answer and areas together, as the rules have them
 unfoldable pub outcome : Answer → (result work : List ℕ) → FoldOutcome
 outcome a result work = record { number = numberFor a; pin = pinFor a; result = result; work = work }

@@ -7,6 +7,7 @@ use Rattle.placer.specs.Answers.{areas}
 use Rattle.merge_checks.specs.Values as merge
 use Rattle.entries.specs.Entry.{Entry, entry}
 use Rattle.entries.specs.Merge.{Lent, lent}
+use Rattle.entries.specs.Fold as fold
 use Rattle.entries.specs.Jobs.{Lists, lists}
 
 -- of any entry, its areas as one value: `list_answer` and `write_job` lend one area
@@ -33,6 +34,11 @@ one-lent xs ls st pl ws cs w xs′ ls′ st′ pl′ ws′ cs′ w′ s = (
   ap (λ (x : Lent). x .areas .counts) s,
   ap (λ (x : Lent). x .areas .work) s,
 )
+
+-- the areas of `fold_plan`
+pub one-folded : (r w r′ w′ : List ℕ) → fold.lentTo r w ≡ fold.lentTo r′ w′ → (r ≡ r′) × (w ≡ w′)
+unfolding fold.lentTo
+one-folded r w r′ w′ s = (ap (λ (x : fold.Lent). x .result) s, ap (λ (x : fold.Lent). x .work) s)
 
 -- the areas of `read_job`
 pub one-lists : (g v c g′ v′ c′ : List ℕ) → lists g v c ≡ lists g′ v′ c′ → (g ≡ g′) × (v ≡ v′) × (c ≡ c′)
