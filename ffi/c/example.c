@@ -1,5 +1,5 @@
 /* Two of the scope document's bench examples at height 6. Pins 1 to 4 are leaves, 5 = (2, 4), 6 = (6, 9), 7 = (10, 12), output 14: as a job
- * file, which is read back, built and listed; and built under the rule that writes idle runs too, with too few counts, and under a number
+ * file, which is read back, built, listed and folded; and built under the rule that writes idle runs too, with too few counts, and under a number
  * that names no rule. A merge: the leaf outputs 2 and 4, a partition each, no extra stages. */
 #include "placer.h"
 #include <stdio.h>
@@ -21,7 +21,7 @@ static void *lent(size_t count, size_t size) {
 
 static void *numbers(size_t count) { return lent(count, sizeof(uint32_t)); }
 
-/* The file of the job, and the job of the file, which is built and listed. */
+/* The file of the job, and the job of the file, which is built, listed and folded, with leaf 4 at 0 and the others at 1. */
 static uint32_t job(void) {
     static uint8_t file[PLACER_JOB_BYTES];
     static uint32_t g[PLACER_JOB_GATES], v[PLACER_JOB_GIVEN], r[PLACER_JOB_RECORDS];
@@ -47,7 +47,19 @@ static uint32_t job(void) {
     number = list_answer(height, number, built[PLACER_BUILD_STAGES], built[PLACER_BUILD_STAGE], (uint32_t)built[PLACER_BUILD_PIN], plan, plan_len,
                          words, words_len, counts, rooms, out, out_len, listed, PLACER_LIST_LEN);
     fwrite(out, 1, listed[PLACER_LIST_LENGTH], stdout);
-    free(out), free(work), free(counts), free(words), free(plan);
+    if (number != PLACER_DONE)
+        return number;
+
+    size_t folded[PLACER_FOLD_LEN], bits_len = placer_fold_bits_size(gs), result_len = placer_fold_result_size(plan_len);
+    size_t looks_len = placer_fold_work_size(gs);
+    uint32_t *bits = numbers(bits_len), *result = numbers(result_len), *looks = numbers(looks_len);
+    bits[1] = bits[2] = bits[3] = 1;
+    number = fold_plan(height, plan, plan_len, g, gs, v, vs, bits, bits_len, result, result_len, looks, looks_len, folded,
+                       PLACER_FOLD_LEN);
+    for (size_t p = 0; p < plan_len; p++)
+        if (plan[p] == 7)
+            printf("pin 7 at position %zu folds to %u\n", p, result[p]);
+    free(looks), free(result), free(bits), free(out), free(work), free(counts), free(words), free(plan);
     return number;
 }
 

@@ -1,16 +1,16 @@
 //! Two of the scope document's bench examples at height 6. Pins 1 to 4 are leaves, 5 = (2, 4), 6 = (6, 9), 7 = (10, 12), output 14: as a job
-//! file, which is read back, built and listed; and built under the rule that writes idle runs too, and with too few counts. A merge: the leaf
+//! file, which is read back, built, listed and folded; and built under the rule that writes idle runs too, and with too few counts. A merge: the leaf
 //! outputs 2 and 4, a partition each, no extra stages.
 #[allow(dead_code)] // not all of it is shown
 #[path = "placer.rs"]
 mod placer;
 
-use placer::{build, build_by, list_answer, merge, read_job, write_job, Areas, Groups, Refusal, WordRule, EMPTY as E};
+use placer::{build, build_by, fold, list_answer, merge, read_job, write_job, Areas, Groups, Refusal, WordRule, EMPTY as E};
 
 const GATES: [u32; 16] = [E, E, E, E, E, E, E, E, E, E, 2, 4, 6, 9, 10, 12];
 const RECORDS: [u32; 2] = [1, 14];
 
-/// The file of the job, and the job of the file, which is built and listed.
+/// The file of the job, and the job of the file, which is built, listed and folded, with leaf 4 at 0 and the others at 1.
 fn job() {
     let mut file = [0; placer::JOB_BYTES];
     let wrote = write_job(6, &GATES, &[], &RECORDS, &mut file);
@@ -31,6 +31,15 @@ fn job() {
     let mut out = vec![0; placer::listing_size(height, built.stages, built.words)];
     let listed = list_answer(height, &built, &plan, &words, &counts, &mut out);
     print!("{}", String::from_utf8_lossy(&out[..listed.length]));
+
+    let mut bits = vec![0; placer::fold_bits_size(gates.len())];
+    let mut result = vec![0; plan.len()];
+    let mut looks = vec![0; placer::fold_work_size(gates.len())];
+    bits[1..=3].fill(1);
+    fold(height, &plan, gates, given, &bits, &mut result, &mut looks);
+    for p in (0..plan.len()).filter(|p| plan[*p] == 7) {
+        println!("pin 7 at position {p} folds to {}", result[p]);
+    }
 }
 
 /// The same by a word rule, with so many counts.
