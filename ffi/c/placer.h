@@ -133,15 +133,19 @@ enum placer_build_answer { PLACER_BUILD_NUMBER, PLACER_BUILD_STAGES, PLACER_BUIL
  * answer:  at least PLACER_BUILD_LEN numbers
  *
  * Returns the number. Where `answer` is too short that is 2, and nothing is changed. */
-uint32_t placer_build(uint32_t height, const uint32_t *gates, size_t gates_len, const uint32_t *given, size_t given_len,
-                      const uint32_t *records, size_t records_len, uint32_t *plan, size_t plan_len, uint32_t *words,
-                      size_t words_len, uint32_t *counts, size_t counts_len, uint32_t *work, size_t work_len, size_t *answer,
-                      size_t answer_len);
-
 uint32_t placer_build_by(uint32_t rule, uint32_t height, const uint32_t *gates, size_t gates_len, const uint32_t *given,
                          size_t given_len, const uint32_t *records, size_t records_len, uint32_t *plan, size_t plan_len,
                          uint32_t *words, size_t words_len, uint32_t *counts, size_t counts_len, uint32_t *work, size_t work_len,
                          size_t *answer, size_t answer_len);
+
+/* The same under PLACER_NEEDED_RUNS, which writes no idle word: what to call unless the published Rust's plan is wanted. */
+static inline uint32_t placer_build(uint32_t height, const uint32_t *gates, size_t gates_len, const uint32_t *given, size_t given_len,
+                                    const uint32_t *records, size_t records_len, uint32_t *plan, size_t plan_len, uint32_t *words,
+                                    size_t words_len, uint32_t *counts, size_t counts_len, uint32_t *work, size_t work_len,
+                                    size_t *answer, size_t answer_len) {
+    return placer_build_by(PLACER_NEEDED_RUNS, height, gates, gates_len, given, given_len, records, records_len, plan, plan_len, words,
+                           words_len, counts, counts_len, work, work_len, answer, answer_len);
+}
 
 /* ---- A merge */
 
@@ -169,17 +173,23 @@ enum placer_merge_answer {
  *
  * After 0 the three lists hold the merged partitions in their final order, and 0 for those that are gone; else they are unchanged.
  * Plan, words, counts and work are scratch. Returns the number. Where `answer` is too short that is 2, and nothing is changed. */
-uint32_t merge_partitions(uint32_t height, const uint32_t *gates, size_t gates_len, const uint32_t *given, size_t given_len,
-                          const uint32_t *records, size_t records_len, uint32_t *indices, size_t indices_len, uint32_t *lengths,
-                          size_t lengths_len, uint32_t *stages, size_t stages_len, size_t extra, uint32_t *plan, size_t plan_len,
-                          uint32_t *words, size_t words_len, uint32_t *counts, size_t counts_len, uint32_t *work, size_t work_len,
-                          size_t *answer, size_t answer_len);
-
 uint32_t merge_partitions_by(uint32_t rule, uint32_t height, const uint32_t *gates, size_t gates_len, const uint32_t *given,
                              size_t given_len, const uint32_t *records, size_t records_len, uint32_t *indices, size_t indices_len,
                              uint32_t *lengths, size_t lengths_len, uint32_t *stages, size_t stages_len, size_t extra, uint32_t *plan,
                              size_t plan_len, uint32_t *words, size_t words_len, uint32_t *counts, size_t counts_len, uint32_t *work,
                              size_t work_len, size_t *answer, size_t answer_len);
+
+/* The same under PLACER_NEEDED_RUNS. */
+static inline uint32_t merge_partitions(uint32_t height, const uint32_t *gates, size_t gates_len, const uint32_t *given,
+                                        size_t given_len, const uint32_t *records, size_t records_len, uint32_t *indices,
+                                        size_t indices_len, uint32_t *lengths, size_t lengths_len, uint32_t *stages, size_t stages_len,
+                                        size_t extra, uint32_t *plan, size_t plan_len, uint32_t *words, size_t words_len,
+                                        uint32_t *counts, size_t counts_len, uint32_t *work, size_t work_len, size_t *answer,
+                                        size_t answer_len) {
+    return merge_partitions_by(PLACER_NEEDED_RUNS, height, gates, gates_len, given, given_len, records, records_len, indices,
+                               indices_len, lengths, lengths_len, stages, stages_len, extra, plan, plan_len, words, words_len, counts,
+                               counts_len, work, work_len, answer, answer_len);
+}
 
 /* ---- A fold */
 

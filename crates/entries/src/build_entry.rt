@@ -1,4 +1,4 @@
-// The entries of a build.
+// The entry of a build.
 use crate::answers::tell;
 use columns::wide;
 use placer::build_by;
@@ -7,7 +7,6 @@ use stage_runs::MaybeRule;
 use stage_runs::WordRule;
 use stage_runs::rule_named;
 ghost use mathlib.Core.Path.{_≡_};
-ghost use Rattle.rules.specs.Traversal.{neededRuns};
 ghost use Rattle.stage_runs.specs.Rule.{ruleOf, ruleFor};
 ghost use Rattle.placer.specs.Answers.{areas};
 ghost use Rattle.entries.specs.Entry.{entry};
@@ -48,37 +47,8 @@ fn enter(
     a.number
 }
 
-// As `build`, with the answer in the first five numbers of `answer`. Returns the number. Where `answer` is shorter that is 2, and nothing
-// is changed.
-#[no_mangle]
-pub extern "C" fn placer_build(
-    height: u32,
-    gates: &[u32],
-    given: &[u32],
-    records: &[u32],
-    plan: &mut [u32],
-    words: &mut [u32],
-    counts: &mut [u32],
-    work: &mut [u32],
-    answer: &mut [usize],
-) -> u32
-    ensures { λ r. ⌜ entry r (areas (now (plan .exit)) (now (words .exit)) (now (counts .exit)) (now (work .exit))) (now (answer .exit)) ≡ built neededRuns height (now (gates .entry)) (now (given .entry)) (now (records .entry)) (areas (now (plan .entry)) (now (words .entry)) (now (counts .entry)) (now (work .entry))) (now (answer .entry)) ⌝ }
-{
-    enter(
-        WordRule::NeededRuns,
-        height,
-        gates,
-        given,
-        records,
-        plan,
-        words,
-        counts,
-        work,
-        answer,
-    )
-}
-
-// The same by the number of a word rule, 0 or 1; another number gives 2 before anything else.
+// As `build_by`, by the number of a word rule, 0 or 1, with the answer in the first five numbers of `answer`. Returns the number. Where `answer` is
+// shorter that is 2, and nothing is changed; another word rule gives 2 before anything else. C's header has the same without a rule.
 #[no_mangle]
 pub extern "C" fn placer_build_by(
     rule: u32,
