@@ -17,12 +17,12 @@ one-outcome {A} o n n′ a a′ xs xs′ d e =
     let s : entry n a xs ≡ entry n′ a′ xs′ = d ∙ sym e in
     (ap (λ (x : Entry A). x .number) s, ap (λ (x : Entry A). x .areas) s, ap (λ (x : Entry A). x .answer) s)
 
--- the areas of `placer_build` and `placer_build_by`, one by one
+-- the areas of `placer_build_by`, one by one
 pub one-areas : (pl ws cs w pl′ ws′ cs′ w′ : List ℕ) → areas pl ws cs w ≡ areas pl′ ws′ cs′ w′ → (pl ≡ pl′) × (ws ≡ ws′) × (cs ≡ cs′) × (w ≡ w′)
 unfolding areas
 one-areas pl ws cs w pl′ ws′ cs′ w′ s = (ap (λ (x : Areas). x .plan) s, ap (λ (x : Areas). x .words) s, ap (λ (x : Areas). x .counts) s, ap (λ (x : Areas). x .work) s)
 
--- what is lent to `merge_partitions` and `merge_partitions_by`
+-- what is lent to `merge_partitions_by`
 pub one-lent : (xs ls st pl ws cs w xs′ ls′ st′ pl′ ws′ cs′ w′ : List ℕ) → lent xs ls st pl ws cs w ≡ lent xs′ ls′ st′ pl′ ws′ cs′ w′ → (xs ≡ xs′) × (ls ≡ ls′) × (st ≡ st′) × (pl ≡ pl′) × (ws ≡ ws′) × (cs ≡ cs′) × (w ≡ w′)
 unfolding lent merge.groupList merge.areas
 one-lent xs ls st pl ws cs w xs′ ls′ st′ pl′ ws′ cs′ w′ s = (
