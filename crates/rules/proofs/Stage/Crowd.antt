@@ -264,25 +264,25 @@ module _ (X : Setting) (r : ℕ → ℕ) (f : ℕ) (S : Sound X r f) (half : 2 ^
   long = rw (written-even .keeps .len) l
 
   -- what rule 9 leaves at level 1
-  pub rest-crowd : (pl2 : List ℕ) → rest X pl ≡ plan pl2 → (count filled (row (X .K) 1 pl2) ≡ crowd X pl) × (length (row (X .K) 1 pl2) ≡ rowAt (X .K) 1)
+  rest-crowd : (pl2 : List ℕ) → rest X pl ≡ plan pl2 → (count filled (row (X .K) 1 pl2) ≡ crowd X pl) × (length (row (X .K) 1 pl2) ≡ rowAt (X .K) 1)
   unfolding rest
   rest-crowd pl2 e =
       let v = written-even in
       let h = rest-counts X half (written X pl .real) (written X pl .plan) pl2 (needed-once X pl) long (v .keeps .real) (need-filled X r f S half small pl) e in
       (h .0 ∙ v .sum, row-size X half pl2 (omega (arith, h .1, long)))
 
-  pub full-crowd : rest X pl ≡ full → rowAt (X .K) 1 < crowd X pl
+  full-crowd : rest X pl ≡ full → rowAt (X .K) 1 < crowd X pl
   unfolding rest
   full-crowd e =
       let v = written-even in
       omega (arith, rest-over X half (written X pl .real) (written X pl .plan) (needed-once X pl) long (v .keeps .real) (need-filled X r f S half small pl) e, v .sum)
 
   -- level 1 is full exactly where the count reaches its size
-  pub full-counts : LevelOneFull X pl → rowAt (X .K) 1 ≤ crowd X pl
+  full-counts : LevelOneFull X pl → rowAt (X .K) 1 ≤ crowd X pl
   full-counts (no-cell e) = omega (arith, full-crowd e)
   full-counts (none-empty pl2 e n) = let h = rest-crowd pl2 e in omega (arith, no-empty 0 (row (X .K) 1 pl2) n, h .0, h .1)
 
-  pub counts-full : rowAt (X .K) 1 ≤ crowd X pl → LevelOneFull X pl
+  counts-full : rowAt (X .K) 1 ≤ crowd X pl → LevelOneFull X pl
   counts-full c = rest-cases (rest X pl) no-cell
       (λ pl2 e. cell (firstEmpty 0 (row (X .K) 1 pl2)) (none-empty pl2 e) (λ i n. absurd (let h = rest-crowd pl2 e in omega (arith, some-empty 0 i (row (X .K) 1 pl2) n, h .0, h .1))))
 
