@@ -4,5 +4,4 @@ pub mod Fills
 pub mod Empties
 pub mod Places
 pub mod Purges
-pub mod Tidies
 pub mod Standing

@@ -3,8 +3,8 @@ use mathlib.Core.Path.{_≡_, _∙_}
 use mathlib.Core.List.{List}
 use Prim.Native.Nat.{ℕ, _+_, _-_, _*_, _<_, _≤_}
 use native.Mathlib.Omega.{arith}
-use lib.ListN.{length, getD, set, take, length-drop, length-append, List·getD-append}
-use lib.Seq.{drop-set-add, getD-take, getD-drop, drop-at, length-take-le}
+use lib.ListN.{length, getD, take, length-drop, length-append, List·getD-append}
+use lib.Seq.{getD-take, getD-drop, drop-at, length-take-le}
 use Rattle.columns.specs.Area.{tail, putTail}
 
 -- number j of the tail stands j behind the columns
@@ -16,11 +16,6 @@ getD-tail m w j = getD-drop (16 * m) w j 0
 pub length-tail : (m : ℕ) (w : List ℕ) → length (tail m w) ≡ length w - 16 * m
 unfolding tail
 length-tail m w = length-drop (16 * m) w
-
--- a store to the tail, and to a column
-pub tail-set : (m : ℕ) (w : List ℕ) (j v : ℕ) → tail m (set w (16 * m + j) v) ≡ set (tail m w) j v
-unfolding tail
-tail-set m w j v = drop-set-add (16 * m) w j v
 
 module _ (m : ℕ) (w t : List ℕ) (room : 16 * m ≤ length w) where
   -- the new tail is the tail

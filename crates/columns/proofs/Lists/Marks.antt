@@ -48,10 +48,6 @@ module _ {g m : ℕ} {xs w : List ℕ} (M : Marks g m xs w) where
   pub marks-frame : {fs : List ℕ} {w′ : List ℕ} → Frame fs m w w′ → among fs g ≡ false → g < 16 → Marks g m xs w′
   marks-frame fr e h = record { mark = λ q k. fr .cell g e h q k ∙ M .mark q k }
 
--- a column filled with 0
-pub zeros : (g m : ℕ) (w : List ℕ) → g * m + m ≤ length w → (p : ℕ) → p < m → getD (put g m w (replicate m 0)) (g * m + p) 0 ≡ 0
-zeros g m w hw p h = at-put g m w (replicate m 0) p (omega (arith, length-replicate {A = ℕ} m 0)) (omega arith) ∙ getD-replicate m p 0 0 h
-
 -- a column of zeros marks nothing
 pub marks-none : {g m : ℕ} {w : List ℕ} → ((p : ℕ) → p < m → getD w (g * m + p) 0 ≡ 0) → Marks g m [] w
 unfolding mem

@@ -61,10 +61,6 @@ module _ {f g m n : ℕ} {xs w : List ℕ} (P : Placed f g m n xs w) where
 
   -- a pin without a place goes behind the list
   module _ (p : ℕ) (pin : p < m) where
-    -- a pin without a place finds room behind the list
-    pub placed-room : getD w (g * m + p) 0 ≡ 0 → n < m
-    placed-room e = holds-room (P .held) (P .once) p pin (placed-out p e)
-
     -- a pin that is there already changes nothing
     pub placed-old : In p xs → Placed f g m n (insert p xs) w
     placed-old e = rw (insert-old p xs e) (record { held = P .held; once = P .once; place = P .place; none = P .none })

@@ -11,9 +11,8 @@ use borrow.Author.Tests.{ltb-true}
 use Rattle.rules.specs.Lists.{mem, count, nothing, found, In, Sub}
 use Rattle.rules.specs.Cells.{empty, filled, row, rowAt}
 use Rattle.rules.specs.Traversal.{Setting, levelAt, greatest}
-use Rattle.rules.specs.Placing.{treeOf, neededOf, roomy, cellAt, pinAt, placed, fill, filledPlan}
-use Rattle.rules.specs.Ending.{inNeed, untouched}
-use Rattle.rules.specs.Inside.Lean.{blank, candidates, firstFree, wanted, roomFor, recount, Filling, sweep, lean, leanPlan, lowWaiting, highWaiting}
+use Rattle.rules.specs.Placing.{treeOf, roomy, cellAt, pinAt, placed, fill, filledPlan}
+use Rattle.rules.specs.Inside.Lean.{blank, candidates, firstFree, wanted, roomFor, recount, Filling, sweep, lean, leanPlan}
 use Rattle.rules.proofs.Lists.Members.{split, in-here, in-append, in-append-right, in-cons, in-nil}
 use Rattle.rules.specs.Inside.Walks.{Sound, Marked, Work}
 use Rattle.rules.proofs.Stage.Puts.{cell}
@@ -22,7 +21,7 @@ use Rattle.rules.specs.Inside.Plans.{Placeable, Fair, Going}
 use Rattle.rules.proofs.Tree.Invariant.{row-empty}
 use Rattle.rules.proofs.Stage.Fuel.{vacant, count-length, row-length, one-filled, turns, down, fill-more, fill-any}
 use Rattle.rules.proofs.Tree.Fair.{fair-first, fair-down, fair-kept, grows, joins, listed-filled}
-use Rattle.rules.proofs.Needed.Lacks.{fewer, same-needed, same-inNeed, same-untouched, true-ltb}
+use Rattle.rules.proofs.Needed.Lacks.{fewer, same-needed, true-ltb}
 use Rattle.rules.proofs.Lean.Pick.{candidate, pin-first, free-past}
 
 -- a plan that has room for more needed pins has room for fewer
@@ -221,15 +220,6 @@ module _ (W : Work) where
       e ∙ sym (any-fuel (2 ^ (X .K) + X .K) top (blank X) (omega arith) (F .len)
       (omega (arith, count-length vacant (row (X .K) top (blank X)), row-length X r f S small top (blank X) (omega arith) (F .len), rows (X .K) top (omega arith), mul-le-mul-left (rowAt (X .K) top) (one-le-pow top 2 (omega arith)))))
 
-  -- what holds of a plan while it is filled holds of the lean plan
-  pub lean-fair : Fair X 0 (leanPlan X)
-  unfolding leanPlan
-  lean-fair = lean-ends top (omega arith) (length (wanted X (blank X))) (blank X) (fair-first W top) (omega arith) .1
-
-  -- and of the plan of rules 2 to 7
-  pub filled-fair : Fair X 0 (filledPlan X)
-  filled-fair = rw lean-plan at lean-fair
-
   -- level 1 is still fair, for rules 8 and 9
   lean-one : (h : ℕ) → 1 ≤ h → h ≤ X .K → (b : ℕ) (pl : List ℕ) → Fair X h pl → length (wanted X pl) ≤ b → Fair X 1 (lean X h b pl)
   unfolding lean
@@ -248,15 +238,3 @@ module _ (W : Work) where
   pub lean-tidy : Fair X 1 (leanPlan X)
   unfolding leanPlan
   lean-tidy = lean-any top (omega arith) (length (wanted X (blank X))) (omega arith)
-
-  -- what rules 8 to 11 read of it
-  pub lean-needed : neededOf X (filledPlan X) ≡ wanted X (leanPlan X)
-  lean-needed = rw lean-plan (same-needed W filled-fair)
-
-  -- the needed waiting pins are the unplaced ones of level 0 and 1
-  pub lean-inNeed : inNeed X (filledPlan X) ≡ lowWaiting X (leanPlan X)
-  lean-inNeed = rw lean-plan (same-inNeed W filled-fair)
-
-  -- the untouched ones are those of level 2 and above
-  pub lean-untouched : untouched X (filledPlan X) ≡ highWaiting X (leanPlan X)
-  lean-untouched = rw lean-plan (same-untouched W filled-fair)
