@@ -25,7 +25,7 @@ spotsOf r bytes = spotsAt (headOf (r .head)) 0 (linesFrom bytes (r .start))
 pub data Judged (bytes : List ℕ) (f : File?) (r : Verdict) : Type 0 where
   bad : r .number ≡ 12 → f ≡ malformed (r .at) → Judged bytes f r
   reset : r .number ≡ 13 → f ≡ badReset (r .at) → Judged bytes f r
-  good : r .number ≡ 0 → Behind (r .head .variables) (r .start) bytes → f ≡ file (r .head .variables) (items (spotsOf r bytes)) → Judged bytes f r
+  good : r .number ≡ 0 → Behind (r .head .variables) (r .start) bytes → isCut (headOf (r .head)) bytes (linesFrom bytes (r .start)) ≡ false → f ≡ file (r .head .variables) (items (spotsOf r bytes)) → Judged bytes f r
 
 -- a number and its place
 pub record Refused (number at : ℕ) (r : Verdict) : Type 0 where

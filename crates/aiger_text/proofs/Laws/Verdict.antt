@@ -108,7 +108,8 @@ module _ {H : Header} {start : ℕ} {bytes map map′ w w′ : List ℕ} {s : Sw
         let l : spotsOf r bytes ≡ ss = rw (eh, es) refl in
         let v : r .head .variables ≡ H .variables = ap (λ (h : Header). h .variables) eh in
         let e : bodyFile H start bytes ≡ file (r .head .variables) (items (spotsOf r bytes)) = rw (l, v) (body-fine ∙ (rw g)) in
-        record { len = F .len; size = F .size; is = good z B e; stored = λ y h. rw l (F .stored (omega arith)) }
+        let c : isCut (headOf (r .head)) bytes (linesFrom bytes (r .start)) ≡ false = rw (eh, es) (sym (F .cut) ∙ t) in
+        record { len = F .len; size = F .size; is = good z B c e; stored = λ y h. rw l (F .stored (omega arith)) }
 
 -- ---- the number of outputs is capped, and nothing changes
 

@@ -1,0 +1,4 @@
+pub mod Gates
+pub mod Counts
+pub mod Ends
+pub mod Answers
