@@ -20,6 +20,7 @@ use Rattle.aiger_form.specs.Meaning.{Among, here, there}
 
 -- ---- the literals of a line are in range
 
+-- the literals of a line are at most 2M + 1, and what it defines is a variable
 unfoldable pub fits : ℕ → Item → Bool
 fits m badText = true
 fits m skipped = true
@@ -28,6 +29,7 @@ fits m (latchLine l n r) = isVariable m l && isLiteral m n
 fits m (outputLine l) = isLiteral m l
 fits m (gateLine l a b) = isVariable m l && isLiteral m a && isLiteral m b
 
+-- so for all lines
 abbrev pub AllFit : ℕ → List Item → Type 0
 AllFit m xs = (x : Item) → Among x xs → fits m x ≡ true
 
@@ -92,6 +94,7 @@ among-append (s ∷ ss) ts (there i) = elim (among-append ss ts i) [ inl j ↦ i
 both-fit : (m : ℕ) (ss ts : List Spot) → AllFit m (items ss) → AllFit m (items ts) → AllFit m (items (ss ++ ts))
 both-fit m ss ts a b x i = elim (among-append ss ts i) [ inl j ↦ a x j | inr j ↦ b x j ]
 
+-- so are the lines of any file
 pub all-fit : (h : Header) (ls : List Line) → AllFit (h .variables) (items (allSpots h ls))
 unfolding allSpots latchSpots outputSpots gateSpots
 all-fit h ls =
@@ -103,6 +106,7 @@ all-fit h ls =
 
 -- ---- the file's lines
 
+-- lines that stand, with their places
 pub record Stand (m : ℕ) (xs : List Item) : Type 0 where
   pub spots : List Spot
   pub these : items spots ≡ xs
@@ -137,12 +141,14 @@ unfolding linesOf
 lines-stand bytes [] e = no-file refl e
 lines-stand bytes (l ∷ ls) e = body-stands bytes ls (headerOf (l .text)) e
 
+-- an accepted file's lines stand
 pub file-stands : (bytes : List ℕ) {m : ℕ} {xs : List Item} → fileOf bytes ≡ file m xs → Stand m xs
 unfolding fileOf
 file-stands bytes e = lines-stand bytes (placed 0 (parts lineFeed bytes)) e
 
 -- ---- a line that stands
 
+-- what a line that stands shows
 pub record Stood (all seen : List ℕ) (x : Item) : Type 0 where
   pub new : every (λ v. not (mem v seen)) (defines x) ≡ true
   pub known : every (λ v. mem v all) (uses x) ≡ true
@@ -164,6 +170,7 @@ unfolding items
 uses-known all seen (s ∷ ss) e here = bad-cons all seen s ss e .0 .known
 uses-known all seen (s ∷ ss) e (there i) = uses-known all (defines (s .item) ++ seen) ss (bad-cons all seen s ss e .1) i
 
+-- what is in neither of two lists
 pub out-of : (p : ℕ) (xs ys : List ℕ) → Out p (xs ++ ys) → Out p xs × Out p ys
 out-of p xs ys o = (split (mem p xs) (λ t. true-false (in-append-left p xs ys t) o) (λ t. t), split (mem p ys) (λ t. true-false (in-append-right p xs ys t) o) (λ t. t))
 
@@ -176,11 +183,13 @@ found-driver all seen (s ∷ ss) e (there a) p i =
     let o = out-of p (defines (s .item)) seen (h .0) in
     (o .1, rw (o .0, driven) (h .1))
 
+-- what an accepted file's lines show
 pub record Lines (m : ℕ) (xs : List Item) : Type 0 where
   pub one : {x : Item} → Among x xs → (p : ℕ) → In p (defines x) → driven xs p ≡ driver x
   pub known : {x : Item} → Among x xs → (p : ℕ) → In p (uses x) → In p (0 ∷ defined xs)
   pub fit : (x : Item) → Among x xs → fits m x ≡ true
 
+-- lines that stand show it
 pub stand-lines : {m : ℕ} {xs : List Item} → Stand m xs → Lines m xs
 stand-lines {m} {xs} S = record {
   one = λ {x} a p i. rw (S .these) at (found-driver (0 ∷ defined xs) [] (S .spots) (S .good) (rw (S .these) a) p i .1);
@@ -188,6 +197,7 @@ stand-lines {m} {xs} S = record {
   fit = S .fit;
 }
 
+-- a variable that is defined has a line
 pub defined-line : (xs : List Item) (p : ℕ) → In p (defined xs) → (x : Item) × Among x xs × In p (defines x)
 unfolding defined gatherItems
 defined-line [] p i = in-nil p i
@@ -198,6 +208,7 @@ defined-line (x ∷ xs) p i = elim (in-append p (defines x) (defined xs) i) [
 
 -- ---- the graph has each pin's driver
 
+-- a node whose first number is no empty mark
 pub Kept : Node → Type 0
 Kept x = (a b : ℕ) → x ≡ gate a b → a < empty
 
@@ -206,6 +217,7 @@ unfolding graphOf nodeNumbers nodeOf Kept empty
 kept leaf rest k = refl
 kept (gate a b) rest k = let h = k a b refl in let e : eqb a empty ≡ false = ne-eqb a empty (λ z. omega arith) in rw (e, nodeOf)
 
+-- the graph of a list of nodes is those nodes
 pub graph-is : (f : ℕ → Node) → ((p : ℕ) → Kept (f p)) → (n i : ℕ) → graphOf (gather (λ p. nodeNumbers (f p)) (upTo n i)) ≡ map f (upTo n i)
 unfolding gather upTo graphOf
 graph-is f k zero i = refl
@@ -216,16 +228,19 @@ unfolding nodeNumbers
 two leaf = refl
 two (gate a b) = refl
 
+-- a node has two numbers
 pub gather-two : (f : ℕ → Node) (n i : ℕ) → length (gather (λ p. nodeNumbers (f p)) (upTo n i)) ≡ 2 * n
 unfolding gather upTo
 gather-two f zero i = refl
 gather-two f (suc n) i = length-append (nodeNumbers (f i)) _ ∙ omega (arith, two (f i), gather-two f n (suc i))
 
+-- a node for each pin
 pub map-length : (f : ℕ → Node) (n i : ℕ) → length (map f (upTo n i)) ≡ n
 unfolding upTo
 map-length f zero i = refl
 map-length f (suc n) i = ap suc (map-length f n (suc i))
 
+-- each pin's node
 pub map-at : (f : ℕ → Node) (n i k : ℕ) → k < n → getD (map f (upTo n i)) k leaf ≡ f (i + k)
 unfolding upTo
 map-at f zero i k h = absurd (omega arith)
@@ -320,15 +335,19 @@ module _ (m : ℕ) (xs : List Item) (L : Lines m xs) (small : m ≤ 65535) where
   unfolding Kept isLiteral empty
   driven-kept p a b e = omega (arith, leb-true a (2 * m + 1) (driven-fits m xs (L .fit) p a b e))
 
+  -- the graph has each pin's driver
   pub graph-map : graphOf (gatesOf m xs) ≡ map (driven xs) (upTo (suc m) 0)
   unfolding gatesOf
   graph-map = graph-is (driven xs) driven-kept (suc m) 0
 
+  -- it has M + 1 pins
   pub graph-length : length (graphOf (gatesOf m xs)) ≡ suc m
   graph-length = rw graph-map (map-length (driven xs) (suc m) 0)
 
+  -- a pin's node is its driver
   pub node-at : (p : ℕ) → p ≤ m → getD (graphOf (gatesOf m xs)) p leaf ≡ driven xs p
   node-at p h = rw graph-map (map-at (driven xs) (suc m) 0 p (omega arith) ∙ ap (driven xs) (omega arith))
 
+  -- a pin above M is a leaf
   pub node-past : (p : ℕ) → m < p → getD (graphOf (gatesOf m xs)) p leaf ≡ leaf
   node-past p h = List·getD-eq-default (graphOf (gatesOf m xs)) leaf (omega (arith, graph-length))

@@ -132,6 +132,7 @@ table =
     ∷ record { gives = sent (exporter [] toggle (replicate 21 7)) ++ sent (exporter (1 ∷ []) toggle (7 ∷ [])); says = (2 ∷ 0 ∷ []) ∷ replicate 21 7 ∷ (14 ∷ 0 ∷ []) ∷ (7 ∷ []) ∷ [] }
     ∷ []
 
+-- the table is right
 pub examples : T (right table)
 unfolding everything allOfAag
 examples = tt

@@ -24,6 +24,7 @@ groupNumbers (flipFlop e d) = 2 ∷ e ∷ d ∷ []
 groupNumbers (memory ls) = 3 ∷ ls
 groupNumbers (stagedPin p) = 4 ∷ p ∷ []
 
+-- the numbers of records
 pub groupsNumbers : List Group → List ℕ
 groupsNumbers [] = []
 groupsNumbers (x ∷ xs) = groupNumbers x ++ groupsNumbers xs
@@ -65,44 +66,53 @@ from-numbers (suc f) (k ∷ xs) gs e = split (wholeAt (k ∷ xs))
     rw (N .all, from-numbers f (drop (sizeOf k) xs) (N .rest) (N .read)) (record-numbers k xs t))
     (λ t. not-groups (rw (t, readFrom) at e))
 
+-- records that are read are their numbers
 pub read-numbers : (xs : List ℕ) (gs : List Group) → read xs ≡ groups gs → groupsNumbers gs ≡ xs
 unfolding read
 read-numbers xs gs e = from-numbers (length xs) xs gs e
 
 -- ---- flip-flops, and outputs behind them
 
+-- a flip-flop's numbers
 abbrev pub dataNumbers : ℕ → List ℕ
 dataNumbers d = 2 ∷ 1 ∷ d ∷ []
 
+-- an output's
 abbrev pub outNumbers : ℕ → List ℕ
 outNumbers l = 1 ∷ l ∷ []
 
+-- flip-flops and the outputs behind them, as numbers
 pub record EndsAre (gs : List Group) (ds os : List ℕ) : Type 0 where
   pub flat : groupsNumbers gs ≡ gather dataNumbers ds ++ gather outNumbers os
   pub inside : (n : ℕ) → ((q : ℕ) → Ends q gs → q < n) → (l : ℕ) → In l ds → pinOf l < n
   pub outside : (n : ℕ) → ((q : ℕ) → Ends q gs → q < n) → (l : ℕ) → In l os → pinOf l < n
 
+-- records that are not so have none
 pub no-ends : {P : Type 0} {ds os : List ℕ} → noEnds ≡ ends ds os → P
 no-ends e = absurd (let z : _≡_ {A = ℕ} 0 1 = cc in omega arith)
 
+-- an output in front
 pub record OutputEnds (l : ℕ) (r : Ends?) (ds os : List ℕ) : Type 0 where
   pub rest : List ℕ
   pub is : r ≡ ends [] rest
   pub none : ds ≡ []
   pub all : os ≡ l ∷ rest
 
+-- it has no flip-flop behind it
 pub with-output : (l : ℕ) (r : Ends?) {ds os : List ℕ} → withOutput l r ≡ ends ds os → OutputEnds l r ds os
 unfolding withOutput
 with-output l noEnds e = no-ends e
 with-output l (ends [] ys) e = record { rest = ys; is = refl; none = cc; all = cc }
 with-output l (ends (x ∷ xs) ys) e = let z : eqb (suc (length xs)) 0 ≡ false = ne-eqb (suc (length xs)) 0 (λ q. omega arith) in no-ends (rw (z, withOutput) at e)
 
+-- a flip-flop in front
 pub record DataEnds (n d : ℕ) (r : Ends?) (ds os : List ℕ) : Type 0 where
   pub rest : List ℕ
   pub is : r ≡ ends rest os
   pub one : n ≡ 1
   pub all : ds ≡ d ∷ rest
 
+-- its enable literal is 1
 pub with-data : (n d : ℕ) (r : Ends?) {ds os : List ℕ} → withData n d r ≡ ends ds os → DataEnds n d r ds os
 unfolding withData
 with-data n d noEnds e = no-ends e
@@ -110,6 +120,7 @@ with-data n d (ends xs ys) {ds} {os} e = split (eqb n 1)
     (λ t. let q : ends (d ∷ xs) ys ≡ ends ds os = rw (t, withData) at e in let z : ys ≡ os = cc in record { rest = xs; is = rw z refl; one = eqb-true n 1 t; all = cc })
     (λ t. no-ends (rw (t, withData) at e))
 
+-- what is found of records is what they say
 pub ends-are : (gs : List Group) {ds os : List ℕ} → endsOf gs ≡ ends ds os → EndsAre gs ds os
 unfolding endsOf groupsNumbers groupNumbers gather endpointsOf
 ends-are [] {ds} {os} e =

@@ -23,6 +23,7 @@ unfolding placed past
 placed-append at [] ys = refl
 placed-append at (x ∷ xs) ys = ap (λ (r : List Line). record { at = at; text = x } ∷ r) (placed-append (at + suc (length x)) xs ys)
 
+-- a place for each line
 pub placed-length : (at : ℕ) (xs : List (List ℕ)) → length (placed at xs) ≡ length xs
 unfolding placed
 placed-length at [] = refl
@@ -70,19 +71,23 @@ module _ (h : Header) where
 
 -- ---- the lines of each section
 
+-- the lines of inputs
 unfoldable pub inputItems : List ℕ → List Item
 inputItems [] = []
 inputItems (p ∷ ps) = inputLine (literalOf p 0) ∷ inputItems ps
 
+-- of latches
 unfoldable pub latchItems : List ℕ → List ℕ → List Item
 latchItems [] ds = []
 latchItems (p ∷ ps) [] = []
 latchItems (p ∷ ps) (d ∷ ds) = latchLine (literalOf p 0) d 0 ∷ latchItems ps ds
 
+-- of outputs
 unfoldable pub outputItems : List ℕ → List Item
 outputItems [] = []
 outputItems (l ∷ ls) = outputLine l ∷ outputItems ls
 
+-- of gates
 unfoldable pub gateItems : ℕ → List Node → List Item
 gateItems p [] = []
 gateItems p (leaf ∷ g) = gateItems (suc p) g
@@ -100,6 +105,7 @@ row-item : (f : List ℕ → Item) (n : ℕ) (ns : List ℕ) → lineItem f (num
 unfolding lineItem numbersItem
 row-item f n ns = rw (line-numbers n ns)
 
+-- written lines of inputs are read so
 pub input-lines : (m : ℕ) (ps : List ℕ) → ((p : ℕ) → In p ps → (0 < p) × (p ≤ m)) → map (lineItem (inputItem m)) (map numbersLine (map inputRow ps)) ≡ inputItems ps
 unfolding inputItems inputRow
 input-lines m [] h = refl
@@ -110,6 +116,7 @@ input-lines m (p ∷ ps) h =
     one : 0 < p → p ≤ m → inputItem m (literalOf p 0 ∷ []) ≡ inputLine (literalOf p 0)
     one a b = unfold inputItem orBad in (rw (is-variable m p a b))
 
+-- of latches
 pub latch-lines : (m : ℕ) (ps ds : List ℕ) → ((p : ℕ) → In p ps → (0 < p) × (p ≤ m)) → ((d : ℕ) → In d ds → pinOf d ≤ m) → map (lineItem (latchItem m)) (map numbersLine (latchRows ps ds)) ≡ latchItems ps ds
 unfolding latchItems latchRows
 latch-lines m [] ds h k = refl
@@ -121,6 +128,7 @@ latch-lines m (p ∷ ps) (d ∷ ds) h k =
     one : 0 < p → p ≤ m → pinOf d ≤ m → latchItem m (literalOf p 0 ∷ d ∷ []) ≡ latchLine (literalOf p 0) d 0
     one a b c = unfold latchItem resetRight orBad in (rw (is-variable m p a b, is-literal m d c))
 
+-- of outputs
 pub output-lines : (m : ℕ) (ls : List ℕ) → ((l : ℕ) → In l ls → pinOf l ≤ m) → map (lineItem (outputItem m)) (map numbersLine (map outputRow ls)) ≡ outputItems ls
 unfolding outputItems outputRow
 output-lines m [] h = refl
@@ -137,6 +145,7 @@ pub record GatesFit (m p : ℕ) (g : List Node) : Type 0 where
 next-fit : {m p : ℕ} {x : Node} {g : List Node} → GatesFit m p (x ∷ g) → GatesFit m (suc p) g
 next-fit G = record { at = λ k a b e. let w = G .at (suc k) a b e in (omega arith, omega (arith, w .1), w .2, w .3) }
 
+-- of gates
 pub gate-lines : (m p : ℕ) (g : List Node) → GatesFit m p g → map (lineItem (gateItem m)) (map numbersLine (gateRows p g)) ≡ gateItems p g
 unfolding gateItems gateRows
 gate-lines m p [] G = refl

@@ -13,6 +13,7 @@ use Rattle.aiger_form.specs.Text.{space, lineFeed, grow, parts, ended, w
 
 -- ---- parts
 
+-- a part that e ends
 pub parts-one : (e : ℕ) (xs rest : List ℕ) → Out e xs → parts e (xs ++ (e ∷ rest)) ≡ xs ∷ parts e rest
 unfolding parts grow
 parts-one e [] rest o = rw (eqb-same e, parts)
@@ -28,10 +29,12 @@ parts-none e (x ∷ xs) o =
     let n = out-head e x xs o in
     rw (ne-eqb x e (λ d. n (sym d)), parts, parts-none e xs (out-tail e x xs o))
 
+-- lines without a line feed
 pub data Single : List (List ℕ) → Type 0 where
   none : Single []
   more : {l : List ℕ} {ls : List (List ℕ)} → Out lineFeed l → Single ls → Single (l ∷ ls)
 
+-- the lines of a file of lines
 pub parts-lines : {ls : List (List ℕ)} → Single ls → parts lineFeed (unlines ls) ≡ ls
 unfolding unlines parts
 parts-lines none = refl
@@ -44,6 +47,7 @@ ended-after [] (y ∷ ys) e = e
 ended-after (x ∷ []) ys e = ended-after [] ys e
 ended-after (x ∷ z ∷ xs) ys e = ended-after (z ∷ xs) ys e
 
+-- it ends in a line feed
 pub ended-lines : (ls : List (List ℕ)) → ended (unlines ls) ≡ true
 unfolding unlines ended
 ended-lines [] = refl
@@ -136,22 +140,27 @@ spaced-words w (n ∷ ns) o =
     rw (append-assoc w (space ∷ (decimal n ++ spaced ns)) (space ∷ []))
     (parts-one space w ((decimal n ++ spaced ns) ++ (space ∷ [])) o ∙ ap (λ (r : List (List ℕ)). w ∷ r) (spaced-words (decimal n) ns (out-decimal space n space-digit)))
 
+-- the words of a line of numbers
 pub words-spaced : (w ns : List ℕ) → Out space w → words (w ++ spaced ns) ≡ w ∷ map decimal ns
 unfolding words
 words-spaced w ns o = spaced-words w ns o
 
+-- decimal numbers are read back
 pub numbers-read : (ns : List ℕ) → numbersOf (map decimal ns) ≡ numbers ns
 numbers-read ns = numbers-decimal ns
 
+-- so is a line of them
 pub line-numbers : (n : ℕ) (ns : List ℕ) → numbersOf (words (numbersLine (n ∷ ns))) ≡ numbers (n ∷ ns)
 unfolding numbersLine
 line-numbers n ns = rw (words-spaced (decimal n) ns (out-decimal space n space-digit)) (numbers-decimal (n ∷ ns))
 
+-- numbers hold no line feed
 pub out-spaced : (ns : List ℕ) → Out lineFeed (spaced ns)
 unfolding spaced text mem
 out-spaced [] = refl
 out-spaced (n ∷ ns) = out-append lineFeed (decimal n) (spaced ns) (out-decimal lineFeed n feed-digit) (out-spaced ns)
 
+-- nor does their line
 pub out-line : (ns : List ℕ) → Out lineFeed (numbersLine ns)
 unfolding numbersLine mem
 out-line [] = refl

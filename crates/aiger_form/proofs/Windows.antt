@@ -18,10 +18,12 @@ use Rattle.aiger_form.specs.Meaning.{Among, here, there}
 
 -- ---- places rise
 
+-- lines whose places rise
 pub data RisingLines : ℕ → List Line → Type 0 where
   end : {k : ℕ} → RisingLines k []
   line : {k : ℕ} {l : Line} {ls : List Line} → k ≤ l .at → RisingLines (suc (l .at)) ls → RisingLines k (l ∷ ls)
 
+-- so with what they say
 pub data Rising : ℕ → List Spot → Type 0 where
   stop : {k : ℕ} → Rising k []
   step : {k : ℕ} {s : Spot} {ss : List Spot} → k ≤ s .at → Rising (suc (s .at)) ss → Rising k (s ∷ ss)
@@ -48,6 +50,7 @@ both-rising f F P zero {k} {ls} r = P k ls r
 both-rising f F P (suc n) {k} end = P k [] end
 both-rising f F P (suc n) (line h r) = step h (both-rising f F P n r)
 
+-- a file's places rise
 pub all-rising : (h : Header) (at : ℕ) (ls : List (List ℕ)) → Rising at (allSpots h (placed at ls))
 unfolding allSpots latchSpots outputSpots gateSpots
 all-rising h at ls =
@@ -105,6 +108,7 @@ module _ (f g h : ℕ → Bool) (e : (v : ℕ) → h v ≡ f v || g v) where
   second-wins a nothing h = refl
   second-wins a (found b) h = rw (lt-leb b a (h b refl), earlier)
 
+  -- the first bad line of two windows
   pub bad-or : (all seen : List ℕ) {k : ℕ} {ss : List Spot} → Rising k ss → firstBadIn h all seen ss ≡ earlier (firstBadIn f all seen ss) (firstBadIn g all seen ss)
   unfolding firstBadIn earlier
   bad-or all seen stop = refl
@@ -128,6 +132,7 @@ under-window lo hi h v = split (ltb v lo)
     (λ t. rw (t, lt-ltb v hi (omega (arith, ltb-true v lo t))))
     (λ t. rw (t, le-leb lo v (ltb-false v lo t)))
 
+-- one window more
 pub window-step : (lo hi : ℕ) → lo ≤ hi → (all : List ℕ) {k : ℕ} {ss : List Spot} → Rising k ss → firstBadIn (under hi) all [] ss ≡ earlier (firstBadIn (under lo) all [] ss) (firstBadIn (window lo hi) all [] ss)
 window-step lo hi h all r = bad-or (under lo) (window lo hi) (under hi) (under-window lo hi h) all [] r
 

@@ -75,12 +75,15 @@ none-left h i (l ∷ ls) e = split (stopsAt h i (l .text))
 
 -- the lines before the gates
 module _ (i I L O : ℕ) where
+  -- an input
   pub ends-input : i < I → true ≡ ltb i (I + L + O)
   ends-input h = sym (lt-ltb i (I + L + O) (omega arith))
 
+  -- a latch
   pub ends-latch : I ≤ i → i - I < L → true ≡ ltb i (I + L + O)
   ends-latch h k = sym (lt-ltb i (I + L + O) (omega arith))
 
+  -- an output, and nothing behind
   pub ends-output : I ≤ i → L ≤ i - I → ltb (i - I - L) O ≡ ltb i (I + L + O)
   ends-output h k = split (ltb (i - I - L) O)
       (λ t. rw t (sym (lt-ltb i (I + L + O) (omega (arith, ltb-true (i - I - L) O t)))))
@@ -144,6 +147,7 @@ module _ {H : Header} {start : ℕ} {bytes records₀ records latches₀ latches
     pub record-room : r + length (recordOf x) ≤ cap
     record-room = omega (arith, S .records-fit, records-long)
 
+    -- and for its leaf
     pub latch-room : l + length (latchOf x) ≤ cap
     latch-room = omega (arith, S .latches-fit, latches-long)
 
@@ -182,22 +186,27 @@ latch-one at e h = rw e at h
 pub put-two : (l : List ℕ) {l₁ l₂ : List ℕ} (at a b : ℕ) → l₁ ≡ set l at a → l₂ ≡ set l₁ (at + 1) b → l₂ ≡ sets l at (a ∷ b ∷ [])
 put-two l {l₁} {l₂} at a b p q = let z : at + 1 ≡ suc at = omega arith in q ∙ ap (λ (k : ℕ). set l₁ k b) z ∙ ap (λ (m : List ℕ). set m (suc at) b) p
 
+-- three
 pub put-three : (l : List ℕ) {l₁ l₂ l₃ : List ℕ} (at a b c : ℕ) → l₁ ≡ set l at a → l₂ ≡ set l₁ (at + 1) b → l₃ ≡ set l₂ (at + 2) c → l₃ ≡ sets l at (a ∷ b ∷ c ∷ [])
 put-three l {l₁} {l₂} {l₃} at a b c p q s = let z : at + 2 ≡ suc (suc at) = omega arith in s ∙ ap (λ (k : ℕ). set l₂ k c) z ∙ ap (λ (m : List ℕ). set m (suc (suc at)) c) (put-two l at a b p q)
 
 -- ---- a copy
 
+-- i numbers are copied
 pub record Copying (from to₀ to : List ℕ) (n i : ℕ) : Type 0 where
   pub is : to ≡ paste to₀ 0 from i
   pub upto : i ≤ n
 
+-- none
 pub copying-start : (from to : List ℕ) (n : ℕ) → Copying from to to n 0
 copying-start from to n = record { is = paste-zero to 0 from; upto = omega arith }
 
 module _ {from to₀ to : List ℕ} {n i : ℕ} (C : Copying from to₀ to n i) (a : n ≤ length from) (b : n ≤ length to₀) where
+  -- a copy keeps the length
   pub copying-length : length to ≡ length to₀
   copying-length = ap length (C .is) ∙ length-paste to₀ 0 from i (omega (arith, C .upto)) (omega (arith, C .upto))
 
+  -- one more
   pub copying-more : i < n → Copying from to₀ (set to i (getD from i 0)) n (i + 1)
   copying-more h =
       let y : 0 + i ≡ i = omega arith in
@@ -207,16 +216,20 @@ module _ {from to₀ to : List ℕ} {n i : ℕ} (C : Copying from to₀ to n i) 
         upto = omega arith;
       }
 
+  -- all
   pub copying-end : n ≤ i → to ≡ paste to₀ 0 from n
   copying-end h = let z : i ≡ n = omega (arith, C .upto) in C .is ∙ ap (paste to₀ 0 from) z
 
 -- ---- room
 
+-- too few numbers for the gates
 pub room-gates : (a g e r c l : ℕ) → g < a → false ≡ leb a g && leb e r && leb c l
 room-gates a g e r c l h = rw (lt-leb a g h)
 
+-- for the records
 pub room-records : (a g e r c l : ℕ) → a ≤ g → r < e → false ≡ leb a g && leb e r && leb c l
 room-records a g e r c l h k = rw (le-leb a g h, lt-leb e r k)
 
+-- or only for the latches
 pub room-latches : (a g e r c l : ℕ) → a ≤ g → e ≤ r → leb c l ≡ leb a g && leb e r && leb c l
 room-latches a g e r c l h k = rw (le-leb a g h, le-leb e r k)

@@ -17,18 +17,22 @@ use Rattle.aiger_text.specs.Cursor.{until, cap, capped, cappedFound, num
 
 -- ---- until
 
+-- another byte
 pub until-more : (e : ℕ) (xs : List ℕ) (i : ℕ) → i < length xs → (getD xs i 0 ≡ e → ⊥) → i + until e (drop i xs) ≡ (i + 1) + until e (drop (i + 1) xs)
 unfolding until
 until-more e xs i h n = rw (add-one i, drop-cons xs i 0 h, ne-eqb (getD xs i 0) e n, until) (omega arith)
 
+-- the byte itself
 pub until-here : (e : ℕ) (xs : List ℕ) (i : ℕ) → i < length xs → getD xs i 0 ≡ e → i ≡ i + until e (drop i xs)
 unfolding until
 until-here e xs i h n = rw (drop-cons xs i 0 h, eq-eqb (getD xs i 0) e n, until) (omega arith)
 
+-- no byte
 pub until-end : (e : ℕ) (xs : List ℕ) (i : ℕ) → length xs ≤ i → i ≡ i + until e (drop i xs)
 unfolding until
 until-end e xs i h = rw (drop-of-length-le xs h) (omega arith)
 
+-- it lies in the list
 pub until-length : (e : ℕ) (xs : List ℕ) → until e xs ≤ length xs
 unfolding until
 until-length e [] = omega arith
@@ -42,6 +46,7 @@ parts-until e (x ∷ xs) h = split (eqb x e)
     (λ t. rw (t, until, parts))
     (λ t. let k : until e xs < length xs = let q : suc (until e xs) < suc (length xs) = rw (t, until) at h in omega arith in rw (t, until, parts, parts-until e xs k, grow))
 
+-- no part ends
 pub parts-rest : (e : ℕ) (xs : List ℕ) → length xs ≤ until e xs → parts e xs ≡ []
 unfolding until parts grow
 parts-rest e [] h = refl
@@ -81,43 +86,52 @@ more-capped n (c ∷ cs) = split (isDigit c)
     step : (k d : ℕ) → capped (10 * capped k + d) ≡ capped (10 * k + d)
     step k d = omega arith
 
+-- one digit more
 pub digits-more : (xs : List ℕ) (i v r c : ℕ) → i < length xs → c ≡ getD xs i 0 → 48 ≤ c → c ≤ 57 → r ≡ capped (10 * v + (c - 48)) → cappedFound (moreDigits r (drop (i + 1) xs)) ≡ cappedFound (moreDigits v (drop i xs))
 unfolding moreDigits
 digits-more xs i v r c h d a b e = rw (add-one i, drop-cons xs i 0 h, ← d, is-digit c a b, moreDigits, e, ← d) (more-capped (10 * v + (c - 48)) (drop (suc i) xs))
 
+-- no digit
 pub digits-none : (xs : List ℕ) (i v c : ℕ) → i < length xs → c ≡ getD xs i 0 → (c < 48) ⊎ (57 < c) → cappedFound (moreDigits v (drop i xs)) ≡ nothing
 unfolding moreDigits cappedFound
 digits-none xs i v c h d a = rw (drop-cons xs i 0 h, ← d, no-digit c a, moreDigits)
 
+-- no byte is left
 pub digits-end : (xs : List ℕ) (i v : ℕ) → length xs ≤ i → cappedFound (moreDigits v (drop i xs)) ≡ found (capped v)
 unfolding moreDigits cappedFound
 digits-end xs i v h = rw (drop-of-length-le xs h)
 
+-- no byte is no number
 pub number-none : (xs : List ℕ) → length xs ≡ 0 → number xs ≡ nothing
 unfolding number
 number-none [] h = refl
 number-none (x ∷ xs) h = absurd (omega arith)
 
+-- a leading 0 is none
 pub number-zero : (xs : List ℕ) → 1 < length xs → getD xs 0 0 ≡ 48 → number xs ≡ nothing
 unfolding number
 number-zero [] h d = absurd (omega arith)
 number-zero (x ∷ []) h d = absurd (omega arith)
 number-zero (x ∷ y ∷ xs) h d = rw (eq-eqb x 48 d, number)
 
+-- other digits are
 pub number-digits : (xs : List ℕ) → (length xs ≡ 0 → ⊥) → (1 < length xs → getD xs 0 0 ≡ 48 → ⊥) → number xs ≡ moreDigits 0 xs
 unfolding number
 number-digits [] h n = absurd (h refl)
 number-digits (x ∷ []) h n = refl
 number-digits (x ∷ y ∷ xs) h n = rw (ne-eqb x 48 (λ d. n (omega arith) d), number)
 
+-- a number
 pub numeral-end : (xs : List ℕ) (i v : ℕ) → length xs ≤ i → v ≤ cap → cappedFound (moreDigits v (drop i xs)) ≡ cappedFound (moreDigits 0 xs) → numeral true v ≡ cappedFound (moreDigits 0 xs)
 unfolding numeral
 numeral-end xs i v h k e = let q : capped v ≡ v = omega arith in ap found (sym q) ∙ sym (digits-end xs i v h) ∙ e
 
+-- a byte that is no digit
 pub numeral-none : (xs : List ℕ) (i v c : ℕ) → i < length xs → c ≡ getD xs i 0 → (c < 48) ⊎ (57 < c) → cappedFound (moreDigits v (drop i xs)) ≡ cappedFound (moreDigits 0 xs) → numeral false 0 ≡ cappedFound (moreDigits 0 xs)
 unfolding numeral
 numeral-none xs i v c h d a e = sym (digits-none xs i v c h d a) ∙ e
 
+-- none
 pub numeral-nothing : (xs : List ℕ) → number xs ≡ nothing → numeral false 0 ≡ cappedFound (number xs)
 unfolding numeral cappedFound
 numeral-nothing xs e = rw e
@@ -128,6 +142,7 @@ numeral-nothing xs e = rw e
 abbrev pub wordsFrom : List ℕ → ℕ → List (List ℕ)
 wordsFrom line at = parts space (drop at (line ++ (space ∷ [])))
 
+-- one word more
 pub words-step : (line : List ℕ) (at e : ℕ) → at ≤ length line → e ≡ at + until 32 (drop at line) → (e ≤ length line) × (wordsFrom line at ≡ take (e - at) (drop at line) ∷ wordsFrom line (e + 1))
 words-step line at e h d =
     let u = until-length 32 (drop at line) in
@@ -141,10 +156,12 @@ words-step line at e h d =
     let t : take (until 32 (drop at line)) (drop at line ++ (32 ∷ [])) ≡ take (until 32 (drop at line)) (drop at line) = take-append-le (until 32 (drop at line)) (drop at line) (32 ∷ []) u in
     (omega arith, rw (p, s, w, t, q, ← p, b) refl)
 
+-- no word is left
 pub words-end : (line : List ℕ) (e : ℕ) → e ≡ length line → wordsFrom line (e + 1) ≡ []
 unfolding parts
 words-end line e d = rw (drop-of-length-le (line ++ (space ∷ [])) {i = e + 1} (rw (length-append line (space ∷ [])) (omega arith)))
 
+-- numbers before others
 unfoldable pub beforeAll : List ℕ → Numbers? → Numbers?
 beforeAll [] r = r
 beforeAll (n ∷ ns) r = before n (beforeAll ns r)
@@ -174,6 +191,7 @@ pub record Going (line : List ℕ) (at count : ℕ) (values : List ℕ) : Type 0
   pub inside : at ≤ length line
   pub few : count ≤ at
 
+-- before the first word
 pub going-start : (line : List ℕ) → Going line 0 0 (0 ∷ 0 ∷ 0 ∷ 0 ∷ 0 ∷ [])
 unfolding words beforeAll
 going-start line = record { seen = []; is = refl; counted = refl; five = refl; held = λ i h. zeros i; inside = omega arith; few = omega arith }
@@ -202,9 +220,11 @@ module _ {line : List ℕ} {at count : ℕ} {values : List ℕ} (G : Going line 
   unfolding numbersOf
   next-word r h = rw (words-step line at e (G .inside) d .1, numbersOf, h)
 
+  -- a word lies in its line
   pub word-inside : (at ≤ e) × (e ≤ length line)
   word-inside = (omega arith, words-step line at e (G .inside) d .0)
 
+  -- a word that is no number
   pub going-none : (v : ℕ) (is : Bool) → is ≡ false → numeral is v ≡ cappedFound (number (take (e - at) (drop at line))) → {k : ℕ} {vs : List ℕ} → Got (numbersOf (words line)) false k vs
   going-none v is f h {k} {vs} =
       let z : number (take (e - at) (drop at line)) ≡ nothing = capped-none _ v (rw f at h) in
@@ -238,6 +258,7 @@ module _ {line : List ℕ} {at count : ℕ} {values : List ℕ} (G : Going line 
       at-one n v q i k (inr (inr l)) =
           getD-set-other values count i v 0 (λ z. omega arith) ∙ G .held i k ∙ ap capped (List·getD-eq-default (G .seen) 0 (omega (arith, G .counted)) ∙ sym (List·getD-eq-default (G .seen ++ (n ∷ [])) 0 (rw (length-append (G .seen) (n ∷ [])) (omega (arith, G .counted)))))
 
+  -- a word more
   pub going-more : (v : ℕ) (is : Bool) → is ≡ true → numeral is v ≡ cappedFound (number (take (e - at) (drop at line))) → (e ≡ length line → ⊥) → {vs : List ℕ} → vs ≡ set values count v → Going line (e + 1) (count + 1) vs
   going-more v is f h n {vs} q =
       let M = going-on v is f h in
@@ -245,6 +266,7 @@ module _ {line : List ℕ} {at count : ℕ} {values : List ℕ} (G : Going line 
       let l : e < length line = split (ltb e (length line)) (λ t. ltb-true e (length line) t) (λ t. absurd (n (omega (arith, ltb-false e (length line) t)))) in
       record { seen = M .more; is = M .is; counted = M .counted; five = rw q (M .five); held = λ j k. rw q (M .held j k); inside = omega arith; few = omega (arith, G .few) }
 
+  -- the last word
   pub going-done : (v : ℕ) (is : Bool) → is ≡ true → numeral is v ≡ cappedFound (number (take (e - at) (drop at line))) → e ≡ length line → {vs : List ℕ} → vs ≡ set values count v → Got (numbersOf (words line)) true (count + 1) vs
   unfolding numbersOf
   going-done v is f h n {vs} q =

@@ -19,18 +19,22 @@ use Rattle.aiger_text.specs.Lines.{cutFrom, Short}
 -- ---- the lines that the header counts
 
 module _ (h : Header) (i : ℕ) where
+  -- an input is counted
   pub body-input : i < h .inputs → true ≡ ltb i (bodySize h)
   unfolding bodySize
   body-input a = sym (lt-ltb i (bodySize h) (omega arith))
 
+  -- a latch is
   pub body-latch : h .inputs ≤ i → i - h .inputs < h .latches → true ≡ ltb i (bodySize h)
   unfolding bodySize
   body-latch a b = sym (lt-ltb i (bodySize h) (omega arith))
 
+  -- an output is
   pub body-output : h .inputs ≤ i → h .latches ≤ i - h .inputs → i - h .inputs - h .latches < h .outputs → true ≡ ltb i (bodySize h)
   unfolding bodySize
   body-output a b c = sym (lt-ltb i (bodySize h) (omega arith))
 
+  -- a gate is, and nothing behind
   pub body-gate : h .inputs ≤ i → h .latches ≤ i - h .inputs → h .outputs ≤ i - h .inputs - h .latches → ltb (i - h .inputs - h .latches - h .outputs) (h .gates) ≡ ltb i (bodySize h)
   unfolding bodySize
   body-gate a b c = split (ltb (i - h .inputs - h .latches - h .outputs) (h .gates))
@@ -81,10 +85,12 @@ cut-from h e i (l ∷ ls) =
     (λ u. rw (c ∙ u, cutFrom, z, y, n, u, hasComment) (sym (and-none (not e))))
     (λ u. rw (c ∙ u, cutFrom, z, y, u, hasComment) (rw x at I)))
 
+-- a file is cut
 pub cut-is : (h : Header) (bytes : List ℕ) (ls : List Line) → cutFrom h 0 (ended bytes) ls ≡ isCut h bytes ls
 unfolding isCut
 cut-is h bytes ls = let a : 0 + length ls ≡ length ls = omega arith in let b : bodySize h - 0 ≡ bodySize h = omega arith in rw (a, b) at (cut-from h (ended bytes) 0 ls)
 
+-- a file that ends in a line feed
 pub ended-last : (xs : List ℕ) → 0 < length xs → ended xs ≡ eqb (getD xs (length xs - 1) 0) 10
 unfolding ended
 ended-last [] h = absurd (omega arith)
@@ -95,5 +101,6 @@ ended-last (c ∷ d ∷ ds) h = let z : length (c ∷ d ∷ ds) - 1 ≡ suc (len
 pub short-body : (H : Header) (i : ℕ) (bytes : List ℕ) (t : Bool) → t ≡ ltb i (bodySize H) → t ≡ true → Short H i bytes true
 short-body H i bytes t q p = let u : ltb i (bodySize H) ≡ true = sym q ∙ p in record { is = rw u }
 
+-- or one that ends in the middle of a line
 pub short-end : (H : Header) (i : ℕ) (bytes : List ℕ) → 0 < length bytes → (t : Bool) → t ≡ ltb i (bodySize H) → t ≡ false → Short H i bytes (not (eqb (getD bytes (length bytes - 1) 0) 10))
 short-end H i bytes h t q p = let u : ltb i (bodySize H) ≡ false = sym q ∙ p in record { is = rw (u, ended-last bytes h) }

@@ -31,6 +31,7 @@ no-aag (a ∷ b ∷ []) n = split (eqb a 97) (λ t. split (eqb b 97) (λ u. rw (
 no-aag (a ∷ b ∷ c ∷ []) n = absurd (n refl)
 no-aag (a ∷ b ∷ c ∷ d ∷ ds) n = split (eqb a 97) (λ t. split (eqb b 97) (λ u. split (eqb c 103) (λ v. rw (t, sameList, u, v)) (λ v. rw (t, sameList, u, v))) (λ u. rw (t, sameList, u))) (λ t. rw (t, sameList))
 
+-- a first word of another length
 pub magic-long : (line : List ℕ) (e : ℕ) → e ≡ 0 + until 32 (drop 0 line) → (e ≡ 3 → ⊥) → Magic line false
 unfolding headerOf afterMagic
 magic-long line e d n = record {
@@ -52,6 +53,7 @@ module _ (line : List ℕ) (e : ℕ) (d : e ≡ 0 + until 32 (drop 0 line)) (thr
   two-words : words line ≡ take 3 line ∷ wordsFrom line 4
   two-words = let w = first-word line e d .1 in let z : e + 1 ≡ 4 = omega arith in rw (three) at w
 
+  -- no second word
   pub magic-end : length line ≤ 3 → Magic line false
   unfolding headerOf afterMagic headerFrom numbersOf
   magic-end h = record {
@@ -63,6 +65,7 @@ module _ (line : List ℕ) (e : ℕ) (d : e ≡ 0 + until 32 (drop 0 line)) (thr
         split (sameList (take 3 line) (text "aag")) (λ t. rw (two-words, t, afterMagic, w)) (λ t. rw (two-words, t, afterMagic));
   }
 
+  -- the first word is `aag`
   pub magic-is : 3 < length line → (r : Bool) → r ≡ eqb (getD line 0 0) 97 && (eqb (getD line 1 0) 97 && eqb (getD line 2 0) 103) → Magic line r
   unfolding headerOf afterMagic words
   magic-is h r f =
@@ -75,23 +78,29 @@ module _ (line : List ℕ) (e : ℕ) (d : e ≡ 0 + until 32 (drop 0 line)) (thr
       }
 
   module _ (h : 3 < length line) where
+    -- its first letter is another
     pub magic-no-first : (getD line 0 0 ≡ 97 → ⊥) → Magic line false
     magic-no-first n = magic-is h false (rw (ne-eqb (getD line 0 0) 97 n))
 
+    -- its second is
     pub magic-no-second : getD line 0 0 ≡ 97 → (getD line 1 0 ≡ 97 → ⊥) → Magic line false
     magic-no-second a n = magic-is h false (rw (eq-eqb (getD line 0 0) 97 a, ne-eqb (getD line 1 0) 97 n))
 
+    -- or its third
     pub magic-last : getD line 0 0 ≡ 97 → getD line 1 0 ≡ 97 → Magic line (eqb (getD line 2 0) 103)
     magic-last a b = magic-is h (eqb (getD line 2 0) 103) (rw (eq-eqb (getD line 0 0) 97 a, eq-eqb (getD line 1 0) 97 b))
 
 -- ---- its numbers
 
+-- too many variables
 pub fits-large : (m i l a : ℕ) → mostVariables < m → false ≡ leb (i + l + a) m && leb m mostVariables
 fits-large m i l a h = rw (lt-leb m mostVariables h) (sym (and-none (leb (i + l + a) m)))
 
+-- more lines than variables
 pub fits-not : (m i l a : ℕ) → m < i + l + a → false ≡ leb (i + l + a) m && leb m mostVariables
 fits-not m i l a h = rw (lt-leb (i + l + a) m h)
 
+-- the last test
 pub fits-last : (m i l a : ℕ) → m ≤ mostVariables → i ≤ m → l ≤ m - i → leb a (m - i - l) ≡ leb (i + l + a) m && leb m mostVariables
 fits-last m i l a h p q = rw (le-leb m mostVariables h) (split (leb a (m - i - l))
     (λ t. rw (t, le-leb (i + l + a) m (omega (arith, leb-true a (m - i - l) t))))
@@ -109,6 +118,7 @@ test-same M I L A = split (leb M mostVariables)
     let h = leb-false M mostVariables t in
     rw (t, lt-leb (capped M) mostVariables (omega arith)) (and-none (leb (capped I + capped L + capped A) (capped M)) ∙ sym (and-none (leb (I + L + A) M))))
 
+-- no header
 pub header-none : {line : List ℕ} {r : Bool} {m i l o a : ℕ} → Magic line r → r ≡ false → HeadIs (headerOf line) false m i l o a
 header-none M q = rw (M .not q) no
 
@@ -139,6 +149,7 @@ head-from ns count values r c v e =
     rw (q ∙ t, t, headerFrom) (yes (record { variables = M; inputs = I; latches = L; outputs = getD ns 3 0; gates = A }) e0 e1 e2 v3 e4 few))
     (λ t. rw (q ∙ t, t, headerFrom) no)
 
+-- the header, from its numbers
 pub header-is : {line : List ℕ} {s is : Bool} {count : ℕ} {values : List ℕ} (r : Bool) → Magic line s → s ≡ true → Got (numbersOf (words (take (length line - 4) (drop 4 line)))) is count values → r ≡ is && (eqb count 5 && (leb (getD values 1 0 + getD values 2 0 + getD values 4 0) (getD values 0 0) && leb (getD values 0 0) mostVariables)) → HeadIs (headerOf line) r (getD values 0 0) (getD values 1 0) (getD values 2 0) (getD values 3 0) (getD values 4 0)
 header-is {line} {s} {is} {count} {values} r M q G e =
     let z : take (length line - 4) (drop 4 line) ≡ drop 4 line = take-all (length line - 4) (drop 4 line) (omega (arith, length-drop 4 line)) in

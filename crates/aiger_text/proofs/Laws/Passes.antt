@@ -46,6 +46,7 @@ inside lo v seen r e d = rw (e, keep) (d ∙ one (not (mem v seen)))
     one true = refl
     one false = refl
 
+-- a variable outside the window
 pub marked-outside : (lo v : ℕ) (map : List ℕ) → (v < lo) ⊎ (lo + breadth ≤ v) → Marked lo v map map true
 unfolding window
 marked-outside lo v map o = record {
@@ -62,6 +63,7 @@ marked-outside lo v map o = record {
     out (inl l) = rw (lt-leb lo v l)
     out (inr l) = rw (le-ltb v (lo + breadth) l, le-leb lo v (omega arith))
 
+-- one inside
 pub marked-inside : (lo v k : ℕ) (map map′ : List ℕ) (r : Bool) → lo ≤ v → k ≡ v - lo → k < length map → length map ≡ breadth → map′ ≡ set map k 1 → r ≡ eqb (getD map k 0) 0 → Marked lo v map map′ r
 unfolding window
 marked-inside lo v k map map′ r a e b w m d = record {
@@ -77,6 +79,7 @@ marked-inside lo v k map map′ r a e b w m d = record {
 
 -- ---- a line
 
+-- a line that defines none
 pub passed-none : (lo : ℕ) (x : Item) (map : List ℕ) (r : Bool) → defines x ≡ [] → r ≡ isText x → Passed lo x map map r
 unfolding freshIn every keep
 passed-none lo x map r d t = record { len = refl; marks = λ seen M. rw d M; new = λ seen M. rw d (t ∙ sym (and-right′ (isText x))) }
@@ -85,6 +88,7 @@ passed-none lo x map r d t = record { len = refl; marks = λ seen M. rw d M; new
     and-right′ true = refl
     and-right′ false = refl
 
+-- one that defines one
 pub passed-one : (lo v : ℕ) (x : Item) (map map′ : List ℕ) (r : Bool) → defines x ≡ v ∷ [] → isText x ≡ true → Marked lo v map map′ r → Passed lo x map map′ r
 unfolding freshIn
 passed-one lo v x map map′ r d t M = record { len = M .len; marks = λ seen N. rw d (M .marks seen N); new = λ seen N. rw (t, d) (M .new seen N) }
@@ -110,6 +114,7 @@ module _ (h : Header) where
       (λ t. let u : stopsAt h i (l .text) ≡ true = sym (w .1) ∙ t in rw (t, u, symbolLines, spotsAt))
       (λ t. let u : stopsAt h i (l .text) ≡ false = sym (w .1) ∙ t in rw (t, u, symbolLines, spotsAt, ← (w .0), symbol-head h (l .text)) (ap (λ (r : List Spot). record { at = l .at; item = symbolItem h (l .text) } ∷ r) (symbols (suc i) (omega arith) ls)))
 
+  -- all lines, one after the other
   pub spots-all : (ls : List Line) → allSpots h ls ≡ spotsAt h 0 ls
   unfolding allSpots latchSpots outputSpots gateSpots bodySize
   spots-all ls =
@@ -126,22 +131,27 @@ module _ (h : Header) where
 
 -- ---- line by line
 
+-- the earlier place
 pub noted-first : (first at : ℕ) → first < at → first ≡ noted false first at
 unfolding noted
 noted-first first at h = omega arith
 
+-- the later line is the first
 pub noted-at : (first at : ℕ) → at ≤ first → at ≡ noted false first at
 unfolding noted
 noted-at first at h = omega arith
 
 module _ (bytes : List ℕ) (at e : ℕ) (h : at ≤ length bytes) (d : e ≡ at + until 10 (drop at bytes)) where
+  -- a line lies in the file
   pub line-inside : (at ≤ e) × (e ≤ length bytes)
   line-inside = let u = until-length 10 (drop at bytes) in let l = length-drop at bytes in (omega arith, omega arith)
 
+  -- no line is left
   pub line-last : length bytes ≤ e → linesFrom bytes at ≡ []
   unfolding linesFrom placed
   line-last k = let l = length-drop at bytes in rw (parts-rest 10 (drop at bytes) (omega arith))
 
+  -- one line
   pub line-next : e < length bytes → linesFrom bytes at ≡ record { at = at; text = take (e - at) (drop at bytes) } ∷ linesFrom bytes (e + 1)
   unfolding linesFrom placed
   line-next k =
@@ -246,14 +256,17 @@ known-out : (lo v : ℕ) (map : List ℕ) → (v < lo) ⊎ (lo + breadth ≤ v) 
 known-out lo v map (inl l) = rw (lt-leb lo v l)
 known-out lo v map (inr l) = rw (le-ltb v (lo + breadth) l, le-leb lo v (omega arith))
 
+-- a variable outside the window
 pub known-outside : (lo v : ℕ) (map : List ℕ) → (v < lo) ⊎ (lo + breadth ≤ v) → Known lo (v ∷ []) map true
 unfolding every keep window
 known-outside lo v map o = record { is = λ seen M. rw (known-out lo v map o, keep) }
 
+-- the constant
 pub known-zero : (lo v : ℕ) (map : List ℕ) → v ≡ 0 → Known lo (v ∷ []) map true
 unfolding every keep mem
 known-zero lo v map e = record { is = λ seen M. rw e (split (window lo (lo + breadth) 0) (λ t. rw (t, keep)) (λ t. rw (t, keep))) }
 
+-- one inside
 pub known-inside : (lo v k : ℕ) (map : List ℕ) (r : Bool) → (v ≡ 0 → ⊥) → lo ≤ v → k ≡ v - lo → k < length map → length map ≡ breadth → r ≡ not (eqb (getD map k 0) 0) → Known lo (v ∷ []) map r
 unfolding every keep window
 known-inside lo v k map r z a e b w d = record {
@@ -271,6 +284,7 @@ known-inside lo v k map r z a e b w d = record {
     one true = refl
     one false = refl
 
+-- no variable
 pub known-none : (lo : ℕ) (vs map : List ℕ) → vs ≡ [] → Known lo vs map true
 unfolding every keep
 known-none lo vs map e = record { is = λ seen M. rw e }

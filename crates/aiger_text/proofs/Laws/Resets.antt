@@ -66,6 +66,7 @@ no-reset h i (l ∷ ls) e = split (stopsAt h i (l .text))
 pub front-input : (i I L : ℕ) → i < I → true ≡ ltb i (I + L)
 front-input i I L h = sym (lt-ltb i (I + L) (omega arith))
 
+-- and no others
 pub front-latch : (i I L : ℕ) → I ≤ i → ltb (i - I) L ≡ ltb i (I + L)
 front-latch i I L h = split (ltb (i - I) L)
     (λ t. rw t (sym (lt-ltb i (I + L) (omega (arith, ltb-true (i - I) L t)))))

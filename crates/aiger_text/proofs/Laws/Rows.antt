@@ -131,11 +131,6 @@ module _ (m : ℕ) (h : m ≤ 2147483647) where
       let s = and-parts (eqb (length ns) 3) (isVariable m a) (u .0) in
       rw (variable-exact a (s .1), literal-exact b (u .1), literal-exact c (w .1)))))
 
-  -- the item of three numbers
-  pub gate-three : (a b c : ℕ) → orBad (isVariable m a && isLiteral m b && isLiteral m c) (gateLine a b c) ≡ gateItem m (a ∷ b ∷ c ∷ [])
-  unfolding gateItem
-  gate-three a b c = refl
-
   -- where a latch's variable is in range, so is its reset
   variable-below : (l : ℕ) → isVariable m l ≡ true → l < 4294967296
   unfolding isVariable isLiteral
@@ -197,11 +192,13 @@ module _ (m : ℕ) (h : m ≤ 2147483647) where
 
 -- ---- symbols
 
+-- an empty line is no symbol
 pub symbol-none : (h : Header) (line : List ℕ) → length line ≡ 0 → symbolItem h line ≡ badText
 unfolding symbolItem
 symbol-none h [] e = refl
 symbol-none h (c ∷ cs) e = absurd (omega arith)
 
+-- nor is one without a space
 pub symbol-cut : (h : Header) (line : List ℕ) (e : ℕ) → e ≡ 1 + until 32 (drop 1 line) → length line ≤ e → symbolItem h line ≡ badText
 unfolding symbolItem symbolWord
 symbol-cut h [] e d k = refl
@@ -217,6 +214,7 @@ symbol-number n v false (found k) h e = absurd (let z : _≡_ {A = ℕ} 0 1 = cc
 symbol-number n v true nothing h e = absurd (let z : _≡_ {A = ℕ} 0 1 = cc in omega arith)
 symbol-number n v true (found k) h e = let q : v ≡ capped k = cc in rw (q, below-capped k n h)
 
+-- a symbol
 pub symbol-is : (h : Header) (line : List ℕ) (e v n : ℕ) (is : Bool) → n ≡ symbolCount h (getD line 0 0) → n ≤ cap → (length line ≡ 0 → ⊥) → e ≡ 1 + until 32 (drop 1 line) → e < length line → numeral is v ≡ cappedFound (number (take (e - 1) (drop 1 line))) → orBad (is && ltb v n) skipped ≡ symbolItem h line
 unfolding symbolItem symbolWord
 symbol-is h [] e v n is c k z d l r = absurd (z refl)
@@ -224,12 +222,14 @@ symbol-is h (x ∷ xs) e v n is c k z d l r =
     let q : e - 1 ≡ until 32 xs = omega arith in
     rw (parts-until 32 xs (omega arith), ← c, ← q) (symbol-number n v is _ k r)
 
+-- a longer line is no comment
 pub comment-long : (line : List ℕ) → (length line ≡ 1 → ⊥) → false ≡ sameList line (text "c")
 unfolding sameList text
 comment-long [] n = refl
 comment-long (x ∷ []) n = absurd (n refl)
 comment-long (x ∷ y ∷ xs) n = split (eqb x 99) (λ t. rw (t, sameList)) (λ t. rw (t, sameList))
 
+-- a comment
 pub comment-is : (line : List ℕ) → length line ≡ 1 → eqb (getD line 0 0) 99 ≡ sameList line (text "c")
 unfolding sameList text
 comment-is [] n = absurd (omega arith)
@@ -238,20 +238,24 @@ comment-is (x ∷ y ∷ xs) n = absurd (omega arith)
 
 -- ---- the line at a place
 
+-- a symbol needs the counts alone
 pub symbol-head : (h : Header) (line : List ℕ) → symbolItem (head 0 (h .inputs) (h .latches) (h .outputs) 0) line ≡ symbolItem h line
 unfolding symbolItem symbolCount
 symbol-head h [] = refl
 symbol-head h (x ∷ xs) = refl
 
 module _ (h : Header) (i : ℕ) (line : List ℕ) where
+  -- the line of an input
   pub at-input : i < h .inputs → (lineItem (inputItem (h .variables)) line ≡ itemAt h i line) × (false ≡ stopsAt h i line)
   unfolding itemAt stopsAt
   at-input a = let t = lt-ltb i (h .inputs) a in (rw (t, itemAt), rw (t, stopsAt))
 
+  -- of a latch
   pub at-latch : h .inputs ≤ i → i - h .inputs < h .latches → (lineItem (latchItem (h .variables)) line ≡ itemAt h i line) × (false ≡ stopsAt h i line)
   unfolding itemAt stopsAt
   at-latch a b = let t = le-ltb i (h .inputs) a in let u = lt-ltb (i - h .inputs) (h .latches) b in (rw (t, itemAt, u), rw (t, stopsAt, u))
 
+  -- of an output
   pub at-output : h .inputs ≤ i → h .latches ≤ i - h .inputs → i - h .inputs - h .latches < h .outputs → (lineItem (outputItem (h .variables)) line ≡ itemAt h i line) × (false ≡ stopsAt h i line)
   unfolding itemAt stopsAt
   at-output a b c =
@@ -260,6 +264,7 @@ module _ (h : Header) (i : ℕ) (line : List ℕ) where
       let v = lt-ltb (i - h .inputs - h .latches) (h .outputs) c in
       (rw (t, itemAt, u, v), rw (t, stopsAt, u, v))
 
+  -- of a gate
   pub at-gate : h .inputs ≤ i → h .latches ≤ i - h .inputs → h .outputs ≤ i - h .inputs - h .latches → i - h .inputs - h .latches - h .outputs < h .gates → (lineItem (gateItem (h .variables)) line ≡ itemAt h i line) × (false ≡ stopsAt h i line)
   unfolding itemAt stopsAt
   at-gate a b c d =
@@ -269,6 +274,7 @@ module _ (h : Header) (i : ℕ) (line : List ℕ) where
       let w = lt-ltb (i - h .inputs - h .latches - h .outputs) (h .gates) d in
       (rw (t, itemAt, u, v, w), rw (t, stopsAt, u, v, w))
 
+  -- of a symbol
   pub at-symbol : h .inputs ≤ i → h .latches ≤ i - h .inputs → h .outputs ≤ i - h .inputs - h .latches → h .gates ≤ i - h .inputs - h .latches - h .outputs → (symbolItem (head 0 (h .inputs) (h .latches) (h .outputs) 0) line ≡ itemAt h i line) × (sameList line (text "c") ≡ stopsAt h i line)
   unfolding itemAt stopsAt
   at-symbol a b c d =

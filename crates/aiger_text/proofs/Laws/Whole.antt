@@ -27,6 +27,7 @@ use Rattle.aiger_text.proofs.Laws.Windows.{pass-first, rising, window-i
 
 -- ---- a cut file is judged as one whose lines use nothing
 
+-- a line that uses nothing
 unfoldable pub strip : Item → Item
 strip badText = badText
 strip skipped = skipped
@@ -35,6 +36,7 @@ strip (latchLine l n r) = inputLine l
 strip (outputLine l) = skipped
 strip (gateLine l a b) = inputLine l
 
+-- the lines, or what of them a cut file is judged by
 unfoldable pub shown : (whole : Bool) → List Spot → List Spot
 shown true ss = ss
 shown false [] = []
@@ -122,14 +124,17 @@ data WithinLines (N : ℕ) : List Line → Type 0 where
   end : WithinLines N []
   line : {l : Line} {ls : List Line} → l .at < N → WithinLines N ls → WithinLines N (l ∷ ls)
 
+-- places in a file
 pub data Within (N : ℕ) : List Spot → Type 0 where
   none : Within N []
   one : {s : Spot} {ss : List Spot} → s .at < N → Within N ss → Within N (s ∷ ss)
 
+-- how long lines are
 unfoldable pub total : List (List ℕ) → ℕ
 total [] = 0
 total (l ∷ ls) = suc (length l) + total ls
 
+-- the lines of a file are no longer than it
 pub total-parts : (e : ℕ) (xs : List ℕ) → total (parts e xs) ≤ length xs
 unfolding total parts grow
 total-parts e [] = omega arith
@@ -149,6 +154,7 @@ unfolding spotsAt
 spots-within N H i end = none
 spots-within N H i (line {l = l} b r) = split (stopsAt H i (l .text)) (λ t. rw (t, spotsAt) none) (λ t. rw (t, spotsAt) (one b (spots-within N H (suc i) r)))
 
+-- a file's places lie in it
 pub within : (H : Header) (start : ℕ) (bytes : List ℕ) → start ≤ length bytes → Within (length bytes) (spotsAt H 0 (linesFrom bytes start))
 unfolding linesFrom
 within H start bytes h = spots-within (length bytes) H 0 (placed-within (length bytes) start (parts 10 (drop start bytes)) (let a = total-parts 10 (drop start bytes) in let b = length-drop start bytes in omega arith))
@@ -166,10 +172,12 @@ found-within all seen (one {s = s} b w) = split (stands all seen (s .item)) (λ 
 
 -- ---- variables lie below M
 
+-- the pin of a literal is at most M
 pub pin-fits : (m l : ℕ) → isLiteral m l ≡ true → pinOf l ≤ m
 unfolding isLiteral pinOf
 pin-fits m l e = let h = leb-true l (2 * m + 1) e in omega arith
 
+-- so is that of a variable
 pub variable-fits : (m l : ℕ) → isVariable m l ≡ true → pinOf l ≤ m
 unfolding isVariable
 variable-fits m l e = pin-fits m l (and-true (eqb (inversionOf l) 0 && ltb 0 l) (isLiteral m l) e .1)

@@ -29,6 +29,7 @@ pass-stays f seen (step {s = s} {ss = ss} b r) first h = rw (same (freshIn f see
     same true = unfold noted in refl
     same false = unfold noted in omega arith
 
+-- a pass finds the first line that is not fresh
 pub pass-first : (f : ℕ → Bool) (seen : List ℕ) (N : ℕ) {k : ℕ} {ss : List Spot} → Rising k ss → passOver f seen N ss ≡ min N (placeOr N (firstAgainIn f seen ss))
 unfolding passOver firstAgainIn placeOr noted
 pass-first f seen N stop = omega arith
@@ -60,6 +61,7 @@ stands-parts f all seen x = assoc (isText x) _ _
     assoc true b c = refl
     assoc false b c = refl
 
+-- two passes find the first bad line
 pub bad-parts : (f : ℕ → Bool) (all seen : List ℕ) (N : ℕ) {k : ℕ} {ss : List Spot} → Rising k ss → min N (placeOr N (firstBadIn f all seen ss)) ≡ min (min N (placeOr N (firstAgainIn f seen ss))) (min N (placeOr N (firstUnknownIn f all ss)))
 unfolding firstBadIn firstAgainIn firstUnknownIn placeOr
 bad-parts f all seen N stop = omega arith
@@ -114,14 +116,17 @@ unknown-same f xs ys e (s ∷ ss) =
 
 -- ---- the call
 
+-- a cleared map has no mark
 pub blank-marks : (lo : ℕ) (map : List ℕ) → length map ≡ breadth → ((k : ℕ) → getD map k 0 ≡ 0) → Marks lo [] map
 unfolding mem
 blank-marks lo map w z = record { wide = w; are = λ v a b. rw (z (v - lo)) }
 
+-- places rise
 pub rising : (H : Header) (start : ℕ) (bytes : List ℕ) → Rising start (spotsAt H 0 (linesFrom bytes start))
 unfolding linesFrom
 rising H start bytes = rw (spots-all H (placed start (parts 10 (drop start bytes)))) at (all-rising H start (parts 10 (drop start bytes)))
 
+-- a window's two passes find its first bad line
 pub window-is : {H : Header} {start lo : ℕ} {bytes map₀ map w₀ w : List ℕ} {a : Sweep} {b r : ℕ} → Swept H start lo bytes map₀ map w₀ w a → Used H start lo bytes map b → r ≡ noted false (a .first) b → r ≡ badIn H start lo bytes
 unfolding badIn noted
 window-is {H} {start} {lo} {bytes} {map₀} {map} {w₀} {w} {a} {b} {r} S U e =
@@ -136,6 +141,7 @@ window-is {H} {start} {lo} {bytes} {map₀} {map} {w₀} {w} {a} {b} {r} S U e =
 
 -- ---- clearing
 
+-- one byte more
 pub clear-more : (map : List ℕ) (i : ℕ) → i < length map → ((k : ℕ) → k < i → getD map k 0 ≡ 0) → (k : ℕ) → k < i + 1 → getD (set map i 0) k 0 ≡ 0
 clear-more map i h z k l = split (eqb k i)
     (λ t. let q = eqb-true k i t in rw q (getD-set-same map i 0 0 h))
@@ -144,5 +150,6 @@ clear-more map i h z k l = split (eqb k i)
     lower : (a b : ℕ) → a < b + 1 → (a ≡ b → ⊥) → a < b
     lower a b l q = split (ltb a b) (λ t. ltb-true a b t) (λ t. absurd (q (omega (arith, ltb-false a b t))))
 
+-- all bytes
 pub clear-all : (map : List ℕ) (i : ℕ) → length map ≤ i → ((k : ℕ) → k < i → getD map k 0 ≡ 0) → (k : ℕ) → getD map k 0 ≡ 0
 clear-all map i h z k = split (ltb k i) (λ t. z k (ltb-true k i t)) (λ t. List·getD-eq-default map 0 (omega (arith, ltb-false k i t)))
