@@ -8,7 +8,7 @@ use lib.Dec.{leb, eqb}
 use lib.ListN.{length, take, drop}
 use lib.Seq.{take-at}
 use borrow.Author.Tests.{eqb-true, eq-eqb}
-use Rattle.rules.specs.Lists.{every, laidOver}
+use Rattle.rules.specs.Lists.{every, gather, laidOver}
 use Rattle.rules.specs.Cells.{isHeight}
 use Rattle.rules.specs.Graph.{graphOf}
 use Rattle.rules.specs.Records.{Group, output, flipFlop, memory, stagedPin, Groups?, unreadable, groups, read}
@@ -19,7 +19,7 @@ use Rattle.aiger_form.specs.Text.{unlines}
 use Rattle.aiger_form.specs.Jobs.{Named}
 use Rattle.aiger_form.specs.Calls.{holds, imported, importer, exported, exporter}
 use Rattle.aiger_form.proofs.Accepted.{accepted}
-use Rattle.aiger_form.proofs.Flat.{no-ends, with-output, with-data}
+use Rattle.aiger_form.proofs.Flat.{read-numbers, dataNumbers, outNumbers, no-ends, with-output, with-data, ends-are}
 use Rattle.aiger_form.proofs.Round.{round-trip}
 
 -- ---- what is read passes the checks
@@ -68,11 +68,17 @@ named-writable : {given : List ℕ} {n : Netlist} (N : Named given n) → writab
 unfolding writable
 named-writable {given} {n} N = rw (N .passes, eq-eqb (length (N .inputs)) (length (n .latches)) (N .as-many), N .leaves, N .differ) refl
 
--- such a job is written
-pub named-written : (given : List ℕ) (n : Netlist) → Named given n → (bytes : List ℕ) × (writeAag given n ≡ aag bytes)
+-- the file of such a job
+pub named-written : (given : List ℕ) (n : Netlist) (N : Named given n) → writeAag given n ≡ aag (unlines (fileLines (graphOf (n .gates)) (n .latches) (N .inputs) (N .outs)))
 unfolding writeAag writeEnds
-named-written [] n N = (unlines (fileLines (graphOf (n .gates)) (n .latches) (N .inputs) (N .outs)), rw (N .readable, writeAag, groups-ends (N .inputs) (N .outs), named-writable N, writeEnds) refl)
+named-written [] n N = rw (N .readable, writeAag, groups-ends (N .inputs) (N .outs), named-writable N, writeEnds) refl
 named-written (p ∷ ps) n N = absurd (let e = N .none in let z : _≡_ {A = ℕ} 0 1 = cc in omega arith)
+
+-- and its records, number by number
+pub named-flat : {given : List ℕ} {n : Netlist} (N : Named given n) → n .records ≡ gather dataNumbers (N .inputs) ++ gather outNumbers (N .outs)
+named-flat {given} {n} N =
+    let gs = flipFlops (N .inputs) ++ outputs (N .outs) in
+    sym (read-numbers (n .records) gs (N .readable)) ∙ ends-are gs (groups-ends (N .inputs) (N .outs)) .flat
 
 ends-named : (n : Netlist) (gs : List Group) (r : Ends?) (bytes : List ℕ) → read (n .records) ≡ groups gs → endsOf gs ≡ r → writeEnds n r ≡ aag bytes → Named [] n
 unfolding writeEnds writable

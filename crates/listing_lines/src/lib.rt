@@ -63,7 +63,8 @@ fn spaced_one(out: &mut [u8], limit: usize, at: usize, word: u32) -> usize
     put_decimal(out, limit, a, wide(word))
 }
 
-fn spaced(out: &mut [u8], limit: usize, at: usize, words: &[u32]) -> usize
+// Each word behind a space.
+pub fn spaced(out: &mut [u8], limit: usize, at: usize, words: &[u32]) -> usize
     ensures { λ r. ⌜ Laid limit at (spaced (now (words .entry))) (now (out .entry)) r (now (out .exit)) ⌝ }
 {
     let mut now = at;

@@ -1,0 +1,59 @@
+-- `aiger_write::lines::count_gates` meets its contract: after p turns n of the first p pins are counted. Assumes nothing.
+use native.Mathlib.Omega.{arith}
+use Prim.Native.Nat.{_-_, _≤_}
+use mathlib.Core.Path.{sym, _∙_}
+use mathlib.Core.Logic.{⊎-elim}
+use Rattle.aiger_write.specs.Lines.{isGate}
+use Rattle.aiger_write.proofs.Laws.Lines.{Counted, count-start, count-in, count-out, count-end}
+use borrow.Author.Needs.{needs}
+use Rattle.aiger_write.proofs.lines.count_gates.Statement.{statement}
+use Rattle.aiger_write.proofs.lines.count_gates.Tie as tie
+
+abbrev Inv-loop : tie.InvT-loop
+Inv-loop gates pins n₀ p₀ n p = (p ≤ pins) × Counted (isGate gates) p n
+
+abbrev μ-loop : tie.MeasureT-loop
+μ-loop gates pins n₀ p₀ n p = pins - p
+
+pin-count-requires : tie.Need-pin-count-requires Inv-loop μ-loop
+pin-count-requires c κs = search needs
+
+loop-holds : tie.Need-loop-holds Inv-loop μ-loop
+loop-holds c = (omega arith, count-start)
+
+cast-t7 : tie.Need-cast-t7 Inv-loop μ-loop
+cast-t7 c = omega (arith, c .loop-test .taken, c .before .before .pin-count .ensures, c .before .before .before .before .pre)
+
+is-gate-requires : tie.Need-is-gate-requires Inv-loop μ-loop
+is-gate-requires c κs = search needs
+
+add-n : tie.Need-add-n Inv-loop μ-loop
+add-n c = omega (arith, c .before .before .before .loop .inv .1 .few, c .before .before .loop-test .taken, c .before .before .before .before .pin-count .ensures, c .before .before .before .before .before .before .pre)
+
+add-p : tie.Need-add-p Inv-loop μ-loop
+add-p c = search needs
+
+loop-less : tie.Need-loop-less Inv-loop μ-loop
+loop-less c = search needs
+
+loop-again : tie.Need-loop-again Inv-loop μ-loop
+loop-again c = (omega arith, ⊎-elim (λ w. rw (w .1) (count-in (c .before .before .before .loop .inv .1) (sym (c .before .is-gate .ensures) ∙ w .0 .taken))) (λ w. rw (w .1) (count-out (c .before .before .before .loop .inv .1) (sym (c .before .is-gate .ensures) ∙ w .0 .left))) (c .if1 .came))
+
+returns : tie.Need-returns Inv-loop μ-loop
+returns c = count-end (c .before .loop .inv .1) (omega (arith, c .before .loop .inv .0, c .loop-test .left, c .before .before .pin-count .ensures))
+
+pub count-gates-spec : {M : Type 1} → statement M
+count-gates-spec =
+    tie.close
+    (tie.spec
+    Inv-loop
+    μ-loop
+    pin-count-requires
+    loop-holds
+    cast-t7
+    is-gate-requires
+    add-n
+    add-p
+    loop-less
+    loop-again
+    returns)
