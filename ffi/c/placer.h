@@ -1,4 +1,4 @@
-/* The placer, for C: builds, merges, folds, listings and job files. Link libentries.a, which ffi/library writes (x86-64, Linux).
+/* The placer, for C: builds, merges, folds, listings, job files and AIGER files. Link libentries.a, which ffi/library writes (x86-64, Linux).
  *
  * Every call returns, whatever numbers it is handed: it answers, or refuses with a number, and each contract says for all of them what is
  * returned and left. The caller checks nothing beforehand. What the caller owes is the memory:
@@ -9,7 +9,8 @@
  * Threads. The library keeps nothing between calls and has no variables of its own. While a call runs, no thread writes its areas, and none
  *          reads those that it writes.
  * Stack.   Where the gates are not in order (a gate has an operand above it), a build, merge or fold takes up to 1 MiB of stack: the search
- *          for a loop has its marks there, since what is lent must stay unchanged. Else a call takes a few kilobytes.
+ *          for a loop has its marks there, since what is lent must stay unchanged. Else a call takes a few kilobytes; reading an AIGER file takes
+ *          600 kB more, for the same reason, and writing one 70 kB more.
  * Rooms.   A room is the memory of one stage: 2^(height + 1) numbers of the plan and one of counts. A build fills as many as it has stages.
  *          D + 1 rooms are enough, D the most gates on a way from an endpoint down to a leaf; with fewer a build may be refused with 9. */
 #ifndef PLACER_H
@@ -23,13 +24,14 @@ extern "C" {
 #endif
 
 /* The version of this header and of the library that it is for: CHANGELOG.md. */
-#define PLACER_VERSION "0.4.0"
+#define PLACER_VERSION "0.5.0"
 
 /* An empty cell of a plan, an unused word, and each literal of a leaf. */
 #define PLACER_EMPTY 4294967295u
 
-/* What a call returns. 1 to 5, 10, 11 and 23 leave everything lent as it was, but for the answer; after 6 to 9 plan and words are empty marks,
- * counts and work 0. The first that applies is given, in the order 1, 2, 3, 23, 4, 5, 10, 6, then for each stage 9, 7, 8; of a file 11, then 2. */
+/* What a call returns. 6 to 9 leave plan and words as empty marks, counts and work 0; every other refusal leaves everything lent as it was, but
+ * for the answer. The first that applies is given, in the order 1, 2, 3, 23, 4, 5, 10, 6, then for each stage 9, 7, 8; of a job file 11, then 2; of
+ * an AIGER file read 12, 13, 2, 3, 23, 4, and of one written 14, then 2. */
 enum placer_refusal {
     PLACER_DONE = 0,          /* not refused */
     PLACER_NO_HEIGHT = 1,     /* the height is not 6 to 13 */
@@ -43,6 +45,9 @@ enum placer_refusal {
     PLACER_NO_ROOM = 9,       /* pins wait, and no room is left for the stage */
     PLACER_WRONG_GROUPS = 10, /* a merge of no partitions or more than 1,024, a group index out of range, or more than 255 extra stages */
     PLACER_NO_JOB = 11,       /* the bytes are no job file, or no file holds the job */
+    PLACER_NO_AIGER = 12,     /* the bytes are no AIGER file, or it is cut; the answer has the place of the first bad line, or the file's length */
+    PLACER_RESET = 13,        /* a latch has a reset value other than 0; the answer has the place of its line */
+    PLACER_NOT_AIGER = 14,    /* no AIGER file holds the job */
     PLACER_LOOP = 23          /* a loop of gates, given or not; the answer shows the smallest pin on any */
 };
 
@@ -61,6 +66,9 @@ static inline const char *placer_describe(uint32_t number) {
     case PLACER_NO_ROOM: return "no room is left for the stage";
     case PLACER_WRONG_GROUPS: return "the partitions, group indices or extra stages of a merge";
     case PLACER_NO_JOB: return "no job file, or no file for the job";
+    case PLACER_NO_AIGER: return "no AIGER file, or one that is cut";
+    case PLACER_RESET: return "a latch has a reset value other than 0";
+    case PLACER_NOT_AIGER: return "no AIGER file holds the job";
     case PLACER_LOOP: return "a loop of gates";
     default: return "no number of the placer";
     }
@@ -114,6 +122,15 @@ static inline size_t placer_listing_size(uint32_t height, size_t stages, size_t 
 
 /* No job file has more bytes, and no job of one more numbers in its lists. */
 enum { PLACER_JOB_BYTES = 8192, PLACER_JOB_GATES = 1002, PLACER_JOB_GIVEN = 4096, PLACER_JOB_RECORDS = 512 };
+
+/* No AIGER file that is read has more numbers in its lists. */
+enum { PLACER_AIGER_GATES = 131072, PLACER_AIGER_RECORDS = 65536, PLACER_AIGER_LATCHES = 21845 };
+
+/* The bytes that hold the AIGER file of any job with so many numbers: a line a leaf or gate, of at most three literals of six digits, and a
+ * line a record. */
+static inline size_t placer_aiger_size(size_t gates_len, size_t records_len) {
+    return placer_sum(64, placer_sum(placer_product(21, gates_len / 2), placer_product(7, records_len)));
+}
 
 /* ---- A build */
 
@@ -213,7 +230,7 @@ uint32_t fold_plan(uint32_t height, const uint32_t *plan, size_t plan_len, const
 
 /* ---- A listing */
 
-/* The answers of a listing and of a job written: what is returned, and how many bytes the text or file has, 0 on refusal. */
+/* The answers of a listing and of a file written: what is returned, and how many bytes the text or file has, 0 on refusal. */
 enum placer_list_answer { PLACER_LIST_NUMBER, PLACER_LIST_LENGTH, PLACER_LIST_LEN };
 enum placer_write_answer { PLACER_WRITE_NUMBER, PLACER_WRITE_LENGTH, PLACER_WRITE_LEN };
 
@@ -250,6 +267,45 @@ uint32_t read_job(const uint8_t *bytes, size_t bytes_len, uint32_t *gates, size_
 uint32_t write_job(uint32_t height, const uint32_t *gates, size_t gates_len, const uint32_t *given, size_t given_len,
                    const uint32_t *records, size_t records_len, uint8_t *bytes, size_t bytes_len, size_t *answer,
                    size_t answer_len);
+
+/* ---- AIGER files: ASCII (`aag`), any order of gates. Variables are pins. */
+
+/* The answer of an AIGER file read: what is returned; with 12 and 13 the place of the line's first byte, from 0, or the file's length; with 23
+ * the pin; how many numbers stand in gates, records and latches. What does not apply is 0. */
+enum placer_aiger_answer {
+    PLACER_AIGER_NUMBER,
+    PLACER_AIGER_PLACE,
+    PLACER_AIGER_PIN,
+    PLACER_AIGER_GATES_LEN,
+    PLACER_AIGER_RECORDS_LEN,
+    PLACER_AIGER_LATCHES_LEN,
+    PLACER_AIGER_LEN
+};
+
+/* The graph of a file's bytes, its records and the latches' leaves, as a build takes them: a latch is a leaf and a flip-flop with enable literal 1,
+ * an output a record of kind 1.
+ * gates, records: areas of PLACER_AIGER_GATES and PLACER_AIGER_RECORDS numbers hold any; what is read has 2(M + 1) and 3L + 2O numbers, M, L and O
+ *          the header's
+ * latches: for the leaf of each latch, L numbers; PLACER_AIGER_LATCHES hold any
+ * answer:  at least PLACER_AIGER_LEN numbers
+ *
+ * Returns 0; 12 where the bytes are no such file or it is cut; 13 for a reset value other than 0; 2 where an area is too short; 3 for a constant
+ * operand or more than 65,535 variables; 23 for a loop; 4 for more than 65,536 numbers of records; and then no area is changed. Numbers past those
+ * that are read stay. Where `answer` is too short that is 2, and nothing is changed. */
+uint32_t read_aiger(const uint8_t *bytes, size_t bytes_len, uint32_t *gates, size_t gates_len, uint32_t *records, size_t records_len,
+                    uint32_t *latches, size_t latches_len, size_t *answer, size_t answer_len);
+
+/* The file of a job: leaves that no latch drives are its inputs, in pin order. Reading it gives the same gates, records and latches.
+ * gates, given, records: as a build takes them, without given pins; flip-flops with enable literal 1 stand first, then outputs
+ * latches: the leaf that each flip-flop drives, all different
+ * bytes:   placer_aiger_size(gates_len, records_len) bytes hold the file
+ * answer:  at least PLACER_WRITE_LEN numbers
+ *
+ * Returns 0, 14 for any other job, 2 where the bytes are too few, and then they are unchanged. Where `answer` is too short that is 2 too, and
+ * nothing is changed. */
+uint32_t write_aiger(const uint32_t *gates, size_t gates_len, const uint32_t *given, size_t given_len, const uint32_t *records,
+                     size_t records_len, const uint32_t *latches, size_t latches_len, uint8_t *bytes, size_t bytes_len, size_t *answer,
+                     size_t answer_len);
 
 #ifdef __cplusplus
 }

@@ -1,16 +1,16 @@
-//! The placer, for Rust: builds, merges, folds, listings and job files. Link `libentries.a`, which `ffi/library` writes (x86-64, Linux).
+//! The placer, for Rust: builds, merges, folds, listings, job files and AIGER files. Link `libentries.a`, which `ffi/library` writes (x86-64, Linux).
 //! No crate beyond `core` is needed. Every function takes any numbers and slices, and answers or refuses; none panics.
 //!
 //! A room is the memory of one stage: `stage_size(height)` numbers of the plan and one of the counts. A build fills as many as it has stages.
 //! D + 1 rooms are enough, D the most gates on a way from an endpoint down to a leaf; with fewer a build may be refused with `NoRoom`.
 //!
 //! The library keeps nothing between calls, so threads may call it at once. Where the gates are not in order (a gate has an operand above it) a
-//! build, merge or fold takes up to 1 MiB of its thread's stack, else a few kilobytes.
+//! build, merge or fold takes up to 1 MiB of its thread's stack, else a few kilobytes; reading an AIGER file takes 600 kB more, writing one 70 kB.
 
 use core::fmt;
 
 /// The version of this file and of the library that it is for: CHANGELOG.md.
-pub const VERSION: &str = "0.4.0";
+pub const VERSION: &str = "0.5.0";
 
 /// An empty cell of a plan, an unused word, and each literal of a leaf.
 pub const EMPTY: u32 = u32::MAX;
@@ -42,6 +42,12 @@ pub enum Refusal {
     WrongGroups = 10,
     /// The bytes are no job file, or no file holds the job.
     NoJob = 11,
+    /// The bytes are no AIGER file, or it is cut; the answer has the place of the first bad line, or the file's length.
+    NoAiger = 12,
+    /// A latch has a reset value other than 0; the answer has the place of its line.
+    Reset = 13,
+    /// No AIGER file holds the job.
+    NotAiger = 14,
     /// A loop of gates, given or not; the answer shows the smallest pin on any.
     Loop = 23,
 }
@@ -61,6 +67,9 @@ impl Refusal {
             9 => Refusal::NoRoom,
             10 => Refusal::WrongGroups,
             11 => Refusal::NoJob,
+            12 => Refusal::NoAiger,
+            13 => Refusal::Reset,
+            14 => Refusal::NotAiger,
             23 => Refusal::Loop,
             _ => return None,
         })
@@ -80,6 +89,9 @@ impl Refusal {
             Refusal::NoRoom => "no room is left for the stage",
             Refusal::WrongGroups => "the partitions, group indices or extra stages of a merge",
             Refusal::NoJob => "no job file, or no file for the job",
+            Refusal::NoAiger => "no AIGER file, or one that is cut",
+            Refusal::Reset => "a latch has a reset value other than 0",
+            Refusal::NotAiger => "no AIGER file holds the job",
             Refusal::Loop => "a loop of gates",
         }
     }
@@ -143,6 +155,19 @@ pub const JOB_GIVEN: usize = 4096;
 /// and of records.
 pub const JOB_RECORDS: usize = 512;
 
+/// No AIGER file that is read has more numbers of gates,
+pub const AIGER_GATES: usize = 131_072;
+/// of records,
+pub const AIGER_RECORDS: usize = 65_536;
+/// and of latches.
+pub const AIGER_LATCHES: usize = 21_845;
+
+/// Bytes that hold the AIGER file of any job with so many numbers of gates and records: a line a leaf or gate, of at most three literals of six
+/// digits, and a line a record.
+pub const fn aiger_size(gates: usize, records: usize) -> usize {
+    (gates / 2).saturating_mul(21).saturating_add(records.saturating_mul(7)).saturating_add(64)
+}
+
 /// Which sparse runs rule 8 writes once nothing is untouched, by the numbers that the entries know them by.
 #[derive(Clone, Copy, Debug, PartialEq, Eq)]
 #[repr(u32)]
@@ -200,7 +225,7 @@ pub struct Folded {
     pub pin: usize,
 }
 
-/// The numbers that a listing and a job file answer: 0 and how many bytes were written, or what refuses it and 0.
+/// The numbers that a listing and a file written answer: 0 and how many bytes were written, or what refuses it and 0.
 #[derive(Clone, Copy, Debug, PartialEq, Eq)]
 pub struct Written {
     pub number: u32,
@@ -215,6 +240,18 @@ pub struct Job {
     pub gates: usize,
     pub given: usize,
     pub records: usize,
+}
+
+/// The numbers that reading an AIGER file answers: 0 and how many numbers each slice has of it; or what refuses it, with 12 and 13 the place of the
+/// line's first byte, from 0, or the file's length, with 23 the smallest pin on any loop. What does not apply is 0.
+#[derive(Clone, Copy, Debug, PartialEq, Eq)]
+pub struct Aiger {
+    pub number: u32,
+    pub place: usize,
+    pub pin: usize,
+    pub gates: usize,
+    pub records: usize,
+    pub latches: usize,
 }
 
 #[rustfmt::skip]
@@ -289,6 +326,25 @@ extern "C" {
         gates: *const u32, gates_len: usize,
         given: *const u32, given_len: usize,
         records: *const u32, records_len: usize,
+        bytes: *mut u8, bytes_len: usize,
+        answer: *mut usize, answer_len: usize,
+    ) -> u32;
+
+    #[link_name = "read_aiger"]
+    fn read_aiger_entry(
+        bytes: *const u8, bytes_len: usize,
+        gates: *mut u32, gates_len: usize,
+        records: *mut u32, records_len: usize,
+        latches: *mut u32, latches_len: usize,
+        answer: *mut usize, answer_len: usize,
+    ) -> u32;
+
+    #[link_name = "write_aiger"]
+    fn write_aiger_entry(
+        gates: *const u32, gates_len: usize,
+        given: *const u32, given_len: usize,
+        records: *const u32, records_len: usize,
+        latches: *const u32, latches_len: usize,
         bytes: *mut u8, bytes_len: usize,
         answer: *mut usize, answer_len: usize,
     ) -> u32;
@@ -424,6 +480,42 @@ pub fn write_job(height: u32, gates: &[u32], given: &[u32], records: &[u32], byt
             gates.as_ptr(), gates.len(),
             given.as_ptr(), given.len(),
             records.as_ptr(), records.len(),
+            bytes.as_mut_ptr(), bytes.len(),
+            answer.as_mut_ptr(), answer.len(),
+        )
+    };
+    Written { number, length: answer[1] }
+}
+
+/// The graph of an ASCII AIGER file (`aag`), its records and the latches' leaves, to the front of the slices. `AIGER_GATES`, `AIGER_RECORDS` and
+/// `AIGER_LATCHES` numbers hold any.
+pub fn read_aiger(bytes: &[u8], gates: &mut [u32], records: &mut [u32], latches: &mut [u32]) -> Aiger {
+    let mut answer = [0usize; 6];
+    // SAFETY: as for `build_by`.
+    let number = unsafe {
+        read_aiger_entry(
+            bytes.as_ptr(), bytes.len(),
+            gates.as_mut_ptr(), gates.len(),
+            records.as_mut_ptr(), records.len(),
+            latches.as_mut_ptr(), latches.len(),
+            answer.as_mut_ptr(), answer.len(),
+        )
+    };
+    let [_, place, pin, gates, records, latches] = answer;
+    Aiger { number, place, pin, gates, records, latches }
+}
+
+/// The AIGER file of a job without given pins, whose flip-flops have enable literal 1, stand before the outputs and drive the `latches`, all
+/// different leaves, to the front of `bytes`. `aiger_size` bytes are enough. Reading it gives the same job.
+pub fn write_aiger(gates: &[u32], given: &[u32], records: &[u32], latches: &[u32], bytes: &mut [u8]) -> Written {
+    let mut answer = [0usize; 2];
+    // SAFETY: as for `build_by`.
+    let number = unsafe {
+        write_aiger_entry(
+            gates.as_ptr(), gates.len(),
+            given.as_ptr(), given.len(),
+            records.as_ptr(), records.len(),
+            latches.as_ptr(), latches.len(),
             bytes.as_mut_ptr(), bytes.len(),
             answer.as_mut_ptr(), answer.len(),
         )

@@ -1,4 +1,4 @@
-// An ASCII AIGER file, read into lent areas. `read_file` takes any bytes and areas.
+// An ASCII AIGER file, read into lent areas. `read` takes any bytes and areas.
 mod ends;
 
 use aiger_text::file::file;
@@ -123,12 +123,7 @@ fn copy(from: &[u32], to: &mut [u32], n: usize)
 
 // Gates, records and latch leaves of a file to the front of the areas. Refusals, in this order: 12 malformed or cut, 13 a reset value, 2 an
 // area too short, 3, 23 and 4 as a build; they change nothing, so the gates stand in an array of the function's own first, 512 kB.
-pub fn read_file(
-    bytes: &[u8],
-    gates: &mut [u32],
-    records: &mut [u32],
-    latches: &mut [u32],
-) -> Answer
+pub fn read(bytes: &[u8], gates: &mut [u32], records: &mut [u32], latches: &mut [u32]) -> Answer
     ensures { λ r. ⌜ outcome r (now (gates .exit)) (now (records .exit)) (now (latches .exit)) ≡ importer (now (bytes .entry)) (areas (now (gates .entry)) (now (records .entry)) (now (latches .entry))) ⌝ }
 {
     let mut own: [u32; 131072] = [4294967295; 131072];

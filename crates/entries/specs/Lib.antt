@@ -4,3 +4,4 @@ pub mod Merge
 pub mod Fold
 pub mod Listing
 pub mod Jobs
+pub mod Aiger

@@ -1,4 +1,5 @@
 // Every entry for other languages: numbers and slices only. One static library holds them all.
+mod aiger_entry;
 mod answers;
 mod build_entry;
 mod fold_entry;

@@ -1,11 +1,11 @@
--- `aiger_read::read_file` meets its contract. Assumes nothing.
+-- `aiger_read::read` meets its contract. Assumes nothing.
 use mathlib.Core.Path.{refl}
 use native.Mathlib.Omega.{arith}
 use denote.Ref.{now}
 use Rattle.aiger_read.proofs.Laws.Answers.{import-refused, import-read}
 use borrow.Author.Needs.{needs}
-use Rattle.aiger_read.proofs.read_file.Statement.{statement}
-use Rattle.aiger_read.proofs.read_file.Tie as tie
+use Rattle.aiger_read.proofs.read.Statement.{statement}
+use Rattle.aiger_read.proofs.read.Tie as tie
 
 slice-aggregate-judge : tie.Need-slice-aggregate-judge
 slice-aggregate-judge c = search needs
@@ -52,8 +52,8 @@ same-length-3 c = search needs
 returns-2 : tie.Need-returns-2
 returns-2 c = import-read (now (c .before .before .before .before .before .before .before .before .before .before .before .before .before .before .before .before .before .before .before .before .before .before .before .before .before .args .gates)) (now (c .before .before .before .before .before .before .before .before .before .before .before .before .before .before .before .before .before .before .before .before .before .before .before .before .before .args .records)) (now (c .before .before .before .before .before .before .before .before .before .before .before .before .before .before .before .before .before .before .before .before .before .before .before .before .before .args .latches)) (c .before .before .before .before .before .before .before .before .before .before .before .before .before .before .before .before .before .before .before .judge .ensures) (c .before .before .before .before .before .before .before .before .before .before .before .before .before .before .before .before .if1 .left) (c .before .before .before .before .before .before .before .before .before .before .before .copy .ensures) (c .before .before .before .before .before .before .fill-ends .ensures .records-hold) (c .before .before .before .before .before .before .fill-ends .ensures .latches-hold) _ refl refl refl refl refl refl
 
-pub read-file-spec : {M : Type 1} → statement M
-read-file-spec =
+pub read-spec : {M : Type 1} → statement M
+read-spec =
     tie.close
     (tie.spec
     slice-aggregate-judge
