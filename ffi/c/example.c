@@ -1,6 +1,7 @@
 /* Two of the scope document's bench examples at height 6. Pins 1 to 4 are leaves, 5 = (2, 4), 6 = (6, 9), 7 = (10, 12), output 14: as a job
  * file, which is read back, built, listed and folded; and built under the rule that writes idle runs too, with too few counts, and under a number
- * that names no rule. A merge: the leaf outputs 2 and 4, a partition each, no extra stages. */
+ * that names no rule. A merge: the leaf outputs 2 and 4, a partition each, no extra stages. And the AIGER document's half adder, read whole and cut,
+ * and written again, with its two unused variables as inputs. */
 #include "placer.h"
 #include <stdio.h>
 #include <stdlib.h>
@@ -92,9 +93,31 @@ static void merging(void) {
     printf("groups %u %u stages %u\n", indices[0], indices[1], stages[0]);
 }
 
+static uint32_t aiger(void) {
+    static const uint8_t file[] = "aag 7 2 0 2 3\n2\n4\n6\n12\n6 13 15\n12 2 4\n14 3 5\n";
+    static uint32_t g[PLACER_AIGER_GATES], r[PLACER_AIGER_RECORDS], l[PLACER_AIGER_LATCHES];
+    const size_t size = sizeof file - 1; /* without the byte 0 at its end */
+    size_t read[PLACER_AIGER_LEN], wrote[PLACER_WRITE_LEN];
+    uint32_t number = read_aiger(file, size - 1, g, PLACER_AIGER_GATES, r, PLACER_AIGER_RECORDS, l, PLACER_AIGER_LATCHES, read, PLACER_AIGER_LEN);
+    printf("cut: refused %u at byte %zu: %s\n", number, read[PLACER_AIGER_PLACE], placer_describe(number));
+
+    number = read_aiger(file, size, g, PLACER_AIGER_GATES, r, PLACER_AIGER_RECORDS, l, PLACER_AIGER_LATCHES, read, PLACER_AIGER_LEN);
+    if (number != PLACER_DONE)
+        return number;
+    size_t gs = read[PLACER_AIGER_GATES_LEN], rs = read[PLACER_AIGER_RECORDS_LEN], ls = read[PLACER_AIGER_LATCHES_LEN];
+    printf("gates %zu records %zu latches %zu\n", gs, rs, ls);
+
+    size_t room = placer_aiger_size(gs, rs);
+    uint8_t *out = lent(room, 1);
+    number = write_aiger(g, gs, given, 0, r, rs, l, ls, out, room, wrote, PLACER_WRITE_LEN);
+    fwrite(out, 1, wrote[PLACER_WRITE_LENGTH], stdout);
+    free(out);
+    return number;
+}
+
 int main(void) {
     size_t answer[PLACER_BUILD_LEN];
     uint32_t whole = job(), every = show(PLACER_EVERY_RUN, 1), small = show(PLACER_NEEDED_RUNS, 0), none = first(2, 1, answer);
     merging();
-    return whole != PLACER_DONE || every != PLACER_DONE || small != PLACER_WRONG_SIZE || none != PLACER_WRONG_SIZE;
+    return aiger() != PLACER_DONE || whole != PLACER_DONE || every != PLACER_DONE || small != PLACER_WRONG_SIZE || none != PLACER_WRONG_SIZE;
 }

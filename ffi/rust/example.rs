@@ -1,11 +1,12 @@
 //! Two of the scope document's bench examples at height 6. Pins 1 to 4 are leaves, 5 = (2, 4), 6 = (6, 9), 7 = (10, 12), output 14: as a job
 //! file, which is read back, built, listed and folded; and built under the rule that writes idle runs too, and with too few counts. A merge: the leaf
-//! outputs 2 and 4, a partition each, no extra stages.
+//! outputs 2 and 4, a partition each, no extra stages. And the AIGER document's half adder, read whole and cut, and
+//! written again, with its two unused variables as inputs.
 #[allow(dead_code)] // not all of it is shown
 #[path = "placer.rs"]
 mod placer;
 
-use placer::{build, build_by, fold, list_answer, merge, read_job, write_job, Areas, Groups, Refusal, WordRule, EMPTY as E};
+use placer::{build, build_by, fold, list_answer, merge, read_aiger, read_job, write_aiger, write_job, Areas, Groups, Refusal, WordRule, EMPTY as E};
 
 const GATES: [u32; 16] = [E, E, E, E, E, E, E, E, E, E, 2, 4, 6, 9, 10, 12];
 const RECORDS: [u32; 2] = [1, 14];
@@ -63,9 +64,26 @@ fn merging() {
     println!("groups {} {} stages {}", indices[0], indices[1], stages[0]);
 }
 
+fn aiger() {
+    let file = b"aag 7 2 0 2 3\n2\n4\n6\n12\n6 13 15\n12 2 4\n14 3 5\n";
+    let (mut gates, mut records, mut latches) = (vec![0; placer::AIGER_GATES], vec![0; placer::AIGER_RECORDS], vec![0; placer::AIGER_LATCHES]);
+    let cut = read_aiger(&file[..file.len() - 1], &mut gates, &mut records, &mut latches);
+    if let Some(refusal) = Refusal::of(cut.number) {
+        println!("cut: refused {} at byte {}: {}", cut.number, cut.place, refusal.describe());
+    }
+
+    let read = read_aiger(file, &mut gates, &mut records, &mut latches);
+    println!("gates {} records {} latches {}", read.gates, read.records, read.latches);
+    let (gates, records, latches) = (&gates[..read.gates], &records[..read.records], &latches[..read.latches]);
+    let mut out = vec![0; placer::aiger_size(gates.len(), records.len())];
+    let wrote = write_aiger(gates, &[], records, latches, &mut out);
+    print!("{}", String::from_utf8_lossy(&out[..wrote.length]));
+}
+
 fn main() {
     job();
     first(WordRule::EveryRun, 1);
     first(WordRule::NeededRuns, 0);
     merging();
+    aiger();
 }

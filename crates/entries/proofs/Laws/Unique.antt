@@ -5,12 +5,14 @@ use mathlib.Core.Path.{_≡_, sym, ap, _∙_}
 use Rattle.rules.specs.Build.{Areas}
 use Rattle.placer.specs.Answers.{areas}
 use Rattle.merge_checks.specs.Values as merge
+use Rattle.aiger_form.specs.Aag.{Netlist}
+use Rattle.aiger_read.specs.Answers as aiger
 use Rattle.entries.specs.Entry.{Entry, entry}
 use Rattle.entries.specs.Merge.{Lent, lent}
 use Rattle.entries.specs.Fold as fold
 use Rattle.entries.specs.Jobs.{Lists, lists}
 
--- of any entry, its areas as one value: `list_answer` and `write_job` lend one area
+-- of any entry, its areas as one value: `list_answer`, `write_job` and `write_aiger` lend one area
 pub one-outcome : {A : Type 0} (o : Entry A) (n n′ : ℕ) (a a′ : A) (xs xs′ : List ℕ) → entry n a xs ≡ o → entry n′ a′ xs′ ≡ o → (n ≡ n′) × (a ≡ a′) × (xs ≡ xs′)
 unfolding entry
 one-outcome {A} o n n′ a a′ xs xs′ d e =
@@ -44,3 +46,8 @@ one-folded r w r′ w′ s = (ap (λ (x : fold.Lent). x .result) s, ap (λ (x : 
 pub one-lists : (g v c g′ v′ c′ : List ℕ) → lists g v c ≡ lists g′ v′ c′ → (g ≡ g′) × (v ≡ v′) × (c ≡ c′)
 unfolding lists
 one-lists g v c g′ v′ c′ s = (ap (λ (x : Lists). x .gates) s, ap (λ (x : Lists). x .given) s, ap (λ (x : Lists). x .records) s)
+
+-- the areas of `read_aiger`
+pub one-netlist : (g r l g′ r′ l′ : List ℕ) → aiger.areas g r l ≡ aiger.areas g′ r′ l′ → (g ≡ g′) × (r ≡ r′) × (l ≡ l′)
+unfolding aiger.areas
+one-netlist g r l g′ r′ l′ s = (ap (λ (x : Netlist). x .gates) s, ap (λ (x : Netlist). x .records) s, ap (λ (x : Netlist). x .latches) s)
