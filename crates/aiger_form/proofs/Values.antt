@@ -13,42 +13,13 @@ use Rattle.rules.specs.Graph.{Node, leaf, gate, pinOf, operands, graphOf, pinCo
 use Rattle.rules.specs.Inside.Walks.{Graph, rank}
 use Rattle.rules.proofs.Lists.Members.{split, in-here, in-there, in-cons, in-nil, in-append-left, in-append-right}
 use Rattle.rules.proofs.Walk.Reverse.{in-below}
-use Rattle.rules.proofs.Fold.Folds.{value-own}
+use Rattle.rules.proofs.Fold.Folds.{falls-first, value-gate, value-own}
 use Rattle.rules.proofs.Tree.Held.{node}
 use Rattle.rules.proofs.Demand.{graph, graph-few}
 use Rattle.checks.specs.Passed.{Passed}
 use Rattle.aiger_form.specs.Aag.{Item, badText, skipped, inputLine, latchLine, outputLine, gateLine, defines, uses, gatherItems, defined, driver, driven, gatesOf, recordsOf, Netlist, netlistRead, netlist, anyHeight, checked, readAag, file, fileOf}
 use Rattle.aiger_form.specs.Meaning.{Among, here, there, Values, Meant}
 use Rattle.aiger_form.proofs.Accepted.{passes, defines-pin, driven-none, Lines, accepted, file-stands, stand-lines, defined-line, gather-two, graph-length, node-at, node-past}
-
--- ---- a pin's value, with fuel enough: the rank of operands falls
-
-module _ (g : List Node) (r : ℕ → ℕ) (G : Graph g r) (bits : List ℕ) where
-  -- a gate's operands have lower ranks than it
-  pub gate-falls : (p a b : ℕ) → getD g p leaf ≡ gate a b → (r (pinOf a) < r p) × (r (pinOf b) < r p)
-  unfolding operands mem
-  gate-falls p a b e = (
-    G .falls p (pinOf a) (in-below g [] p (pinOf a) refl (rw e (in-here (pinOf a) (pinOf b ∷ [])))),
-    G .falls p (pinOf b) (in-below g [] p (pinOf b) refl (rw e (in-there (pinOf b) (pinOf a) (pinOf b ∷ []) (in-here (pinOf b) [])))),
-  )
-
-  value-step : (f p a b : ℕ) → getD g p leaf ≡ gate a b → value (suc f) g [] bits p ≡ literalBit a (value f g [] bits (pinOf a)) && literalBit b (value f g [] bits (pinOf b))
-  unfolding value mem
-  value-step f p a b e = rw (e, value)
-
-  value-fuel : (e f p : ℕ) → r p < e → r p < f → value e g [] bits p ≡ value f g [] bits p
-  value-fuel zero f p h k = absurd (omega arith)
-  value-fuel (suc e) zero p h k = absurd (omega arith)
-  value-fuel (suc e) (suc f) p h k = node (getD g p leaf)
-      (λ c. value-own g r G [] bits (suc e) p (omega arith) (inr c) ∙ sym (value-own g r G [] bits (suc f) p (omega arith) (inr c)))
-      (λ a b c. let w = gate-falls p a b c in
-      rw (value-step e p a b c, value-step f p a b c, value-fuel e f (pinOf a) (omega (arith, w .0)) (omega (arith, w .0)), value-fuel e f (pinOf b) (omega (arith, w .1)) (omega (arith, w .1))))
-
-  -- a gate's value is the AND of its two literals'
-  value-gate : (f p a b : ℕ) → r p < f → getD g p leaf ≡ gate a b → value f g [] bits p ≡ literalBit a (value f g [] bits (pinOf a)) && literalBit b (value f g [] bits (pinOf b))
-  value-gate zero p a b h e = absurd (omega arith)
-  value-gate (suc f) p a b h e = let w = gate-falls p a b e in
-      rw (value-step f p a b e, value-fuel (suc f) f (pinOf a) (omega (arith, w .0)) (omega (arith, w .0)), value-fuel (suc f) f (pinOf b) (omega (arith, w .1)) (omega (arith, w .1)))
 
 -- ---- an accepted file
 
@@ -114,7 +85,7 @@ module _ (m : ℕ) (xs : List Item) (L : Lines m xs) (free : checked true (netli
     constant = own 0 zero-leaf ∙ zero-bit;
     inputs = λ l i. own (pinOf l) (leaf-line i refl (pinOf l) (in-here (pinOf l) []));
     latches = λ l n r i. own (pinOf l) (leaf-line i refl (pinOf l) (in-here (pinOf l) []));
-    gates = λ l a b i. value-gate g (rank g) G bits (length g) (pinOf l) a b (few-under (pinOf l) (gate-pin l a b i)) (gate-line l a b i);
+    gates = λ l a b i. value-gate g (rank g) G [] bits (length g) (pinOf l) a b (few-under (pinOf l) (gate-pin l a b i)) (unfold mem in refl) (gate-line l a b i);
   }
 
   -- and the lines have no other values
@@ -128,7 +99,7 @@ module _ (m : ℕ) (xs : List Item) (L : Lines m xs) (free : checked true (netli
     line-same p h (latchLine l n r) a i = elim (in-cons p (pinOf l) [] i) [ inl e ↦ rw e (S .latches l n r a ∙ sym (R .latches l n r a)) | inr e ↦ in-nil p e ]
     line-same p h (gateLine l c d) a i = elim (in-cons p (pinOf l) [] i) [
       | inl e ↦
-          let k = gate-falls g (rank g) G bits (pinOf l) c d (gate-line l c d a) in
+          let k = falls-first g (rank g) G [] bits (pinOf l) c d (gate-line l c d a) in
           let ec : v (pinOf c) ≡ w (pinOf c) = h (pinOf c) (rw e (k .0)) (L .known a (pinOf c) (in-here (pinOf c) (pinOf d ∷ []))) in
           let ed : v (pinOf d) ≡ w (pinOf d) = h (pinOf d) (rw e (k .1)) (L .known a (pinOf d) (in-there (pinOf d) (pinOf c) (pinOf d ∷ []) (in-here (pinOf d) []))) in
           rw e (S .gates l c d a ∙ (rw (ec, ed) (sym (R .gates l c d a))))

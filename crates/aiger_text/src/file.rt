@@ -6,6 +6,8 @@ use crate::lines::line_at;
 use crate::passes::first_place;
 use crate::rows::Head;
 use crate::rows::Row;
+use refusals::BAD_RESET;
+use refusals::MALFORMED;
 ghost use mathlib.Core.Path.{_≡_};
 ghost use mathlib.Core.Bool.{not};
 ghost use lib.Dec.{eqb, ltb};
@@ -16,12 +18,6 @@ ghost use Rattle.aiger_text.specs.Rows.{rowItem, head};
 ghost use Rattle.aiger_text.specs.Passes.{area, Behind};
 ghost use Rattle.aiger_text.specs.Whole.{Begun};
 ghost use Rattle.aiger_text.specs.File.{Resets, Refused, BodyJudged, FileJudged};
-
-// Malformed or cut.
-pub const MALFORMED: u32 = 12;
-
-// A latch's reset value isn't 0.
-pub const BAD_RESET: u32 = 13;
 
 fn is_reset(x: Row) -> bool
     ensures { λ r. ⌜ r ≡ not (eqb (resetOf (rowItem x)) 0) ⌝ }

@@ -4,15 +4,13 @@ mod lines;
 
 use jobs::judge;
 use lines::whole;
+use refusals::NO_FILE;
 use refusals::WRONG_SIZE;
 ghost use mathlib.Core.Path.{_≡_};
 ghost use Rattle.aiger_form.specs.Calls.{exporter};
 ghost use Rattle.listing.specs.Listing.{outcome, written};
 ghost use Rattle.aiger_write.specs.Answers.{netlistOf, export};
 ghost use Rattle.aiger_write.specs.Lines.{fileText, Sized};
-
-// A job that no AIGER file holds.
-pub const NO_FILE: u32 = 14;
 
 // The scope document's number, and how many bytes the file has; 0 on refusal.
 pub struct Written {

@@ -1,4 +1,4 @@
-// The scope document's refusals, by their numbers. 0 is no refusal.
+// The refusals of the scope document and of the requests after it, by their numbers. 0 is no refusal.
 
 // A height outside 6..13.
 pub const NO_HEIGHT: u32 = 1;
@@ -32,6 +32,15 @@ pub const WRONG_GROUPS: u32 = 10;
 
 // A file that is no job, or a job that no file holds.
 pub const NO_JOB: u32 = 11;
+
+// An AIGER file that is malformed or cut.
+pub const MALFORMED: u32 = 12;
+
+// A latch's reset value other than 0.
+pub const BAD_RESET: u32 = 13;
+
+// A job that no AIGER file holds.
+pub const NO_FILE: u32 = 14;
 
 // A loop of gates.
 pub const LOOP: u32 = 23;

@@ -10,6 +10,7 @@ use lib.Seq.{sets, length-sets, paste, paste-zero, paste-suc, length-paste}
 use borrow.Author.Tests.{le-leb, lt-leb, lt-ltb, le-ltb, ltb-true, ltb-false}
 use Rattle.rules.specs.Lists.{Found, nothing, found}
 use Rattle.rules.proofs.Lists.Members.{split}
+use Rattle.rules.proofs.Lists.Parts.{sets-append}
 use Rattle.aiger_form.specs.Text.{Line, Numbers?, noNumbers, numbers, number, words, numbersOf, parts, space}
 use Rattle.aiger_form.specs.Aag.{Header, Item, skipped, items, gatherItems, orBad, gateItem, numbersItem, lineItem, symbolCount, symbolNumber, symbolWord, symbolItem, recordOf, recordsOf, latchOf, latchesOf}
 use Rattle.graph.specs.declared.Literal.{Literal}
@@ -91,10 +92,6 @@ module _ (i I L O : ℕ) where
 
 -- ---- line by line
 
-sets-more : (l : List ℕ) (s : ℕ) (xs ys : List ℕ) → sets (sets l s xs) (s + length xs) ys ≡ sets l s (xs ++ ys)
-sets-more l s [] ys = let z : s + 0 ≡ s = omega arith in rw z
-sets-more l s (x ∷ xs) ys = let z : s + suc (length xs) ≡ suc s + length xs = omega arith in rw z (sets-more (set l s x) (suc s) xs ys)
-
 -- what holds before the i-th line, at a place, with r numbers of records and l leaves stored
 pub record Filling (H : Header) (start : ℕ) (bytes records₀ records latches₀ latches : List ℕ) (at i r l : ℕ) : Type 0 where
   pub records-here : sets records r (recordsOf (items (spotsAt H i (linesFrom bytes at)))) ≡ sets records₀ 0 (recordsOf (items (spotsAt H 0 (linesFrom bytes start))))
@@ -155,8 +152,8 @@ module _ {H : Header} {start : ℕ} {bytes records₀ records latches₀ latches
     pub filling-more : {records′ latches′ : List ℕ} {r′ l′ : ℕ} → r′ ≡ r + length (recordOf x) → records′ ≡ sets records r (recordOf x) → l′ ≡ l + length (latchOf x) → latches′ ≡ sets latches l (latchOf x) → Filling H start bytes records₀ records′ latches₀ latches′ (e + 1) (i + 1) r′ l′
     unfolding rest
     filling-more er gr el gl = record {
-      records-here = rw (gr, er) (sets-more records r (recordOf x) (recordsOf rest) ∙ ap (sets records r) (sym records-are) ∙ S .records-here);
-      latches-here = rw (gl, el) (sets-more latches l (latchOf x) (latchesOf rest) ∙ ap (sets latches l) (sym latches-are) ∙ S .latches-here);
+      records-here = rw (gr, er) (sets-append records r (recordOf x) (recordsOf rest) ∙ ap (sets records r) (sym records-are) ∙ S .records-here);
+      latches-here = rw (gl, el) (sets-append latches l (latchOf x) (latchesOf rest) ∙ ap (sets latches l) (sym latches-are) ∙ S .latches-here);
       records-fit = omega (arith, S .records-fit, records-long);
       latches-fit = omega (arith, S .latches-fit, latches-long);
       records-size = ap length gr ∙ length-sets records r (recordOf x) ∙ S .records-size;

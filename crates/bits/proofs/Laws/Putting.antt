@@ -9,15 +9,11 @@ use lib.Seq.{sets, set-out, set-append-left}
 use lib.Pow.{pow-pos, pow-mono}
 use Rattle.rules.specs.Lists.{gather}
 use Rattle.rules.specs.Job.{bitsOf, numberOf}
+use Rattle.rules.proofs.Lists.Parts.{sets-append}
 use Rattle.rules.proofs.Job.Bits.{Bits, bits-of, bits-cons, bits-tail, bits-number, number-below, number-of, width}
 use Rattle.bits.specs.Fields.{bitsIn}
 use Rattle.bits.specs.Putting.{BitAt, WithBit, Put}
 use Rattle.bits.proofs.Laws.Fields.{bits-length}
-
--- bits put, and more put right behind them, are one longer list put
-pub sets-append : (a : List ℕ) (s : ℕ) (xs ys : List ℕ) → sets (sets a s xs) (s + length xs) ys ≡ sets a s (xs ++ ys)
-sets-append a s [] ys = rw (add-zero s)
-sets-append a s (x ∷ xs) ys = let e : s + suc (length xs) ≡ suc s + length xs = omega arith in rw e (sets-append (set a s x) (suc s) xs ys)
 
 -- ---- one bit of a byte
 

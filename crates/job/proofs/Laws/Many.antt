@@ -7,7 +7,7 @@ use lib.ListN.{length, drop, length-append}
 use lib.Seq.{sets}
 use Rattle.rules.specs.Job.{Read, cut, got, next, field, fields, readPin, readPins, readRecord, readRecords}
 use Rattle.bits.specs.Fields.{bitsIn}
-use Rattle.bits.proofs.Laws.Putting.{sets-append}
+use Rattle.rules.proofs.Lists.Parts.{sets-append}
 use Rattle.job.specs.Steps.{oneField, counted, At, FieldsAt, Took, Counted}
 
 -- what reads some numbers from bits, or finds them cut

@@ -44,7 +44,8 @@ firstAt-nothing n i (x ∷ cs) e (suc k) b d = split (eqb x n) (λ a. let z : fo
 -- ---- a gate's value
 
 module _ (g : List Node) (r : ℕ → ℕ) (G : Graph g r) (given bits : List ℕ) where
-  falls-first : (n a b : ℕ) → getD g n leaf ≡ gate a b → (r (pinOf a) < r n) × (r (pinOf b) < r n)
+  -- a gate's operands have lower ranks than it
+  pub falls-first : (n a b : ℕ) → getD g n leaf ≡ gate a b → (r (pinOf a) < r n) × (r (pinOf b) < r n)
   unfolding operands mem
   falls-first n a b e = (
     G .falls n (pinOf a) (in-below g [] n (pinOf a) refl (rw e (in-here (pinOf a) (pinOf b ∷ [])))),
@@ -60,7 +61,8 @@ module _ (g : List Node) (r : ℕ → ℕ) (G : Graph g r) (given bits : List �
       (λ x y c. let h = falls-first p x y c in
       rw (d, c, value, value-fuel e f (pinOf x) (omega (arith, h .0)) (omega (arith, h .0)), value-fuel e f (pinOf y) (omega (arith, h .1)) (omega (arith, h .1)))))
 
-  value-gate : (f p x y : ℕ) → r p < f → Out p given → getD g p leaf ≡ gate x y → value f g given bits p ≡ (literalBit x (value f g given bits (pinOf x)) && literalBit y (value f g given bits (pinOf y)))
+  -- with fuel enough the value of a gate that is not given is the AND of its two literals'
+  pub value-gate : (f p x y : ℕ) → r p < f → Out p given → getD g p leaf ≡ gate x y → value f g given bits p ≡ (literalBit x (value f g given bits (pinOf x)) && literalBit y (value f g given bits (pinOf y)))
   unfolding value
   value-gate zero p x y a o e = absurd (omega arith)
   value-gate (suc f) p x y a o e = let h = falls-first p x y e in

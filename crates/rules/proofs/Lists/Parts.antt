@@ -3,9 +3,9 @@ use Prim.Native.Nat.{ℕ, zero, suc, _+_, _*_, _/_, _%_, _≤_, _<_}
 use mathlib.Core.List.{List, [], _∷_, _++_, map}
 use mathlib.Core.Path.{_≡_, refl, sym, _∙_, ap}
 use native.Mathlib.Omega.{arith}
-use native.Mathlib.Nat.{div-add-mod'}
+use native.Mathlib.Nat.{div-add-mod', add-zero}
 use lib.ListN.{length, getD, set, take, drop, length-take, length-drop}
-use lib.Seq.{ext-getD, getD-take, getD-drop, length-take-le}
+use lib.Seq.{ext-getD, getD-take, getD-drop, length-take-le, sets}
 use Rattle.rules.specs.Lists.{laidOver}
 
 -- ---- lists that agree
@@ -31,6 +31,11 @@ part-same n a u v e s = take-same n (drop a u) (drop a v) (length-drop a u ∙ r
 pub part-laid : (n : ℕ) (xs ys : List ℕ) → n ≤ length xs → length ys ≡ length (take n xs) → ys ++ drop n xs ≡ laidOver ys xs
 unfolding laidOver
 part-laid n xs ys h e = let d : length ys ≡ n = e ∙ length-take-le n xs h in rw d refl
+
+-- numbers stored one behind the other, and more right behind them, are one longer list stored
+pub sets-append : (a : List ℕ) (s : ℕ) (xs ys : List ℕ) → sets (sets a s xs) (s + length xs) ys ≡ sets a s (xs ++ ys)
+sets-append a s [] ys = rw (add-zero s)
+sets-append a s (x ∷ xs) ys = let e : s + suc (length xs) ≡ suc s + length xs = omega arith in rw e (sets-append (set a s x) (suc s) xs ys)
 
 -- a whole multiple
 pub divides : (n s : ℕ) → n % s ≡ 0 → n ≡ n / s * s
