@@ -1,7 +1,7 @@
 /* Two of the scope document's bench examples at height 6. Pins 1 to 4 are leaves, 5 = (2, 4), 6 = (6, 9), 7 = (10, 12), output 14: as a job
- * file, which is read back, built, listed and folded; and built under the rule that writes idle runs too, with too few counts, and under a number
- * that names no rule. A merge: the leaf outputs 2 and 4, a partition each, no extra stages. And the AIGER document's half adder, read whole and cut,
- * and written again, with its two unused variables as inputs. */
+ * file, which is read back, built in D + 1 rooms, listed and folded; and built under the rule that writes idle runs too, with too few counts, and
+ * under a number that names no rule. D of a chain of 60 gates, and with a given pin near its end. A merge: the leaf outputs 2 and 4, a partition
+ * each, no extra stages. And the AIGER document's half adder, read whole and cut, and written again, with its two unused variables as inputs. */
 #include "placer.h"
 #include <stdio.h>
 #include <stdlib.h>
@@ -26,8 +26,7 @@ static void *numbers(size_t count) { return lent(count, sizeof(uint32_t)); }
 static uint32_t job(void) {
     static uint8_t file[PLACER_JOB_BYTES];
     static uint32_t g[PLACER_JOB_GATES], v[PLACER_JOB_GIVEN], r[PLACER_JOB_RECORDS];
-    size_t wrote[PLACER_WRITE_LEN], read[PLACER_READ_LEN], built[PLACER_BUILD_LEN], listed[PLACER_LIST_LEN];
-    const size_t rooms = 4;
+    size_t wrote[PLACER_WRITE_LEN], read[PLACER_READ_LEN], deep[PLACER_DEPTH_LEN], built[PLACER_BUILD_LEN], listed[PLACER_LIST_LEN];
     uint32_t number = write_job(6, gates, 16, given, 0, records, 2, file, sizeof file, wrote, PLACER_WRITE_LEN);
     if (number != PLACER_DONE)
         return number;
@@ -39,8 +38,16 @@ static uint32_t job(void) {
     uint32_t height = (uint32_t)read[PLACER_READ_HEIGHT];
     size_t gs = read[PLACER_READ_GATES], vs = read[PLACER_READ_GIVEN], rs = read[PLACER_READ_RECORDS];
 
-    size_t plan_len = placer_plan_size(height, rooms), words_len = placer_words_size(height), work_len = placer_build_work_size(gs, rs);
-    uint32_t *plan = numbers(plan_len), *words = numbers(words_len), *counts = numbers(rooms), *work = numbers(work_len);
+    size_t work_len = placer_build_work_size(gs, rs);
+    uint32_t *work = numbers(work_len);
+    number = placer_depth(g, gs, v, vs, r, rs, work, work_len, deep, PLACER_DEPTH_LEN);
+    if (number != PLACER_DONE)
+        return number;
+    size_t rooms = deep[PLACER_DEPTH_D] + 1;
+    printf("D %zu, so %zu rooms\n", deep[PLACER_DEPTH_D], rooms);
+
+    size_t plan_len = placer_plan_size(height, rooms), words_len = placer_words_size(height);
+    uint32_t *plan = numbers(plan_len), *words = numbers(words_len), *counts = numbers(rooms);
     number = placer_build(height, g, gs, v, vs, r, rs, plan, plan_len, words, words_len, counts, rooms, work, work_len, built, PLACER_BUILD_LEN);
 
     size_t out_len = placer_listing_size(height, built[PLACER_BUILD_STAGES], built[PLACER_BUILD_WORDS]);
@@ -81,6 +88,21 @@ static uint32_t show(uint32_t rule, size_t counts_len) {
     return number;
 }
 
+/* The chain of examples/split.txt: pins 1 and 2 are leaves, 3 = (2, 4), and each pin p after it (2 * (p - 1), 2). */
+static uint32_t splitting(void) {
+    uint32_t chain[126] = {E, E, E, E, E, E, 2, 4}, work[16 * 63 + 8 * 2 + 512];
+    const uint32_t output[2] = {1, 124}, finished[1] = {59};
+    size_t whole[PLACER_DEPTH_LEN], split[PLACER_DEPTH_LEN];
+    for (uint32_t p = 4; p <= 62; p++)
+        chain[2 * p] = 2 * (p - 1), chain[2 * p + 1] = 2;
+    uint32_t number = placer_depth(chain, 126, finished, 0, output, 2, work, sizeof work / sizeof *work, whole, PLACER_DEPTH_LEN);
+    if (number == PLACER_DONE)
+        number = placer_depth(chain, 126, finished, 1, output, 2, work, sizeof work / sizeof *work, split, PLACER_DEPTH_LEN);
+    if (number == PLACER_DONE)
+        printf("D %zu, with pin 59 given %zu\n", whole[PLACER_DEPTH_D], split[PLACER_DEPTH_D]);
+    return number;
+}
+
 static void merging(void) {
     const uint32_t leaves[6] = {E, E, E, E, E, E};
     const uint32_t outputs[4] = {1, 2, 1, 4};
@@ -117,7 +139,9 @@ static uint32_t aiger(void) {
 
 int main(void) {
     size_t answer[PLACER_BUILD_LEN];
-    uint32_t whole = job(), every = show(PLACER_EVERY_RUN, 1), small = show(PLACER_NEEDED_RUNS, 0), none = first(2, 1, answer);
+    uint32_t whole = job(), every = show(PLACER_EVERY_RUN, 1), small = show(PLACER_NEEDED_RUNS, 0), none = first(2, 1, answer), deep = splitting();
     merging();
-    return aiger() != PLACER_DONE || whole != PLACER_DONE || every != PLACER_DONE || small != PLACER_WRONG_SIZE || none != PLACER_WRONG_SIZE;
+    if (aiger() != PLACER_DONE)
+        return 1;
+    return whole != PLACER_DONE || deep != PLACER_DONE || every != PLACER_DONE || small != PLACER_WRONG_SIZE || none != PLACER_WRONG_SIZE;
 }

@@ -8,11 +8,12 @@
  * Before.  Areas that are filled or scratch (plan, words, counts, work, result, out) need not be cleared.
  * Threads. The library keeps nothing between calls and has no variables of its own. While a call runs, no thread writes its areas, and none
  *          reads those that it writes.
- * Stack.   Where the gates are not in order (a gate has an operand above it), a build, merge or fold takes up to 1 MiB of stack: the search
- *          for a loop has its marks there, since what is lent must stay unchanged. Else a call takes a few kilobytes; reading an AIGER file takes
- *          600 kB more, for the same reason, and writing one 70 kB more.
+ * Stack.   Where the gates are not in order (a gate has an operand above it), a build, merge or fold takes up to 1 MiB of stack, and so
+ *          does placer_depth: the search for a loop has its marks there, since what is lent must stay unchanged. Else a call takes a few
+ *          kilobytes; reading an AIGER file takes 600 kB more, for the same reason, and writing one 70 kB more.
  * Rooms.   A room is the memory of one stage: 2^(height + 1) numbers of the plan and one of counts. A build fills as many as it has stages.
- *          D + 1 rooms are enough, D the most gates on a way from an endpoint down to a leaf; with fewer a build may be refused with 9. */
+ *          Lend D + 1 rooms, and a refusal is about capacity (6, 7 or 8), never about rooms (9). D is the most gates on a way from an
+ *          endpoint down to a leaf or a given pin, and placer_depth tells it. */
 #ifndef PLACER_H
 #define PLACER_H
 
@@ -166,6 +167,20 @@ static inline uint32_t placer_build(uint32_t height, const uint32_t *gates, size
     return placer_build_by(PLACER_NEEDED_RUNS, height, gates, gates_len, given, given_len, records, records_len, plan, plan_len, words,
                            words_len, counts, counts_len, work, work_len, answer, answer_len);
 }
+
+/* ---- Rooms */
+
+/* The answer of placer_depth: what is returned (0, 2, 3, 23, 4 or 5); D; with 23 the pin. What does not apply is 0. */
+enum placer_depth_answer { PLACER_DEPTH_NUMBER, PLACER_DEPTH_D, PLACER_DEPTH_PIN, PLACER_DEPTH_LEN };
+
+/* D, for how many rooms to lend: a build of these gates, given pins and records with D + 1 rooms is never refused with 9, at any height.
+ * gates, given, records: as for a build
+ * work:    at least placer_build_work_size(gates_len, records_len) numbers; scratch, 0 afterwards
+ * answer:  at least PLACER_DEPTH_LEN numbers
+ *
+ * Returns the number. Where `answer` is too short that is 2, and nothing is changed. */
+uint32_t placer_depth(const uint32_t *gates, size_t gates_len, const uint32_t *given, size_t given_len, const uint32_t *records,
+                      size_t records_len, uint32_t *work, size_t work_len, size_t *answer, size_t answer_len);
 
 /* ---- A merge */
 

@@ -1,12 +1,12 @@
 //! Two of the scope document's bench examples at height 6. Pins 1 to 4 are leaves, 5 = (2, 4), 6 = (6, 9), 7 = (10, 12), output 14: as a job
-//! file, which is read back, built, listed and folded; and built under the rule that writes idle runs too, and with too few counts. A merge: the leaf
-//! outputs 2 and 4, a partition each, no extra stages. And the AIGER document's half adder, read whole and cut, and
-//! written again, with its two unused variables as inputs.
+//! file, which is read back, built in D + 1 rooms, listed and folded; and built under the rule that writes idle runs too, and with too few counts.
+//! D of a chain of 60 gates, and with a given pin near its end. A merge: the leaf outputs 2 and 4, a partition each, no extra stages. And the AIGER
+//! document's half adder, read whole and cut, and written again, with its two unused variables as inputs.
 #[allow(dead_code)] // not all of it is shown
 #[path = "placer.rs"]
 mod placer;
 
-use placer::{build, build_by, fold, list_answer, merge, read_aiger, read_job, write_aiger, write_job, Areas, Groups, Refusal, WordRule, EMPTY as E};
+use placer::{build, build_by, depth, fold, list_answer, merge, read_aiger, read_job, write_aiger, write_job, Areas, Groups, Refusal, WordRule, EMPTY as E};
 
 const GATES: [u32; 16] = [E, E, E, E, E, E, E, E, E, E, 2, 4, 6, 9, 10, 12];
 const RECORDS: [u32; 2] = [1, 14];
@@ -19,13 +19,17 @@ fn job() {
 
     let (mut gates, mut given, mut records) = ([0; placer::JOB_GATES], [0; placer::JOB_GIVEN], [0; placer::JOB_RECORDS]);
     let read = read_job(&file[..wrote.length], &mut gates, &mut given, &mut records);
-    let (height, rooms) = (read.height, 4);
+    let height = read.height;
     let (gates, given, records) = (&gates[..read.gates], &given[..read.given], &records[..read.records]);
+
+    let mut work = vec![0; placer::build_work_size(gates.len(), records.len())];
+    let deep = depth(gates, given, records, &mut work).depth;
+    let rooms = deep + 1;
+    println!("D {deep}, so {rooms} rooms");
 
     let mut plan = vec![0; placer::plan_size(height, rooms)];
     let mut words = vec![0; placer::words_size(height)];
     let mut counts = vec![0; rooms];
-    let mut work = vec![0; placer::build_work_size(gates.len(), records.len())];
     let areas = Areas { plan: &mut plan, words: &mut words, counts: &mut counts, work: &mut work };
     let built = build(height, gates, given, records, areas);
 
@@ -52,6 +56,16 @@ fn first(rule: WordRule, counts: usize) {
         None => println!("rule {}: stages {} words {}", rule as u32, answer.stages, answer.words),
         Some(refusal) => println!("rule {}: {refusal}", rule as u32),
     }
+}
+
+/// The chain of examples/split.txt: pins 1 and 2 are leaves, 3 = (2, 4), and each pin p after it (2 * (p - 1), 2).
+fn splitting() {
+    let mut chain = vec![E, E, E, E, E, E, 2, 4];
+    chain.extend((4..=62).flat_map(|p| [2 * (p - 1), 2]));
+    let mut work = [0; 16 * 63 + 8 * 2 + 512];
+    let whole = depth(&chain, &[], &[1, 124], &mut work).depth;
+    let split = depth(&chain, &[59], &[1, 124], &mut work).depth;
+    println!("D {whole}, with pin 59 given {split}");
 }
 
 fn merging() {
@@ -84,6 +98,7 @@ fn main() {
     job();
     first(WordRule::EveryRun, 1);
     first(WordRule::NeededRuns, 0);
+    splitting();
     merging();
     aiger();
 }

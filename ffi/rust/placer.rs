@@ -2,10 +2,12 @@
 //! No crate beyond `core` is needed. Every function takes any numbers and slices, and answers or refuses; none panics.
 //!
 //! A room is the memory of one stage: `stage_size(height)` numbers of the plan and one of the counts. A build fills as many as it has stages.
-//! D + 1 rooms are enough, D the most gates on a way from an endpoint down to a leaf; with fewer a build may be refused with `NoRoom`.
+//! Lend D + 1 rooms, and a refusal is about capacity (`OverReserved`, `OverWords` or `NoCell`), never about rooms (`NoRoom`). D is the most
+//! gates on a way from an endpoint down to a leaf or a given pin, and `depth` tells it.
 //!
 //! The library keeps nothing between calls, so threads may call it at once. Where the gates are not in order (a gate has an operand above it) a
-//! build, merge or fold takes up to 1 MiB of its thread's stack, else a few kilobytes; reading an AIGER file takes 600 kB more, writing one 70 kB.
+//! build, depth, merge or fold takes up to 1 MiB of its thread's stack, else a few kilobytes; reading an AIGER file takes 600 kB more, writing one
+//! 70 kB.
 
 use core::fmt;
 
@@ -218,6 +220,14 @@ pub struct Groups<'a> {
     pub stages: &'a mut [u32],
 }
 
+/// The numbers that `depth` answers: 0 and D, or what refuses it and 0; with 23 the smallest pin on any loop.
+#[derive(Clone, Copy, Debug, PartialEq, Eq)]
+pub struct Depth {
+    pub number: u32,
+    pub depth: usize,
+    pub pin: usize,
+}
+
 /// The numbers that a fold answers: 0, or what refuses it; with 23 the smallest pin on any loop.
 #[derive(Clone, Copy, Debug, PartialEq, Eq)]
 pub struct Folded {
@@ -265,6 +275,14 @@ extern "C" {
         plan: *mut u32, plan_len: usize,
         words: *mut u32, words_len: usize,
         counts: *mut u32, counts_len: usize,
+        work: *mut u32, work_len: usize,
+        answer: *mut usize, answer_len: usize,
+    ) -> u32;
+
+    fn placer_depth(
+        gates: *const u32, gates_len: usize,
+        given: *const u32, given_len: usize,
+        records: *const u32, records_len: usize,
         work: *mut u32, work_len: usize,
         answer: *mut usize, answer_len: usize,
     ) -> u32;
@@ -375,6 +393,23 @@ pub fn build_by(rule: WordRule, height: u32, gates: &[u32], given: &[u32], recor
         )
     };
     Answer { number, stages: answer[1], words: answer[2], stage: answer[3], pin: answer[4] }
+}
+
+/// D, for how many rooms to lend: a build of these gates, given pins and records with D + 1 rooms is never refused with `NoRoom`, at any height.
+/// The work is a build's, and 0 afterwards.
+pub fn depth(gates: &[u32], given: &[u32], records: &[u32], work: &mut [u32]) -> Depth {
+    let mut answer = [0usize; 3];
+    // SAFETY: as for `build_by`.
+    let number = unsafe {
+        placer_depth(
+            gates.as_ptr(), gates.len(),
+            given.as_ptr(), given.len(),
+            records.as_ptr(), records.len(),
+            work.as_mut_ptr(), work.len(),
+            answer.as_mut_ptr(), answer.len(),
+        )
+    };
+    Depth { number, depth: answer[1], pin: answer[2] }
 }
 
 /// Merges partitions while no union takes more stages than the greatest of them and `extra` more. It takes any numbers and slices.

@@ -14,6 +14,7 @@ use Rattle.rules.specs.Graph.{graphOf}
 use Rattle.rules.specs.Records.{Group, output, flipFlop, memory, stagedPin, Groups?, unreadable, groups, read}
 use Rattle.rules.specs.Checks.{refusalOf}
 use Rattle.rules.proofs.Lists.Members.{split, and-true}
+use Rattle.checks.proofs.Laws.Passed.{any-height}
 use Rattle.aiger_form.specs.Aag.{Netlist, netlistRead, anyHeight, checked, readAag, Ends?, noEnds, ends, withOutput, withData, endsOf, isLeafPin, different, Written, noAag, aag, fileLines, writable, writeEnds, writeAag}
 use Rattle.aiger_form.specs.Text.{unlines}
 use Rattle.aiger_form.specs.Jobs.{Named}
@@ -24,14 +25,10 @@ use Rattle.aiger_form.proofs.Round.{round-trip}
 
 -- ---- what is read passes the checks
 
-any-height : (K J : ℕ) → isHeight K ≡ true → isHeight J ≡ true → (sized : Bool) (gates given records : List ℕ) → refusalOf K sized gates given records ≡ refusalOf J sized gates given records
-unfolding refusalOf
-any-height K J h k sized gates given records = rw (h, refusalOf, k)
-
 -- a build of what is read is refused by none of 1 to 5 and 23, at any height and with areas of the right sizes
 pub read-builds : (sized : Netlist → Bool) (bytes : List ℕ) (n : Netlist) → readAag sized bytes ≡ netlistRead n → (K : ℕ) → isHeight K ≡ true → refusalOf K true (n .gates) [] (n .records) ≡ 0
 unfolding checked
-read-builds sized bytes n e K h = any-height K anyHeight h tall true (n .gates) [] (n .records) ∙ accepted sized bytes n e .free
+read-builds sized bytes n e K h = any-height K anyHeight true (n .gates) [] (n .records) h tall ∙ accepted sized bytes n e .free
   where
     tall : isHeight anyHeight ≡ true
     tall = unfold isHeight in refl

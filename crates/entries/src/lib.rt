@@ -2,6 +2,7 @@
 mod aiger_entry;
 mod answers;
 mod build_entry;
+mod depth_entry;
 mod fold_entry;
 mod list_entry;
 mod merge_entry;

@@ -7,6 +7,8 @@ use lib.ListN.{take, replicate}
 use Rattle.rules.specs.Lists.{sameList, upTo, gather, swapOut}
 use Rattle.rules.specs.Cells.{empty, stageSize, wordLimit, levelOf, cellOf, firstLower, secondLower, rowOf}
 use Rattle.rules.specs.Graph.{graphOf}
+use Rattle.rules.specs.Records.{groupsOf}
+use Rattle.rules.specs.Depth.{deepest}
 use Rattle.rules.specs.Traversal.{WordRule, everyRun, neededRuns, setting}
 use Rattle.rules.specs.Placing.{place, takeBack, filledPlan}
 use Rattle.rules.specs.Checks.{workSize, pinShown}
@@ -60,6 +62,14 @@ looped = leaves 0 ++ (8 ∷ 4 ∷ empty ∷ empty ∷ 10 ∷ 4 ∷ 10 ∷ 4 ∷ 
 -- 1 a leaf, 2 = (2, 4)
 abbrev own : List ℕ
 own = leaves 1 ++ (2 ∷ 4 ∷ [])
+
+-- 3 = (2, 4), 4 = (2, 6): the longer chain goes by the second operand
+abbrev aside : List ℕ
+aside = leaves 2 ++ (2 ∷ 4 ∷ 2 ∷ 6 ∷ [])
+
+-- D of outputs, for some given pins
+abbrev deep : (gates ls given : List ℕ) → ℕ
+deep gates ls given = deepest (graphOf gates) given (groupsOf (outputs ls))
 
 -- r rooms and a work area that counts at n, full of sevens, each area but the plan with a number past its size
 abbrev pub sevens : ℕ → ℕ → ℕ → Areas
@@ -150,6 +160,11 @@ table =
     ++ both (λ rule. printed rule (fileBytes (writeJob (record { height = 6; gates = looped; given = []; records = [] }))) ∷ []) (text "refused 23 stage 0 pin 3\n" ∷ [])
     ++ (record { gives = built everyRun 6 4 turned (outputs (2 ∷ [])); says = (0 ∷ 1 ∷ 2 ∷ 0 ∷ []) ∷ (1 ∷ 0 ∷ 7 ∷ []) ∷ (2 ∷ 0 ∷ 0 ∷ 0 ∷ 7 ∷ []) ∷ [] }
     ∷ record { gives = built neededRuns 6 4 turned (outputs (2 ∷ [])); says = (0 ∷ 1 ∷ 1 ∷ 0 ∷ []) ∷ (0 ∷ empty ∷ 7 ∷ []) ∷ (1 ∷ 0 ∷ 0 ∷ 0 ∷ 7 ∷ []) ∷ [] }
+    -- D of the chain's output: to the leaves; to a given pin on the way, which is the endpoint too or not; 0 where the endpoint is given; and by a second operand
+    ∷ record {
+      gives = (deep chain (30 ∷ []) [] ∷ deep chain (30 ∷ []) (12 ∷ []) ∷ deep chain (30 ∷ 24 ∷ []) (12 ∷ []) ∷ deep chain (30 ∷ []) (15 ∷ []) ∷ deep chain (0 ∷ []) [] ∷ deep aside (8 ∷ []) [] ∷ []) ∷ [];
+      says = (7 ∷ 3 ∷ 3 ∷ 0 ∷ 0 ∷ 2 ∷ []) ∷ [];
+    }
     -- errors that look right: a word listed once, a waiting list shifted down, lower cells 2p and 2p+1; and where blocks start
     ∷ record { gives = built everyRun 7 1 first (outputs (14 ∷ 10 ∷ [])); says = (0 ∷ 1 ∷ 4 ∷ 0 ∷ []) ∷ (2 ∷ 3 ∷ 2 ∷ 1 ∷ 7 ∷ []) ∷ (4 ∷ 7 ∷ []) ∷ [] }
     ∷ record { gives = swapOut 2 (1 ∷ 2 ∷ 3 ∷ 4 ∷ []) ∷ []; says = (1 ∷ 4 ∷ 3 ∷ []) ∷ [] }

@@ -20,7 +20,7 @@ use Rattle.rules.specs.Ending.{stage, oneStage}
 use Rattle.rules.specs.Build.{Stage, refusal, whole, stages, build}
 use Rattle.rules.specs.States.{state, after}
 use Rattle.rules.specs.Capacity.{Refused}
-use Rattle.rules.specs.Depth.{depth, remaining}
+use Rattle.rules.specs.Depth.{depth, remaining, deepest}
 use Rattle.rules.specs.Fold.{bitAt, isLeaf, firstLoad, loadFrom}
 use Rattle.rules.proofs.Lists.Members.{split, T→true, in-here, in-there, in-cons, in-nil, in-append-right, in-insertAll, in-insertAll-old, insertAll-in, keep-in, in-keep}
 use Rattle.rules.proofs.Walk.Levels.{over-least, over-above}
@@ -96,6 +96,18 @@ unfolding depth
 depth-sub g done stop h zero p = omega arith
 depth-sub g done stop h (suc f) p = over-least (depth f g stop) (below g stop p) (over (depth f g done) (below g done p))
     (λ x i. omega (arith, depth-sub g done stop h f x, over-above (depth f g done) (below g done p) x (below-sub g done stop h p x i)))
+
+-- a pin to stop at has no depth
+pub depth-stop : (g : List Node) (stop : List ℕ) (f p : ℕ) → In p stop → depth f g stop p ≡ 0
+unfolding depth below over
+depth-stop g stop zero p i = refl
+depth-stop g stop (suc f) p i = rw (i, below)
+
+-- where more pins are given D is no greater
+pub deepest-sub : (g : List Node) (done stop : List ℕ) → Sub done stop → (xs : List Group) → deepest g stop xs ≤ deepest g done xs
+unfolding deepest
+deepest-sub g done stop h xs = remaining-least (length g) g stop (waitingOf xs []) (remaining (length g) g done (waitingOf xs []))
+    (λ x i. omega (arith, depth-sub g done stop h (length g) x, remaining-above (length g) g done (waitingOf xs []) x i))
 
 -- the endpoint pins, the constant left out
 waitingOf-once : (xs : List Group) {ws : List ℕ} → Once ws → Once (waitingOf xs ws)
@@ -214,25 +226,22 @@ module _ (rule : WordRule) (K : ℕ) (g : List Node) (ok : Valid g) (tall : 6 �
       bounded = λ x i. let h : x < length g = elim (wait-ends x groups [] i) [ inl a ↦ in-nil x a | inr a ↦ named x a ] in (h, graph-few g ok x h);
     }
 
-    -- D: the longest chain of gates under any endpoint pin
+    -- D: the longest chain of gates under any endpoint pin, down to leaves and given pins
     abbrev pub D : ℕ
-    D = remaining (length g) g [] waiting
-
-    given-less : remaining (length g) g given waiting ≤ D
-    given-less = remaining-least (length g) g given waiting D (λ x i. omega (arith, depth-sub g [] given (λ q e. in-nil q e) (length g) x, remaining-above (length g) g [] waiting x i))
+    D = remaining (length g) g given waiting
 
     -- if pins still wait after s stages, s is at most D and what remains is at most D - s deep
     pub depth-falls : (s : ℕ) (done2 waiting2 : List ℕ) (room2 : ℕ) → after rule K g given groups s ≡ state done2 waiting2 room2 → waiting2 ≢ [] → (s ≤ D) × (remaining (length g) g done2 waiting2 ≤ D - s)
     unfolding after
     depth-falls s done2 waiting2 room2 e n = split (reservable K groups)
-        (λ c. let h = shallow rule K g r G tall small s given waiting ready (wordLimit K - reserved groups) (rw (c, after) at e) in (omega (arith, h .few n, given-less), omega (arith, h .depth, given-less)))
+        (λ c. let h = shallow rule K g r G tall small s given waiting ready (wordLimit K - reserved groups) (rw (c, after) at e) in (h .few n, h .depth))
         (λ c. absurd (let d = rw (c, after) at e in let z : _≡_ {A = ℕ} 0 1 = cc in omega arith))
 
     -- with D + 1 rooms a build ends in a whole plan, or in 6, 7 or 8
     pub rooms-enough : (rooms n j : ℕ) → D < rooms → build rule K g given groups rooms ≡ refusal n j → (n ≡ 6) ⊎ ((n ≡ 7) ⊎ (n ≡ 8))
     unfolding build
     rooms-enough rooms n j b e = split (reservable K groups)
-        (λ c. inr (rooms-suffice rule K g r G tall small rooms 1 given waiting ready (wordLimit K - reserved groups) (inr (omega (arith, given-less))) n j (rw (c, build) at e)))
+        (λ c. inr (rooms-suffice rule K g r G tall small rooms 1 given waiting ready (wordLimit K - reserved groups) (inr b) n j (rw (c, build) at e)))
         (λ c. let d : refusal 6 0 ≡ refusal n j = rw (c, build) at e in inl (cc))
 
     -- a refused build has run out of capacity

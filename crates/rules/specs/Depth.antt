@@ -1,4 +1,4 @@
--- The depth of a pin, D, and the remaining depth: one definition over the pins to stop at. Assumes nothing.
+-- The depth of a pin, D, and the remaining depth: one definition over the pins to stop at, for D the given ones. Assumes nothing.
 use Prim.Native.Nat.{ℕ, zero, suc, max}
 use mathlib.Core.List.{List, [], _∷_}
 use lib.ListN.{length}
@@ -16,6 +16,6 @@ unfoldable pub remaining : ℕ → List Node → List ℕ → List ℕ → ℕ
 remaining f g stop [] = 0
 remaining f g stop (w ∷ ws) = max (depth f g stop w) (remaining f g stop ws)
 
--- D: the longest chain of gates under any endpoint pin, whether or not a pin on the way is given
-unfoldable pub deepest : List Node → List Group → ℕ
-deepest g xs = remaining (length g) g [] (waitingOf xs [])
+-- D: the longest chain of gates under any endpoint pin, down to leaves and given pins; an endpoint that is itself given counts 0
+unfoldable pub deepest : List Node → List ℕ → List Group → ℕ
+deepest g given xs = remaining (length g) g given (waitingOf xs [])

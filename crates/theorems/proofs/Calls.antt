@@ -40,7 +40,8 @@ pub record Call : Type 0 where
   pub exit : rules.Areas
   pub ensures : outcome answer (exit .plan) (exit .words) (exit .counts) (exit .work) ≡ rules.placer rule height gates given records entry
 
-abbrev checked : Call → ℕ
+-- the number of its first refusal by a check, or 0
+abbrev pub checked : Call → ℕ
 checked C = refusalOf (C .height) (rules.sizesRight (C .height) (C .gates) (C .records) (C .entry)) (C .gates) (C .given) (C .records)
 
 -- a call that the checks let pass

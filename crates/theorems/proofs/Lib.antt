@@ -7,6 +7,7 @@ pub mod Writing
 pub mod Reading
 pub mod Calls
 pub mod Folds
+pub mod Depths
 pub mod Top
 pub mod Rules
 pub mod Frauds

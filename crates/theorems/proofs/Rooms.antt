@@ -1,13 +1,24 @@
 -- Demand 3, 2: rooms, and what each refusal says. Assumes nothing.
-use Prim.Native.Nat.{ℕ, _<_}
+use Prim.Native.Nat.{ℕ, _<_, _≤_}
 use mathlib.Core.Path.{_≡_}
 use mathlib.Core.Logic.{_⊎_}
 use mathlib.Core.List.{[]}
+use lib.ListN.{length}
+use Rattle.rules.specs.Lists.{In}
 use Rattle.rules.specs.Build.{refusal}
-use Rattle.rules.specs.Depth.{deepest}
+use Rattle.rules.specs.Depth.{depth, deepest}
+use Rattle.rules.proofs.Lists.Members.{in-nil}
 use Rattle.rules.proofs.Demand as demand
 use Rattle.theorems.specs.Inputs.{Input, graph, groups, D, built, Refused}
 use Rattle.theorems.proofs.Passing.{tall, small, valid, named}
+
+-- D is at most what it is where no pin is given, as it was counted once.
+pub no-deeper : (I : Input) → D I ≤ deepest (graph I) [] (groups I)
+no-deeper I = demand.deepest-sub (graph I) [] (I .given) (λ q i. in-nil q i) (groups I)
+
+-- An endpoint that is itself given counts 0.
+pub given-counts-none : (I : Input) (q : ℕ) → In q (I .given) → depth (length (graph I)) (graph I) (I .given) q ≡ 0
+given-counts-none I q i = demand.depth-stop (graph I) (I .given) (length (graph I)) q i
 
 -- With D + 1 rooms a build ends in a whole plan, or in 6, 7 or 8: never in 9.
 pub rooms-enough : (I : Input) (rooms : ℕ) → D I < rooms → (n k : ℕ) → built I rooms ≡ refusal n k → (n ≡ 6) ⊎ ((n ≡ 7) ⊎ (n ≡ 8))

@@ -33,9 +33,9 @@ graph I = graphOf (I .gates)
 abbrev pub groups : Input → List Group
 groups I = groupsOf (I .records)
 
--- the longest chain of gates under any endpoint pin
+-- the longest chain of gates under any endpoint pin, down to leaves and given pins
 abbrev pub D : Input → ℕ
-D I = depth.deepest (graph I) (groups I)
+D I = depth.deepest (graph I) (I .given) (groups I)
 
 -- how many gates deep some pins are, down to leaves and to pins that are done
 abbrev pub remaining : Input → (done waiting : List ℕ) → ℕ

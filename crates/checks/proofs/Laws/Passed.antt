@@ -23,6 +23,11 @@ use Rattle.graph_loops.specs.Marks.{Inside}
 use Rattle.records.proofs.Reading.{read-step, read-end, read-cut, size-endpoints, endpoint-is}
 use Rattle.checks.proofs.Laws.Refusing.{refusal-1, refusal-2, refusal-3, refusal-23, refusal-4, refusal-5}
 
+-- The checks after 1 ask for no height: any two heights get the same refusal.
+pub any-height : (K J : ℕ) (sized : Bool) (gates given records : List ℕ) → isHeight K ≡ true → isHeight J ≡ true → refusalOf K sized gates given records ≡ refusalOf J sized gates given records
+unfolding refusalOf
+any-height K J sized gates given records h j = rw (h, j, refusalOf)
+
 -- a gate that passes check 3 has pins above 0 and below n, and the gates behind it pass
 pub gate-below : (n p a b : ℕ) (g : List Node) → nodesRight n p (gate a b ∷ g) ≡ true → Below n a b × (nodesRight n (suc p) g ≡ true)
 unfolding nodesRight

@@ -12,7 +12,7 @@ use Rattle.entries.specs.Merge.{Lent, lent}
 use Rattle.entries.specs.Fold as fold
 use Rattle.entries.specs.Jobs.{Lists, lists}
 
--- of any entry, its areas as one value: `list_answer`, `write_job` and `write_aiger` lend one area
+-- of any entry, its areas as one value: `placer_depth`, `list_answer`, `write_job` and `write_aiger` lend one area
 pub one-outcome : {A : Type 0} (o : Entry A) (n n′ : ℕ) (a a′ : A) (xs xs′ : List ℕ) → entry n a xs ≡ o → entry n′ a′ xs′ ≡ o → (n ≡ n′) × (a ≡ a′) × (xs ≡ xs′)
 unfolding entry
 one-outcome {A} o n n′ a a′ xs xs′ d e =

@@ -1,13 +1,13 @@
 -- Rule 2: the level table holds each listed pin's depth. Assumes nothing.
-use Prim.Native.Nat.{ℕ, zero, suc, _≤_, _<_, zero-le}
+use Prim.Native.Nat.{ℕ, zero, suc, _≤_, _<_, max, zero-le}
 use mathlib.Core.Path.{_≡_, refl, _∙_}
 use mathlib.Core.Logic.{inl, inr}
-use mathlib.Core.List.{List, [], _∷_}
+use mathlib.Core.List.{List, [], _∷_, map}
 use native.Mathlib.Omega.{arith}
 use lib.ListN.{length, getD, length-set, length-replicate}
 use lib.Seq.{getD-set-same, getD-set-other}
 use Rattle.rules.specs.Graph.{Node, below}
-use Rattle.rules.specs.Traversal.{over, levels}
+use Rattle.rules.specs.Traversal.{over, levels, greatest}
 use Rattle.rules.specs.Depth.{depth}
 use Rattle.rules.specs.Lists.{In}
 use Rattle.rules.proofs.Lists.Members.{in-here, in-there, in-cons, in-nil, in-out}
@@ -30,6 +30,23 @@ pub over-least : (n : ℕ → ℕ) (xs : List ℕ) (m : ℕ) → ((x : ℕ) → 
 unfolding over
 over-least n [] m h = zero-le
 over-least n (x ∷ xs) m h = omega (arith, h x (in-here x xs), over-least n xs m (λ y e. h y (in-there y x xs e)))
+
+-- the greatest of some numbers is no greater than what none of them exceeds
+pub greatest-most : (f : ℕ → ℕ) (n a : ℕ) (xs : List ℕ) → a ≤ n → ((x : ℕ) → In x xs → f x ≤ n) → greatest (map f xs) a ≤ n
+unfolding greatest
+greatest-most f n a [] b h = b
+greatest-most f n a (x ∷ xs) b h = greatest-most f n (max (f x) a) xs (omega (arith, h x (in-here x xs))) (λ y e. h y (in-there y x xs e))
+
+greatest-start : (f : ℕ → ℕ) (a : ℕ) (xs : List ℕ) → a ≤ greatest (map f xs) a
+unfolding greatest
+greatest-start f a [] = omega arith
+greatest-start f a (x ∷ xs) = omega (arith, greatest-start f (max (f x) a) xs)
+
+-- and none of them exceeds it
+pub greatest-above : (f : ℕ → ℕ) (a : ℕ) (xs : List ℕ) (x : ℕ) → In x xs → f x ≤ greatest (map f xs) a
+unfolding greatest
+greatest-above f a [] x e = in-nil x e
+greatest-above f a (y ∷ ys) x e = elim (in-cons x y ys e) [ inl d ↦ rw d (omega (arith, greatest-start f (max (f y) a) ys)) | inr d ↦ greatest-above f (max (f y) a) ys x d ]
 
 module _ (g : List Node) (done : List ℕ) (r : ℕ → ℕ) (k : Ranked g done r) where
   -- any fuel above a pin's rank gives the same depth

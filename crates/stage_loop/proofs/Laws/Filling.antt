@@ -1,16 +1,16 @@
 -- Rules 2 to 7 on an empty stage: where the loop starts, and what it comes to. Assumes nothing.
-use Prim.Native.Nat.{ℕ, zero, suc, _-_, _≤_, _<_, max, min}
+use Prim.Native.Nat.{ℕ, zero, suc, _-_, _≤_, _<_, min}
 use mathlib.Core.Path.{_≡_, refl, sym, _∙_}
-use mathlib.Core.List.{List, [], _∷_, map}
+use mathlib.Core.List.{List, []}
 use native.Mathlib.Omega.{arith}
 use lib.ListN.{length}
 use borrow.Author.Tests.{le-leb}
-use Rattle.rules.specs.Lists.{mem, In}
+use Rattle.rules.specs.Lists.{mem}
 use Rattle.rules.specs.Cells.{isHeight, levelOneSize, rowAt}
-use Rattle.rules.specs.Traversal.{Setting, levelAt, greatest}
+use Rattle.rules.specs.Traversal.{Setting, levelAt}
 use Rattle.rules.specs.Placing.{neededOf, filledPlan}
 use Rattle.rules.specs.Inside.Lean.{blank, wanted, lean, leanPlan}
-use Rattle.rules.proofs.Lists.Members.{in-here, in-there}
+use Rattle.rules.proofs.Walk.Levels.{greatest-most}
 use Rattle.rules.proofs.Needed.Lacks.{same-needed}
 use Rattle.rules.specs.Inside.Plans.{Fair}
 use Rattle.rules.proofs.Lean.Lean.{lean-plan, lean-tidy}
@@ -37,12 +37,6 @@ row-there {K} {h} {r} A e =
 pub clear-marks : {g m : ℕ} {w : List ℕ} → Clear g m w → Marks g m [] w
 unfolding mem
 clear-marks c = record { mark = λ p b. c .zero p b }
-
--- the greatest of some numbers is no greater than what none of them exceeds
-greatest-most : (f : ℕ → ℕ) (n a : ℕ) (xs : List ℕ) → a ≤ n → ((x : ℕ) → In x xs → f x ≤ n) → greatest (map f xs) a ≤ n
-unfolding greatest
-greatest-most f n a [] b h = b
-greatest-most f n a (x ∷ xs) b h = greatest-most f n (max (f x) a) xs (omega (arith, h x (in-here x xs))) (λ y e. h y (in-there y x xs e))
 
 lean-low : (X : Setting) (h b : ℕ) (pl : List ℕ) → h < 2 → lean X h b pl ≡ pl
 unfolding lean

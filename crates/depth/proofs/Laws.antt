@@ -1,0 +1,4 @@
+pub mod Deepest
+pub mod Walks
+pub mod Outcome
+pub mod Unique

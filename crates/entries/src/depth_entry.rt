@@ -1,0 +1,31 @@
+// The entry that tells D.
+use crate::answers::tell;
+use columns::wide;
+use depth::depth;
+use refusals::WRONG_SIZE;
+ghost use mathlib.Core.Path.{_≡_};
+ghost use Rattle.entries.specs.Entry.{entry};
+ghost use Rattle.entries.specs.Depth.{depthTold};
+
+// As `depth::depth`, with number, D and pin in the first three numbers of `answer`. Returns the number. Where `answer` is shorter that is 2,
+// and nothing is changed.
+#[no_mangle]
+pub extern "C" fn placer_depth(
+    gates: &[u32],
+    given: &[u32],
+    records: &[u32],
+    work: &mut [u32],
+    answer: &mut [usize],
+) -> u32
+    ensures { λ r. ⌜ entry r (now (work .exit)) (now (answer .exit)) ≡ depthTold (now (gates .entry)) (now (given .entry)) (now (records .entry)) (now (work .entry)) (now (answer .entry)) ⌝ }
+{
+    if answer.len() < 3 {
+        return WRONG_SIZE;
+    }
+    let a = depth(gates, given, records, work);
+    let pin = a.pin;
+    let shown = pin.index();
+    let numbers = [wide(a.number), a.depth, shown];
+    tell(&numbers, answer);
+    a.number
+}
