@@ -1,0 +1,4 @@
+pub mod Counts
+pub mod Driven
+pub mod Lengths
+pub mod Answers

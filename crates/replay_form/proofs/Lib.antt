@@ -1,0 +1,11 @@
+pub mod Cutting
+pub mod Same
+pub mod Reading
+pub mod Lengths
+pub mod Calls
+pub mod Tape
+pub mod Taped
+pub mod Short
+pub mod Bench
+pub mod Pins
+pub mod Used

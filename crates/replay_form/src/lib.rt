@@ -1,0 +1,1 @@
+// No code: specs/ has the replay of a recording as definitions that compute, proofs/ what they promise.
