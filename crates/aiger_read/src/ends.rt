@@ -1,8 +1,8 @@
 // The records of latches and outputs, and the latches' leaves.
+use aiger_rows::rows::Head;
+use aiger_rows::rows::Row;
 use aiger_text::lines::Step;
 use aiger_text::lines::line_at;
-use aiger_text::rows::Head;
-use aiger_text::rows::Row;
 use graph::pin_of;
 ghost use mathlib.Core.Path.{_≡_};
 ghost use Prim.Native.Nat.{_+_, _≤_};
@@ -10,7 +10,7 @@ ghost use lib.Dec.{ltb};
 ghost use lib.ListN.{length, set};
 ghost use lib.Seq.{sets};
 ghost use Rattle.aiger_form.specs.Aag.{recordOf, latchOf};
-ghost use Rattle.aiger_text.specs.Rows.{rowItem};
+ghost use Rattle.aiger_rows.specs.Rows.{rowItem};
 ghost use Rattle.aiger_text.specs.File.{headOf};
 ghost use Rattle.aiger_read.specs.Ends.{cap, FillReady, Filled};
 

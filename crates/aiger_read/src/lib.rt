@@ -1,8 +1,8 @@
 // An ASCII AIGER file, read into lent areas. `read` takes any bytes and areas.
 mod ends;
 
+use aiger_rows::rows::Head;
 use aiger_text::file::file;
-use aiger_text::rows::Head;
 use checks::refusal;
 use ends::fill_ends;
 use graph::Pin;

@@ -1,11 +1,7 @@
-pub mod Cursor
-pub mod Rows
-pub mod Quick
 pub mod Cut
 pub mod Passes
 pub mod Lines
 pub mod Resets
 pub mod Windows
-pub mod Header
 pub mod Whole
 pub mod Verdict

@@ -5,9 +5,9 @@ use mathlib.Core.Bool.{true, false}
 use mathlib.Core.List.{List, []}
 use lib.ListN.{length}
 use Rattle.aiger_form.specs.Aag.{Header, Spot, isCut, items, placeOr, firstAgain, firstReset, File?, malformed, badReset, file, judged, fileOf}
-use Rattle.aiger_text.specs.declared.rows.Head.{Head}
+use Rattle.aiger_rows.specs.declared.rows.Head.{Head}
 use Rattle.aiger_text.specs.declared.file.Verdict.{Verdict}
-use Rattle.aiger_text.specs.Rows.{head}
+use Rattle.aiger_rows.specs.Rows.{head}
 use Rattle.aiger_text.specs.Passes.{spotsAt, linesFrom, storeAll, Behind}
 
 -- the first latch with a reset value, or the length

@@ -1,5 +1,3 @@
-pub mod Cursor
-pub mod Rows
 pub mod Passes
 pub mod Lines
 pub mod Whole

@@ -7,10 +7,10 @@ use lib.Dec.{ltb}
 use lib.ListN.{length}
 use Rattle.aiger_form.specs.Text.{Line, ended}
 use Rattle.aiger_form.specs.Aag.{Header, Item, bodySize}
-use Rattle.aiger_text.specs.declared.rows.Row.{Row}
+use Rattle.aiger_rows.specs.declared.rows.Row.{Row}
 use Rattle.aiger_text.specs.declared.lines.Step.{Step}
 use Rattle.aiger_text.specs.declared.lines.Step.the-variants as step
-use Rattle.aiger_text.specs.Rows.{rowItem, stopsAt}
+use Rattle.aiger_rows.specs.Rows.{rowItem, stopsAt}
 use Rattle.aiger_text.specs.Passes.{spotsAt, linesFrom}
 
 -- the lines from the i-th on: do they end too early, or e not, and no comment?

@@ -11,7 +11,7 @@ use Rattle.rules.specs.Graph.{pinOf}
 use Rattle.aiger_form.specs.Aag.{Header, Item, badText, skipped, inputLine, latchLine, outputLine, gateLine, Spot, isCut, isText, defines, uses, placeOr, items, defined}
 use Rattle.aiger_form.specs.Windows.{window, firstBadIn}
 use Rattle.aiger_text.specs.declared.passes.Sweep.{Sweep}
-use Rattle.aiger_text.specs.Rows.{itemAt, stopsAt}
+use Rattle.aiger_rows.specs.Rows.{itemAt, stopsAt}
 
 -- the lines from the i-th on
 unfoldable pub spotsAt : Header → ℕ → List Line → List Spot

@@ -1,11 +1,11 @@
 // A file judged: 12, 13, or where its lines start.
-use crate::cursor::until;
-use crate::header::header;
 use crate::lines::Step;
 use crate::lines::line_at;
 use crate::passes::first_place;
-use crate::rows::Head;
-use crate::rows::Row;
+use aiger_rows::cursor::until;
+use aiger_rows::header::header;
+use aiger_rows::rows::Head;
+use aiger_rows::rows::Row;
 use refusals::BAD_RESET;
 use refusals::MALFORMED;
 ghost use mathlib.Core.Path.{_≡_};
@@ -14,7 +14,7 @@ ghost use lib.Dec.{eqb, ltb};
 ghost use lib.ListN.{length};
 ghost use Prim.Native.Nat.{_+_};
 ghost use Rattle.aiger_form.specs.Aag.{resetOf};
-ghost use Rattle.aiger_text.specs.Rows.{rowItem, head};
+ghost use Rattle.aiger_rows.specs.Rows.{rowItem, head};
 ghost use Rattle.aiger_text.specs.Passes.{area, Behind};
 ghost use Rattle.aiger_text.specs.Whole.{Begun};
 ghost use Rattle.aiger_text.specs.File.{Resets, Refused, BodyJudged, FileJudged};

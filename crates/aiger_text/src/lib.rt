@@ -1,7 +1,4 @@
-// ASCII AIGER files, read into lent areas.
-pub mod cursor;
+// An ASCII AIGER file judged whole: its lines, what they define and use, the first bad one.
 pub mod file;
-pub mod header;
 pub mod lines;
 pub mod passes;
-pub mod rows;

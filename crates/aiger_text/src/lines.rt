@@ -1,14 +1,14 @@
 // The lines behind the header, one after the other.
-use crate::cursor::triple;
-use crate::cursor::until;
-use crate::rows::Head;
-use crate::rows::Row;
-use crate::rows::gate_of;
-use crate::rows::row_at;
-use crate::rows::stops_at;
+use aiger_rows::cursor::triple;
+use aiger_rows::cursor::until;
+use aiger_rows::rows::Head;
+use aiger_rows::rows::Row;
+use aiger_rows::rows::gate_of;
+use aiger_rows::rows::row_at;
+use aiger_rows::rows::stops_at;
 ghost use mathlib.Core.Path.{_≡_};
 ghost use mathlib.Core.Bool.{true};
-ghost use Rattle.aiger_text.specs.Rows.{head, GateAt};
+ghost use Rattle.aiger_rows.specs.Rows.{head, GateAt};
 ghost use Rattle.aiger_text.specs.Lines.{Before, Stepped};
 
 // No whole line is left, a `c` behind the gates ends all, or a line and where it ends.

@@ -1,8 +1,8 @@
 // Passes over the lines behind the header, with a map of 65,536 variables from `lo` on.
 use crate::lines::Step;
 use crate::lines::line_at;
-use crate::rows::Head;
-use crate::rows::Row;
+use aiger_rows::rows::Head;
+use aiger_rows::rows::Row;
 use graph::Literal;
 use graph::pin_of;
 ghost use mathlib.Core.Path.{_≡_};
@@ -12,7 +12,7 @@ ghost use Prim.Native.Nat.{_<_};
 ghost use lib.ListN.{length};
 ghost use Rattle.rules.specs.Graph.{pinOf};
 ghost use Rattle.aiger_form.specs.Aag.{bodySize, uses};
-ghost use Rattle.aiger_text.specs.Rows.{rowItem, head};
+ghost use Rattle.aiger_rows.specs.Rows.{rowItem, head};
 ghost use Rattle.aiger_text.specs.Lines.{Short};
 ghost use Rattle.aiger_text.specs.Passes.{breadth, area, storeItem, Marked, Passed, noted, Ready, Swept, Known, Set, Used, Cleared};
 ghost use Rattle.aiger_text.specs.Whole.{Begun, Place, First};

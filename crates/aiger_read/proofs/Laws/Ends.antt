@@ -14,9 +14,9 @@ use Rattle.rules.proofs.Lists.Parts.{sets-append}
 use Rattle.aiger_form.specs.Text.{Line, Numbers?, noNumbers, numbers, number, words, numbersOf, parts, space}
 use Rattle.aiger_form.specs.Aag.{Header, Item, skipped, items, gatherItems, orBad, gateItem, numbersItem, lineItem, symbolCount, symbolNumber, symbolWord, symbolItem, recordOf, recordsOf, latchOf, latchesOf}
 use Rattle.graph.specs.declared.Literal.{Literal}
-use Rattle.aiger_text.specs.declared.rows.Row.{Row}
-use Rattle.aiger_text.specs.declared.rows.Row.the-variants.{Latch, Output}
-use Rattle.aiger_text.specs.Rows.{rowItem, itemAt, stopsAt}
+use Rattle.aiger_rows.specs.declared.rows.Row.{Row}
+use Rattle.aiger_rows.specs.declared.rows.Row.the-variants.{Latch, Output}
+use Rattle.aiger_rows.specs.Rows.{rowItem, itemAt, stopsAt}
 use Rattle.aiger_text.specs.Passes.{spotsAt, linesFrom}
 use Rattle.aiger_text.specs.Lines.{NextLine}
 use Rattle.aiger_read.specs.Ends.{cap, FillReady, Filled}

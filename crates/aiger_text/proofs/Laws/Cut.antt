@@ -13,7 +13,7 @@ use Rattle.rules.proofs.Lists.Members.{split}
 use Rattle.rules.proofs.Bools.{and-right, and-none}
 use Rattle.aiger_form.specs.Text.{Line, ended}
 use Rattle.aiger_form.specs.Aag.{Header, bodySize, isComment, hasComment, isCut}
-use Rattle.aiger_text.specs.Rows.{stopsAt}
+use Rattle.aiger_rows.specs.Rows.{stopsAt}
 use Rattle.aiger_text.specs.Lines.{cutFrom, Short}
 
 -- ---- the lines that the header counts

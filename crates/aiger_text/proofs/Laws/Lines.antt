@@ -7,13 +7,13 @@ use mathlib.Core.List.{List}
 use native.Mathlib.Omega.{arith}
 use lib.ListN.{length, take, drop}
 use Rattle.aiger_form.specs.Aag.{Header, orBad, isLiteral, isVariable, gateLine, gateItem, numbersItem, lineItem}
-use Rattle.aiger_text.specs.declared.rows.Row.{Row}
+use Rattle.aiger_rows.specs.declared.rows.Row.{Row}
 use Rattle.aiger_text.specs.declared.lines.Step.the-variants as step
-use Rattle.aiger_text.specs.Rows.{rowItem, itemAt, stopsAt, GateAt}
+use Rattle.aiger_rows.specs.Rows.{rowItem, itemAt, stopsAt, GateAt}
 use Rattle.aiger_text.specs.Passes.{spotsAt}
-use Rattle.aiger_text.specs.Cursor.{until, Tripled}
+use Rattle.aiger_rows.specs.Cursor.{until, Tripled}
 use Rattle.aiger_text.specs.Lines.{cutFrom, Before, NextLine, Stepped}
-use Rattle.aiger_text.proofs.Laws.Rows.{at-gate}
+use Rattle.aiger_rows.proofs.Laws.Rows.{at-gate}
 use Rattle.aiger_text.proofs.Laws.Passes.{line-inside, line-last, line-next}
 
 module _ {H : Header} {i at m : ℕ} {bytes : List ℕ} (B : Before m at bytes) (e : ℕ) (d : e ≡ at + until 10 (drop at bytes)) where

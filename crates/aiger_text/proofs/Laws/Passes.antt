@@ -16,13 +16,13 @@ use Rattle.rules.proofs.Lists.Members.{split}
 use Rattle.aiger_form.specs.Text.{Line, placed, ended}
 use Rattle.aiger_form.specs.Aag.{Header, Item, badText, skipped, inputLine, latchLine, outputLine, gateLine, isText, defines, uses, placeOr, Spot, spots, lineItem, inputItem, latchItem, outputItem, gateItem, symbolItem, symbolLines, isComment, gateSpots, outputSpots, latchSpots, allSpots, bodySize, isCut}
 use Rattle.aiger_form.specs.Windows.{window}
-use Rattle.aiger_text.specs.Rows.{itemAt, stopsAt, head}
+use Rattle.aiger_rows.specs.Rows.{itemAt, stopsAt, head}
 use Rattle.aiger_text.specs.Lines.{cutFrom, NoLine, EndLine, NextLine, Short}
 use Rattle.aiger_text.specs.Passes.{spotsAt, breadth, area, storeItem, storeAll, Marks, Marked, Passed, freshIn, noted, passOver, definedOnto, linesFrom, Ready, Swept, Known, Set, Used, firstUnknownIn}
-use Rattle.aiger_text.specs.Cursor.{until}
-use Rattle.aiger_text.proofs.Laws.Cursor.{until-length, parts-until, parts-rest}
+use Rattle.aiger_rows.specs.Cursor.{until}
+use Rattle.aiger_rows.proofs.Laws.Cursor.{until-length, parts-until, parts-rest}
 use Rattle.aiger_text.proofs.Laws.Cut.{cut-is}
-use Rattle.aiger_text.proofs.Laws.Rows.{at-input, at-latch, at-output, at-gate, at-symbol, symbol-head}
+use Rattle.aiger_rows.proofs.Laws.Rows.{at-input, at-latch, at-output, at-gate, at-symbol, symbol-head}
 
 -- ---- marks
 

@@ -11,7 +11,7 @@ use Rattle.rules.specs.Lists.{Found, nothing, found}
 use Rattle.rules.proofs.Lists.Members.{split}
 use Rattle.aiger_form.specs.Text.{Line, Numbers?, noNumbers, numbers, number, words, numbersOf, parts, space}
 use Rattle.aiger_form.specs.Aag.{Header, Item, skipped, orBad, outputItem, gateItem, numbersItem, lineItem, symbolCount, symbolNumber, symbolWord, symbolItem, placeOr, resetOf, firstReset}
-use Rattle.aiger_text.specs.Rows.{itemAt, stopsAt}
+use Rattle.aiger_rows.specs.Rows.{itemAt, stopsAt}
 use Rattle.aiger_text.specs.Passes.{spotsAt, linesFrom, Behind}
 use Rattle.aiger_text.specs.Lines.{NextLine}
 use Rattle.aiger_text.specs.File.{Resets}

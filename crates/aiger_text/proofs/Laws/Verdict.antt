@@ -11,11 +11,11 @@ use Rattle.rules.specs.Lists.{Found, nothing, found}
 use Rattle.rules.proofs.Lists.Members.{split, true-false}
 use Rattle.aiger_form.specs.Text.{Line, placed, parts}
 use Rattle.aiger_form.specs.Aag.{Header, Header?, noHeader, header, headerOf, Spot, spots, symbolLines, gateSpots, outputSpots, latchSpots, allSpots, bodySize, isCut, placeOr, items, defined, defines, stands, firstAgain, firstBad, resetOf, firstReset, malformed, badReset, file, resets, judge, judged, bodyOf, linesOf, fileOf}
-use Rattle.aiger_text.specs.Rows.{head, HeadIs, no, yes}
+use Rattle.aiger_rows.specs.Rows.{head, HeadIs, no, yes}
 use Rattle.aiger_text.specs.declared.passes.Sweep.{Sweep}
 use Rattle.aiger_text.specs.declared.file.Verdict.{Verdict}
 use Rattle.aiger_text.specs.Passes.{spotsAt, linesFrom, breadth, area, Behind}
-use Rattle.aiger_text.specs.Cursor.{until, cap, capped}
+use Rattle.aiger_rows.specs.Cursor.{until, cap, capped}
 use Rattle.aiger_text.specs.Whole.{judgedAt, Begun, First}
 use Rattle.aiger_text.specs.File.{headOf, spotsOf, Resets, bad, reset, good, Refused, bodyFile, BodyJudged, FileJudged}
 use Rattle.aiger_text.proofs.Laws.Passes.{spots-all, line-last, line-next}

@@ -18,7 +18,7 @@ use Rattle.aiger_form.specs.Meaning.{Among, here, there}
 use Rattle.aiger_form.specs.Windows.{standsIn, firstBadIn, earlier, under, window}
 use Rattle.aiger_form.proofs.Windows.{Rising, stop, step, bad-or, window-step, window-whole}
 use Rattle.aiger_form.proofs.Accepted.{fits, AllFit, all-fit}
-use Rattle.aiger_text.specs.Rows.{stopsAt}
+use Rattle.aiger_rows.specs.Rows.{stopsAt}
 use Rattle.aiger_text.specs.Passes.{spotsAt, freshIn, firstAgainIn, breadth, area, linesFrom, noted, storeItem, storeAll, Swept, Used, badIn}
 use Rattle.aiger_text.specs.declared.passes.Sweep.{Sweep}
 use Rattle.aiger_text.specs.Whole.{judgedAt, judgedIn, Place, First}

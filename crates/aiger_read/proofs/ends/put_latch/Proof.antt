@@ -3,7 +3,7 @@ use denote.Ref.{now}
 use mathlib.Core.Path.{refl, ap, _∙_}
 use native.Mathlib.Omega.{arith}
 use lib.ListN.{set}
-use Rattle.aiger_text.specs.Rows.{rowItem}
+use Rattle.aiger_rows.specs.Rows.{rowItem}
 use Rattle.aiger_form.specs.Aag.{latchOf}
 use Rattle.aiger_read.proofs.Laws.Ends.{latch-one}
 use borrow.Author.Needs.{needs}

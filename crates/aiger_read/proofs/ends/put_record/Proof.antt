@@ -2,7 +2,7 @@
 use denote.Ref.{now}
 use mathlib.Core.Path.{refl}
 use native.Mathlib.Omega.{arith}
-use Rattle.aiger_text.specs.Rows.{rowItem}
+use Rattle.aiger_rows.specs.Rows.{rowItem}
 use Rattle.aiger_form.specs.Aag.{recordOf}
 use Rattle.aiger_read.proofs.Laws.Ends.{latch-three, output-two, put-two, put-three}
 use borrow.Author.Needs.{needs}

@@ -2,7 +2,7 @@
 use mathlib.Core.Path.{_∙_}
 use native.Mathlib.Omega.{arith}
 use lib.ListN.{length-set}
-use Rattle.aiger_text.specs.Rows.{rowItem}
+use Rattle.aiger_rows.specs.Rows.{rowItem}
 use Rattle.aiger_text.specs.Passes.{storeItem}
 use Rattle.aiger_text.proofs.Laws.Passes.{store-past}
 use borrow.Author.Needs.{needs}

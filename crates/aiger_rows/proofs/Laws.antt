@@ -1,0 +1,4 @@
+pub mod Cursor
+pub mod Quick
+pub mod Header
+pub mod Rows
