@@ -1,4 +1,4 @@
-/* The placer, for C: builds, merges, folds, listings, job files and AIGER files. Link libentries.a, which ffi/library writes (x86-64, Linux).
+/* The placer, for C: builds, merges, folds, replays, listings, job files and AIGER files. Link libentries.a, which ffi/library writes (x86-64, Linux).
  *
  * Every call returns, whatever numbers it is handed: it answers, or refuses with a number, and each contract says for all of them what is
  * returned and left. The caller checks nothing beforehand. What the caller owes is the memory:
@@ -32,7 +32,7 @@ extern "C" {
 
 /* What a call returns. 6 to 9 leave plan and words as empty marks, counts and work 0; every other refusal leaves everything lent as it was, but
  * for the answer. The first that applies is given, in the order 1, 2, 3, 23, 4, 5, 10, 6, then for each stage 9, 7, 8; of a job file 11, then 2; of
- * an AIGER file read 12, 13, 2, 3, 23, 4, and of one written 14, then 2. */
+ * an AIGER file read 12, 13, 2, 3, 23, 4, and of one written 14, then 2; a replay has 18, 19, 20, 17 between 5 and 6. */
 enum placer_refusal {
     PLACER_DONE = 0,          /* not refused */
     PLACER_NO_HEIGHT = 1,     /* the height is not 6 to 13 */
@@ -49,6 +49,10 @@ enum placer_refusal {
     PLACER_NO_AIGER = 12,     /* the bytes are no AIGER file, or it is cut; the answer has the place of the first bad line, or the file's length */
     PLACER_RESET = 13,        /* a latch has a reset value other than 0; the answer has the place of its line */
     PLACER_NOT_AIGER = 14,    /* no AIGER file holds the job */
+    PLACER_SHORT = 17,        /* a replay's out or end is too short */
+    PLACER_NOT_PLAIN = 18,    /* a replay has a memory or a given pin */
+    PLACER_NOT_DRIVEN = 19,   /* a driven pin is no leaf, or is driven twice */
+    PLACER_WRONG_LENGTH = 20, /* driven pins, starting bits or recording have not the length that records and lines state */
     PLACER_LOOP = 23          /* a loop of gates, given or not; the answer shows the smallest pin on any */
 };
 
@@ -70,6 +74,10 @@ static inline const char *placer_describe(uint32_t number) {
     case PLACER_NO_AIGER: return "no AIGER file, or one that is cut";
     case PLACER_RESET: return "a latch has a reset value other than 0";
     case PLACER_NOT_AIGER: return "no AIGER file holds the job";
+    case PLACER_SHORT: return "the area for the bits handed out or the end bits is too short";
+    case PLACER_NOT_PLAIN: return "a memory or a given pin, which no recording replays";
+    case PLACER_NOT_DRIVEN: return "a driven pin is no leaf, or is driven twice";
+    case PLACER_WRONG_LENGTH: return "driven pins, starting bits or recording have another length than stated";
     case PLACER_LOOP: return "a loop of gates";
     default: return "no number of the placer";
     }
@@ -114,6 +122,13 @@ static inline size_t placer_fold_work_size(size_t gates_len) { return gates_len 
 
 /* result of a fold: at least this, a number a position. */
 static inline size_t placer_fold_result_size(size_t plan_len) { return plan_len; }
+
+/* tape, slots and bits of a replay: at least this each, in numbers, numbers and bytes. */
+static inline size_t placer_replay_tape_size(size_t plan_len) { return plan_len; }
+
+static inline size_t placer_replay_slots_size(size_t records_len, size_t plan_len) { return placer_sum(plan_len, records_len); }
+
+static inline size_t placer_replay_bits_size(size_t gates_len, size_t plan_len) { return placer_sum(gates_len / 2, plan_len / 2); }
 
 /* The bytes that hold any listing of so many stages and words, and any refusal's line: 17 a position, 11 a word, and what stands around them. */
 static inline size_t placer_listing_size(uint32_t height, size_t stages, size_t words) {
@@ -242,6 +257,31 @@ enum placer_fold_answer { PLACER_FOLD_NUMBER, PLACER_FOLD_PIN, PLACER_FOLD_LEN }
 uint32_t fold_plan(uint32_t height, const uint32_t *plan, size_t plan_len, const uint32_t *gates, size_t gates_len,
                    const uint32_t *given, size_t given_len, const uint32_t *bits, size_t bits_len, uint32_t *result,
                    size_t result_len, uint32_t *work, size_t work_len, size_t *answer, size_t answer_len);
+
+/* ---- A recording replayed */
+
+/* Builds the plan of a circuit and runs it clock by clock, a line of the recording each. At each clock the bit of every record's literals or pin is
+ * handed out, in order, inversions applied: an output's bit, a flip-flop's enable and data, a staged pin's bit. Then a flip-flop takes its data where
+ * its enable is 1, and otherwise keeps its bit. At every clock the bits are those of the plain graph run the same way. A recording cut into two runs,
+ * the second starting with the first one's end bits, gives the same bits.
+ * gates, given, records, plan, words, counts, work: as for a build; no pin may be given, and no record be a memory
+ * driven:    the leaf that each flip-flop drives, in the order of the flip-flops, all different
+ * start:     a byte a flip-flop, 0 or not 0
+ * recording: `lines` times as many bytes as there are leaves that no flip-flop drives, 0 or not 0; a line has them in pin order
+ * out:       at least `lines` times as many bytes as a clock hands out, for 0 or 1 each
+ * end:       at least a byte a flip-flop, for their bits after the last line
+ * tape, slots, bits: at least placer_replay_tape_size(plan_len) and placer_replay_slots_size(records_len, plan_len) numbers, and
+ *            placer_replay_bits_size(gates_len, plan_len) bytes; scratch, 0 afterwards
+ * answer:    at least PLACER_BUILD_LEN numbers, as of a build
+ *
+ * Returns the number. No refusal changes out or end; 1 to 5, 17 to 20 and 23 change nothing lent. Where `answer` is too short that is 2, and nothing
+ * is changed. */
+uint32_t replay_recording(uint32_t height, const uint32_t *gates, size_t gates_len, const uint32_t *given, size_t given_len,
+                          const uint32_t *records, size_t records_len, const uint32_t *driven, size_t driven_len, const uint8_t *start,
+                          size_t start_len, size_t lines, const uint8_t *recording, size_t recording_len, uint8_t *out, size_t out_len,
+                          uint8_t *end, size_t end_len, uint32_t *plan, size_t plan_len, uint32_t *words, size_t words_len,
+                          uint32_t *counts, size_t counts_len, uint32_t *work, size_t work_len, uint32_t *tape, size_t tape_len,
+                          uint32_t *slots, size_t slots_len, uint8_t *bits, size_t bits_len, size_t *answer, size_t answer_len);
 
 /* ---- A listing */
 

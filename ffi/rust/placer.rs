@@ -1,4 +1,4 @@
-//! The placer, for Rust: builds, merges, folds, listings, job files and AIGER files. Link `libentries.a`, which `ffi/library` writes (x86-64, Linux).
+//! The placer, for Rust: builds, merges, folds, replays, listings, job files and AIGER files. Link `libentries.a`, which `ffi/library` writes (x86-64, Linux).
 //! No crate beyond `core` is needed. Every function takes any numbers and slices, and answers or refuses; none panics.
 //!
 //! A room is the memory of one stage: `stage_size(height)` numbers of the plan and one of the counts. A build fills as many as it has stages.
@@ -50,6 +50,14 @@ pub enum Refusal {
     Reset = 13,
     /// No AIGER file holds the job.
     NotAiger = 14,
+    /// A replay's out or end is too short.
+    Short = 17,
+    /// A replay has a memory or a given pin.
+    NotPlain = 18,
+    /// A driven pin is no leaf, or is driven twice.
+    NotDriven = 19,
+    /// Driven pins, starting bits or recording have not the length that records and lines state.
+    WrongLength = 20,
     /// A loop of gates, given or not; the answer shows the smallest pin on any.
     Loop = 23,
 }
@@ -72,6 +80,10 @@ impl Refusal {
             12 => Refusal::NoAiger,
             13 => Refusal::Reset,
             14 => Refusal::NotAiger,
+            17 => Refusal::Short,
+            18 => Refusal::NotPlain,
+            19 => Refusal::NotDriven,
+            20 => Refusal::WrongLength,
             23 => Refusal::Loop,
             _ => return None,
         })
@@ -94,6 +106,10 @@ impl Refusal {
             Refusal::NoAiger => "no AIGER file, or one that is cut",
             Refusal::Reset => "a latch has a reset value other than 0",
             Refusal::NotAiger => "no AIGER file holds the job",
+            Refusal::Short => "the area for the bits handed out or the end bits is too short",
+            Refusal::NotPlain => "a memory or a given pin, which no recording replays",
+            Refusal::NotDriven => "a driven pin is no leaf, or is driven twice",
+            Refusal::WrongLength => "driven pins, starting bits or recording have another length than stated",
             Refusal::Loop => "a loop of gates",
         }
     }
@@ -140,6 +156,21 @@ pub const fn fold_bits_size(gates: usize) -> usize {
 /// The least size of a fold's work, by the length of gates.
 pub const fn fold_work_size(gates: usize) -> usize {
     gates / 2
+}
+
+/// The least size of a replay's tape, by the length of the plan.
+pub const fn replay_tape_size(plan: usize) -> usize {
+    plan
+}
+
+/// The least size of a replay's slots, by the lengths of records and plan.
+pub const fn replay_slots_size(records: usize, plan: usize) -> usize {
+    plan.saturating_add(records)
+}
+
+/// The least size of a replay's bits, in bytes, by the lengths of gates and plan.
+pub const fn replay_bits_size(gates: usize, plan: usize) -> usize {
+    (gates / 2).saturating_add(plan / 2)
 }
 
 /// Bytes that hold any listing of so many stages and words, and any refusal's line: 17 a position, 11 a word, and what stands around them.
@@ -228,6 +259,29 @@ pub struct Depth {
     pub pin: usize,
 }
 
+/// What a circuit is run on: the leaf that each flip-flop drives, a starting bit each (0 or not 0), and so many lines of a recording, a byte for each
+/// leaf that no flip-flop drives, in pin order.
+#[derive(Clone, Copy)]
+pub struct Recording<'a> {
+    pub driven: &'a [u32],
+    pub start: &'a [u8],
+    pub lines: usize,
+    pub bits: &'a [u8],
+}
+
+/// What a run gives: 0 or 1 for each literal or pin of the records, line after line, and the flip-flops' bits after the last. No refusal changes it.
+pub struct Run<'a> {
+    pub out: &'a mut [u8],
+    pub end: &'a mut [u8],
+}
+
+/// The areas that a replay needs beside a build's; scratch, 0 afterwards.
+pub struct Tape<'a> {
+    pub tape: &'a mut [u32],
+    pub slots: &'a mut [u32],
+    pub bits: &'a mut [u8],
+}
+
 /// The numbers that a fold answers: 0, or what refuses it; with 23 the smallest pin on any loop.
 #[derive(Clone, Copy, Debug, PartialEq, Eq)]
 pub struct Folded {
@@ -312,6 +366,27 @@ extern "C" {
         bits: *const u32, bits_len: usize,
         result: *mut u32, result_len: usize,
         work: *mut u32, work_len: usize,
+        answer: *mut usize, answer_len: usize,
+    ) -> u32;
+
+    fn replay_recording(
+        height: u32,
+        gates: *const u32, gates_len: usize,
+        given: *const u32, given_len: usize,
+        records: *const u32, records_len: usize,
+        driven: *const u32, driven_len: usize,
+        start: *const u8, start_len: usize,
+        lines: usize,
+        recording: *const u8, recording_len: usize,
+        out: *mut u8, out_len: usize,
+        end: *mut u8, end_len: usize,
+        plan: *mut u32, plan_len: usize,
+        words: *mut u32, words_len: usize,
+        counts: *mut u32, counts_len: usize,
+        work: *mut u32, work_len: usize,
+        tape: *mut u32, tape_len: usize,
+        slots: *mut u32, slots_len: usize,
+        bits: *mut u8, bits_len: usize,
         answer: *mut usize, answer_len: usize,
     ) -> u32;
 
@@ -464,6 +539,40 @@ pub fn fold(height: u32, plan: &[u32], gates: &[u32], given: &[u32], bits: &[u32
         )
     };
     Folded { number, pin: answer[1] }
+}
+
+/// Builds the plan of a circuit and runs it clock by clock, a line of the recording each; at every clock the bits are those of the plain graph. A
+/// recording cut into two runs, the second starting with the first one's end bits, gives the same bits.
+#[allow(clippy::too_many_arguments)]
+pub fn replay(height: u32, gates: &[u32], given: &[u32], records: &[u32], recording: Recording<'_>, run: Run<'_>, areas: Areas<'_>, tape: Tape<'_>) -> Answer {
+    let mut answer = [0usize; 5];
+    let Run { out, end } = run;
+    let Areas { plan, words, counts, work } = areas;
+    let Tape { tape, slots, bits } = tape;
+    // SAFETY: as for `build_by`.
+    let number = unsafe {
+        replay_recording(
+            height,
+            gates.as_ptr(), gates.len(),
+            given.as_ptr(), given.len(),
+            records.as_ptr(), records.len(),
+            recording.driven.as_ptr(), recording.driven.len(),
+            recording.start.as_ptr(), recording.start.len(),
+            recording.lines,
+            recording.bits.as_ptr(), recording.bits.len(),
+            out.as_mut_ptr(), out.len(),
+            end.as_mut_ptr(), end.len(),
+            plan.as_mut_ptr(), plan.len(),
+            words.as_mut_ptr(), words.len(),
+            counts.as_mut_ptr(), counts.len(),
+            work.as_mut_ptr(), work.len(),
+            tape.as_mut_ptr(), tape.len(),
+            slots.as_mut_ptr(), slots.len(),
+            bits.as_mut_ptr(), bits.len(),
+            answer.as_mut_ptr(), answer.len(),
+        )
+    };
+    Answer { number, stages: answer[1], words: answer[2], stage: answer[3], pin: answer[4] }
 }
 
 /// The text of what a build answered and left, to the front of `out`: the listing of its plan, or a refusal's line. `listing_size` bytes are

@@ -5,4 +5,5 @@ pub mod Merge
 pub mod Fold
 pub mod Files
 pub mod Aiger
+pub mod Replay
 pub mod Unique

@@ -6,3 +6,4 @@ pub mod Fold
 pub mod Listing
 pub mod Jobs
 pub mod Aiger
+pub mod Replay

@@ -7,4 +7,5 @@ mod fold_entry;
 mod list_entry;
 mod merge_entry;
 mod read_entry;
+mod replay_entry;
 mod write_entry;

@@ -13,6 +13,7 @@ use Rattle.rules.specs.Lists.{Found, nothing, found, sum}
 use Rattle.rules.specs.Fold.{firstAt}
 use Rattle.rules.specs.Build.{Stage, cellsOf, wordsOf, countsOf}
 use Rattle.rules.proofs.Lists.Members.{split, eqb-true, eqb-false}
+use Rattle.rules.proofs.Build.Lengths.{Sized}
 use Rattle.replay_form.specs.Plans.{inWords, writtenAt}
 use Rattle.replay_tape.specs.Clocks.{readSlot}
 use Rattle.replay_run.specs.Slots.{Least, slotOr, Slotted, WordRead, WordsRead, writtenBy, PlanAt, PlanRead}
@@ -243,19 +244,15 @@ module _ (size from q : ℕ) where
       let f : inWords (take size (s .plan ++ P)) q (take n (s .words ++ W)) ≡ found p = ap₂ (λ (a b : List ℕ). inWords a q b) t (take-at (s .words) W n refl) ∙ e in
       by-found (s .plan ++ P) (s .words ++ W) n (countsOf ss) p f ∙ sym (at-found s ss p e)
 
-pub record Sized (size : ℕ) (ss : List Stage) : Type 0 where
-  pub each : (s : Stage) (before after : List Stage) → ss ≡ before ++ (s ∷ after) → length (s .plan) ≡ size
-
 -- Where the words laid out write a pin is where the stages do.
 pub written-is : (size : ℕ) (ss : List Stage) → Sized size ss → (from q : ℕ) (x y : List ℕ) → writtenBy size from q (cellsOf ss ++ x) (wordsOf ss ++ y) (countsOf ss) ≡ writtenAt size from q ss
 unfolding cellsOf wordsOf countsOf writtenBy writtenAt
 written-is size [] Z from q x y = refl
 written-is size (s ∷ ss) Z from q x y =
-    let l : length (s .plan) ≡ size = Z .each s [] ss refl in
-    let z : Sized size ss = record { each = λ t b a e. Z .each t (s ∷ b) a (ap (λ (r : List Stage). s ∷ r) e) } in
+    let l : length (s .plan) ≡ size = Z .0 in
     rw (append-assoc (s .plan) (cellsOf ss) x, append-assoc (s .words) (wordsOf ss) y)
     (stage-written size from q s ss (cellsOf ss ++ x) (wordsOf ss ++ y) (take-at (s .plan) (cellsOf ss ++ x) size l) (drop-at (s .plan) (cellsOf ss ++ x) size l)
-    (written-is size ss z (from + size) q x y) _ refl)
+    (written-is size ss (Z .1) (from + size) q x y) _ refl)
 
 -- A pin that stood at slot 0 is read from the slot where the stages write it.
 pub slot-read : (slots : List ℕ) (f : Found) → slotOr slots 0 f ≡ readSlot slots f

@@ -1,0 +1,4 @@
+pub mod Tape
+pub mod Runs
+pub mod Answers
+pub mod Sizes
