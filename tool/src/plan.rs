@@ -1,0 +1,134 @@
+//! A plan: built by the library, listed by the library.
+
+use crate::end::{Done, End};
+use crate::files::Out;
+use crate::job::{self, Job, Read};
+use crate::memory::{self, lend, Lent, Space};
+use crate::placer::{build, list_answer, listing_size, stage_size, Answer, EMPTY};
+use crate::svg;
+use crate::why;
+use std::path::PathBuf;
+use std::time::Instant;
+
+/// Place the gates of a file, and list the plan
+#[derive(clap::Args)]
+pub struct Args {
+    /// An AIGER file (aag), a job file or a job's text; - is standard input
+    #[arg(value_name = "FILE", required = true)]
+    files: Vec<PathBuf>,
+    #[command(flatten)]
+    space: Space,
+    /// Print the summary alone: stages, words, filled cells, time
+    #[arg(short, long)]
+    quiet: bool,
+    /// Draw the plan of the only file, stage by stage
+    #[arg(long, value_name = "OUT")]
+    svg: Option<PathBuf>,
+}
+
+/// What a build answered and left.
+pub struct Built {
+    pub height: u32,
+    pub answer: Answer,
+    pub lent: Lent,
+}
+
+impl Built {
+    pub fn of(job: &Job, space: &Space) -> Done<Built> {
+        let height = space.height.or(job.height).unwrap_or(13);
+        let mut lent = lend(&job.name, space, height, job.graph(), 0, false)?;
+        let answer = build(height, &job.gates, &job.given, &job.records, lent.areas());
+        Ok(Built { height, answer, lent })
+    }
+
+    pub fn stages(&self) -> impl Iterator<Item = &[u32]> {
+        self.lent.plan.chunks_exact(stage_size(self.height)).take(self.answer.stages)
+    }
+
+    /// The filled cells of all stages.
+    pub fn cells(&self) -> usize {
+        self.stages().map(|stage| stage.iter().filter(|&&pin| pin != EMPTY).count()).sum()
+    }
+
+    /// The listing, or the refusal's line.
+    pub fn listing(&self) -> Done<Vec<u8>> {
+        let Built { height, answer, lent } = self;
+        // a line for each filled cell, of at most 17 bytes; the library's own size counts the empty ones too
+        let lines = self.cells().saturating_mul(17);
+        let least = lines.saturating_add(answer.stages.saturating_mul(48)).saturating_add(answer.words.saturating_mul(11)).saturating_add(64);
+        for size in [least, listing_size(*height, answer.stages, answer.words)] {
+            let mut text = memory::area(0, size)?;
+            let listed = list_answer(*height, answer, &lent.plan, &lent.words, &lent.counts, &mut text);
+            match listed.number {
+                0 => {
+                    text.truncate(listed.length);
+                    return Ok(text);
+                }
+                2 if answer.number == 0 => {}
+                _ => break,
+            }
+        }
+        Ok(refusal_line(answer.number, answer.stage, answer.pin))
+    }
+
+    /// What refuses it, said for people.
+    pub fn refused(&self, job: &Job) -> Option<String> {
+        let Answer { number, stage, pin, .. } = self.answer;
+        (number != 0).then(|| why::lists(job, self.height, number, stage, pin, self.lent.rooms))
+    }
+}
+
+pub fn refusal_line(number: u32, stage: usize, pin: usize) -> Vec<u8> {
+    let shown = if number == 23 { format!(" pin {pin}") } else { String::new() };
+    format!("refused {number} stage {stage}{shown}\n").into_bytes()
+}
+
+fn one(path: &PathBuf, args: &Args, out: &mut Out) -> Done<()> {
+    let from = Instant::now();
+    let job = match job::read(path, args.space.memory)? {
+        Read::Job(job) => job,
+        Read::Refused { number, pin, said } => {
+            out.put(refusal_line(number, 0, pin))?;
+            return Err(End::Refused(said));
+        }
+    };
+    let built = Built::of(&job, &args.space)?;
+    if args.quiet && built.answer.number == 0 {
+        let Answer { stages, words, .. } = built.answer;
+        out.put(format!("stages {stages} words {words} cells {} seconds {:.3}\n", built.cells(), from.elapsed().as_secs_f64()))?;
+    } else {
+        out.put(built.listing()?)?;
+    }
+    if let Some(said) = built.refused(&job) {
+        return Err(End::Refused(said));
+    }
+    if let Some(path) = &args.svg {
+        let mut drawn = Out::file(path)?;
+        svg::draw(&job, &built, &mut drawn)?;
+        drawn.flush()?;
+    }
+    Ok(())
+}
+
+/// Each file in turn; one that is refused stops none of the others.
+pub fn run(args: &Args) -> Done<()> {
+    if args.svg.is_some() && args.files.len() > 1 {
+        return Err(End::Stopped("placer: --svg draws one plan: name one file".to_string()));
+    }
+    let mut out = Out::standard();
+    let mut worst = 0;
+    for path in &args.files {
+        let ended = one(path, args, &mut out);
+        out.flush()?;
+        match ended {
+            Ok(()) => {}
+            Err(End::Pipe) => return Err(End::Pipe),
+            Err(end) => worst = worst.max(end.told()),
+        }
+    }
+    if worst == 0 {
+        Ok(())
+    } else {
+        Err(End::Said(worst))
+    }
+}
