@@ -42,5 +42,17 @@ pub const BAD_RESET: u32 = 13;
 // A job that no AIGER file holds.
 pub const NO_FILE: u32 = 14;
 
+// A replay's area for the bits handed out or the end bits is too short.
+pub const NO_OUT: u32 = 17;
+
+// A replay with a memory or a given pin.
+pub const NOT_PLAIN: u32 = 18;
+
+// A driven pin that isn't a leaf, or is driven twice.
+pub const NOT_DRIVEN: u32 = 19;
+
+// Driven pins, starting bits or recording are not of the length stated.
+pub const WRONG_LENGTH: u32 = 20;
+
 // A loop of gates.
 pub const LOOP: u32 = 23;

@@ -1,6 +1,3 @@
-pub mod Bytes
-pub mod Tape
-pub mod Runs
 pub mod Sizes
 pub mod Finish
 pub mod Built

@@ -9,7 +9,7 @@ use Rattle.placer.specs.declared.Answer.{Answer}
 use Rattle.placer.specs.Answers.{told, areas}
 use Rattle.replay_form.specs.Clocks.{plainRun}
 use Rattle.replay_form.specs.Calls as form
-use Rattle.replay.specs.Runs.{RunIn, circuit}
+use Rattle.replay_plan.specs.Runs.{RunIn, circuit}
 
 -- what a call is given
 unfoldable pub job : ℕ → (gates given records driven starting : List ℕ) → ℕ → List ℕ → form.Job

@@ -1,4 +1,2 @@
-pub mod Tape
-pub mod Runs
 pub mod Answers
 pub mod Sizes

@@ -1,8 +1,8 @@
 // What follows a build: a whole plan is run, and the areas for it are cleared.
-use crate::bytes::clear_bytes;
-use crate::runs::run_plan;
 use cells::Height;
 use columns::fill_part;
+use replay_plan::bytes::clear_bytes;
+use replay_plan::runs::run_plan;
 ghost use mathlib.Core.Path.{_≡_};
 ghost use lib.ListN.{length, replicate};
 ghost use Rattle.replay.specs.Answers.{FinishIn, Finished};

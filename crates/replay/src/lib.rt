@@ -1,9 +1,6 @@
 // Replay of a recording: the plan of a graph's records is built, and run line by line.
-pub mod bytes;
 pub mod finish;
 pub mod lent;
-pub mod runs;
-pub mod tape;
 
 use cells::Height;
 use checks::refusal;

@@ -1,16 +1,12 @@
 // Checks 20 and 17, by lengths. A product is never made: what it is compared with is divided.
 use crate::counts::Counts;
+use refusals::NO_OUT;
+use refusals::WRONG_LENGTH;
 ghost use mathlib.Core.Path.{_≡_};
 ghost use Prim.Native.Nat.{_*_};
 ghost use lib.Dec.{leb, eqb};
 ghost use Rattle.replay_form.specs.Calls.{lengthsRight, outRight};
 ghost use Rattle.replay_checks.specs.Values.{measured};
-
-// Driven pins, starting bits or recording not of the length stated.
-pub const WRONG_LENGTH: u32 = 20;
-
-// Output too short.
-pub const NO_OUT: u32 = 17;
 
 // Is a length n times `each`?
 pub fn is_product(length: usize, n: usize, each: usize) -> bool

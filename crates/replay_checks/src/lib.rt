@@ -7,16 +7,12 @@ use counts::Counts;
 use counts::count;
 use driven::mark_leaves;
 use lengths::measure;
+use refusals::NOT_DRIVEN;
+use refusals::NOT_PLAIN;
 use replay_run::leaves::put_leaves;
 ghost use mathlib.Core.Path.{_≡_};
 ghost use Rattle.replay_form.specs.Calls.{laterRefusal};
 ghost use Rattle.replay_checks.specs.Values.{Checked, Readable, numbered};
-
-// A memory or a given pin.
-pub const NOT_PLAIN: u32 = 18;
-
-// A driven pin that isn't a leaf, or is driven twice.
-pub const NOT_DRIVEN: u32 = 19;
 
 // 19, and then 20 and 17 by what is counted.
 fn driven_refusal(

@@ -82,13 +82,13 @@ module _ (g : List Node) (driven line state : List ℕ) (ok : every (leafPin g) 
   abbrev leaves : List ℕ
   leaves = lineLeaves g driven
 
-  pub leaf-bounds : (p : ℕ) → leafPin g p ≡ true → (1 ≤ p) × (p < length g)
+  leaf-bounds : (p : ℕ) → leafPin g p ≡ true → (1 ≤ p) × (p < length g)
   unfolding leafPin
   leaf-bounds p e =
       let t = and-true (ltb 0 p) (ltb p (length g)) (and-true (ltb 0 p && ltb p (length g)) (isLeaf (getD g p leaf)) e .0) in
       (ltb-true 0 p (t .0), ltb-true p (length g) (t .1))
 
-  pub line-leaf : (p : ℕ) → In p leaves → (leafPin g p ≡ true) × (mem p driven ≡ false)
+  line-leaf : (p : ℕ) → In p leaves → (leafPin g p ≡ true) × (mem p driven ≡ false)
   unfolding lineLeaves
   line-leaf p i =
       let t = and-true (leafPin g p) (not (mem p driven)) (keep-in (λ q. leafPin g q && not (mem q driven)) p (upTo (length g) 0) i .1) in

@@ -57,6 +57,7 @@ unfoldable pub replaySized : ℕ → (gates records : List ℕ) → (plan words 
 replaySized K gates records plan words counts work tape slots bits =
     areasSized K (workSize gates records) plan words counts work && leb plan tape && leb (slotsSize records plan) slots && leb (bitsSize gates plan) bits
 
+-- the same of a job
 unfoldable pub areasRight : Job → Lent → Bool
 areasRight J a =
     replaySized (J .height) (J .gates) (J .records) (length (a .build .plan)) (length (a .build .words)) (length (a .build .counts)) (length (a .build .work)) (length (a .tape)) (length (a .slots)) (length (a .bits))

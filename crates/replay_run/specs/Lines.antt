@@ -18,6 +18,7 @@ linesRun tape places flips driven leaves pins n (suc k) recording bits state =
     let s = datas flips o state in
     andThen (record { out = o; end = s }) (linesRun tape places flips driven leaves pins n k (drop (length leaves) recording) b s)
 
+-- what is asked: a tape that can be run, places, indexes and pins that are there, a recording and room
 pub record LinesIn (tape places flips driven leaves recording bits state out : List ℕ) (pins n k : ℕ) : Type 0 where
   pub run : RunAt pins n tape bits
   pub drives : length driven ≤ length state
@@ -29,6 +30,7 @@ pub record LinesIn (tape places flips driven leaves recording bits state out : L
   pub recorded : k * length leaves ≤ length recording
   pub room : k * length places ≤ length out
 
+-- the bits of all lines, one line after the other, and those of the flip-flops
 pub record LinesOut (tape places flips driven leaves recording bits state out : List ℕ) (pins n k : ℕ) (bits′ state′ out′ : List ℕ) : Type 0 where
   pub slots : length bits′ ≡ length bits
   pub end : state′ ≡ linesRun tape places flips driven leaves pins n k recording bits state .end

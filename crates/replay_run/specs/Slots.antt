@@ -8,6 +8,7 @@ use Rattle.rules.specs.Lists.{Found, nothing, found, sum}
 use Rattle.rules.specs.Fold.{firstAt}
 use Rattle.replay_form.specs.Plans.{inWords}
 
+-- the smaller of two
 pub record Least (a b r : ℕ) : Type 0 where
   pub first : r ≤ a
   pub second : r ≤ b
@@ -23,9 +24,11 @@ pub record Slotted (slots reads reads′ : List ℕ) (place : ℕ → Found) : T
   pub len : length reads′ ≡ length reads
   pub each : (q : ℕ) → q < length reads → getD reads′ q 0 ≡ slotOr slots (getD reads q 0) (place q)
 
+-- the pins of a word have their slots
 abbrev pub WordRead : (cells slots : List ℕ) → ℕ → (reads reads′ : List ℕ) → Type 0
 WordRead cells slots w reads reads′ = Slotted slots reads reads′ (λ q. firstAt q (32 * w) (take 32 (drop (32 * w) cells)))
 
+-- the pins of a stage's words
 abbrev pub WordsRead : (cells slots words reads reads′ : List ℕ) → Type 0
 WordsRead cells slots words reads reads′ = Slotted slots reads reads′ (λ q. inWords cells q words)
 
@@ -37,11 +40,13 @@ writtenBy size from q plan words (c ∷ cs) = elim (inWords (take size plan) q (
   | found p ↦ found (from + p)
 ]
 
+-- stages, slots, words and counts that fit together
 pub record PlanAt (size : ℕ) (plan slots words counts : List ℕ) (total : ℕ) : Type 0 where
   pub room : size * length counts ≤ length plan
   pub slotted : length plan ≤ length slots
   pub written : total ≤ length words
   pub counted : total ≡ sum counts
 
+-- the pins of all words
 abbrev pub PlanRead : ℕ → (plan slots words counts reads reads′ : List ℕ) → Type 0
 PlanRead size plan slots words counts reads reads′ = Slotted slots reads reads′ (λ q. writtenBy size 0 q plan words counts)

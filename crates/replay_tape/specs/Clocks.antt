@@ -18,6 +18,7 @@ unfoldable pub putBits : (pins values bits : List ℕ) → List ℕ
 putBits [] vs bits = bits
 putBits (p ∷ ps) vs bits = set (putBits ps (drop 1 vs) bits) p (asNumber (isOne (getD vs 0 0)))
 
+-- a value for each pin, and pins that are there
 pub record PinsAt (pins values bits : List ℕ) : Type 0 where
   pub enough : length pins ≤ length values
   pub inside : (i : ℕ) → i < length pins → getD pins i 0 < length bits
@@ -26,10 +27,12 @@ pub record PinsAt (pins values bits : List ℕ) : Type 0 where
 unfoldable pub placeBit : List ℕ → ℕ → ℕ
 placeBit bits a = asNumber (literalBit a (slotBit bits (pinOf a)))
 
+-- the bits of all places
 unfoldable pub handed : (places bits : List ℕ) → List ℕ
 handed [] bits = []
 handed (a ∷ ls) bits = placeBit bits a ∷ handed ls bits
 
+-- places whose slots have bits, and room
 pub record PlacesAt (places bits out : List ℕ) : Type 0 where
   pub room : length out ≡ length places
   pub inside : (i : ℕ) → i < length places → pinOf (getD places i 0) < length bits
@@ -44,12 +47,14 @@ unfoldable pub datas : (flips out state : List ℕ) → List ℕ
 datas [] out state = []
 datas (j ∷ js) out state = pick (getD out j 0) (getD out (j + 1) 0) (getD state 0 0) ∷ datas js out (drop 1 state)
 
+-- indexes of bits that are handed out
 pub record FlipsAt (flips out state : List ℕ) : Type 0 where
   pub room : length state ≡ length flips
   pub inside : (i : ℕ) → i < length flips → getD flips i 0 + 1 < length out
 
 -- ---- one clock
 
+-- what is asked of a clock
 pub record ClockIn (tape places flips driven leaves line bits state out : List ℕ) (pins n : ℕ) : Type 0 where
   pub run : RunAt pins n tape bits
   pub drives : PinsAt driven state bits
@@ -62,6 +67,7 @@ pub record ClockIn (tape places flips driven leaves line bits state out : List �
 unfoldable pub bitsAt : (tape driven leaves line bits state : List ℕ) → (pins n : ℕ) → List ℕ
 bitsAt tape driven leaves line bits state pins n = let b = putBits driven state (putBits leaves line bits) in laidOver (runTape (entriesOf n tape) (take pins b)) b
 
+-- what it leaves
 pub record ClockOut (tape places flips driven leaves line bits state : List ℕ) (pins n : ℕ) (bits′ state′ out′ : List ℕ) : Type 0 where
   pub slots : bits′ ≡ bitsAt tape driven leaves line bits state pins n
   pub hands : out′ ≡ handed places (bitsAt tape driven leaves line bits state pins n)
@@ -76,6 +82,7 @@ recordPlaces read (flipFlop e d) = literalOf (read (pinOf e)) (inversionOf e) �
 recordPlaces read (memory ls) = map (λ l. literalOf (read (pinOf l)) (inversionOf l)) ls
 recordPlaces read (stagedPin p) = literalOf (read p) 0 ∷ []
 
+-- what all records hand out
 unfoldable pub placesOf : (ℕ → ℕ) → List Group → List ℕ
 placesOf read [] = []
 placesOf read (x ∷ xs) = recordPlaces read x ++ placesOf read xs

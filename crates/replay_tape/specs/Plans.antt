@@ -31,6 +31,7 @@ pub record Next (K m : ℕ) (g : List Node) (cells : List ℕ) (load : ℕ → �
   pub loads : (n : ℕ) → n < m → getD l′ n 0 < m + e′
   pub below : Below m e′ t′
 
+-- what is asked of stage 1
 pub record OneIn (K : ℕ) (cells gates w l t : List ℕ) : Type 0 where
   pub up : UpAt K cells w
   pub pins : length l ≡ pinCount gates
@@ -39,6 +40,7 @@ pub record OneIn (K : ℕ) (cells gates w l t : List ℕ) : Type 0 where
   pub space : 2 * 2 ^ K ≤ length t
   pub fits : pinCount gates + 2 ^ K ≤ 2147483648
 
+-- what is asked of a later one
 pub record NextIn (K : ℕ) (before cells gates : List ℕ) (e : ℕ) (w l t : List ℕ) : Type 0 where
   pub stage : StageIn K (pinCount gates) e cells l w t
   pub last : StageAt K before

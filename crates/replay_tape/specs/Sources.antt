@@ -39,11 +39,13 @@ unfoldable pub putSlot : ℕ → ℕ → tape.Source → ℕ
 putSlot pins e (old s) = s
 putSlot pins e (new x) = pins + e
 
+-- the entry
 unfoldable pub putTape : List ℕ → ℕ → tape.Source → List ℕ
 putTape t e (old s) = t
 putTape t e (new leaf) = t
 putTape t e (new (gate a b)) = set (set t (2 * e) a) (2 * e + 1) b
 
+-- the number of entries
 unfoldable pub putCount : ℕ → tape.Source → ℕ
 putCount e (old s) = e
 putCount e (new x) = e + 1
@@ -54,6 +56,7 @@ pub record PutAt (w t : List ℕ) (p pins e : ℕ) : Type 0 where
   pub room : 2 * e + 2 ≤ length t
   pub fits : pins + e < 4294967296
 
+-- a source is put
 pub record Puts (w t : List ℕ) (p pins e : ℕ) (x : tape.Source) (w′ t′ : List ℕ) (e′ : ℕ) : Type 0 where
   pub slot : w′ ≡ set w p (putSlot pins e x)
   pub entry : t′ ≡ putTape t e x

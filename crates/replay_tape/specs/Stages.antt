@@ -55,6 +55,7 @@ pub record StageIn (K m e : ℕ) (cells l w t : List ℕ) : Type 0 where
   pub small : (n : ℕ) → n < m → getD l n 0 < m + e
   pub below : Below m e t
 
+-- a whole stage is made
 pub record StageOut (K m : ℕ) (g : List Node) (cells l : List ℕ) (e : ℕ) (w t w′ t′ : List ℕ) (e′ : ℕ) : Type 0 where
   pub wlen : length w′ ≡ length w
   pub tlen : length t′ ≡ length t

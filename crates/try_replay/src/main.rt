@@ -108,7 +108,7 @@ fn run(gates: &[u32], records: &[u32], driven: &[u32], c: Chance, t: Totals) -> 
     compare(gates, records, driven, start, recording, t)
 }
 
-// Height 6 and eight rooms.
+// Height 8 and eight rooms.
 fn compare(
     gates: &[u32],
     records: &[u32],
@@ -120,15 +120,15 @@ fn compare(
     let given: [u32; 0] = [];
     let mut out: [u8; 512] = [7; 512];
     let mut end: [u8; 32] = [7; 32];
-    let mut plan: [u32; 1024] = [0; 1024];
-    let mut words: [u32; 2] = [0; 2];
+    let mut plan: [u32; 4096] = [0; 4096];
+    let mut words: [u32; 8] = [0; 8];
     let mut counts: [u32; 8] = [0; 8];
     let mut work: [u32; 1408] = [0; 1408];
-    let mut tape: [u32; 1024] = [0; 1024];
-    let mut slots: [u32; 1056] = [0; 1056];
-    let mut bits: [u8; 576] = [0; 576];
+    let mut tape: [u32; 4096] = [0; 4096];
+    let mut slots: [u32; 4128] = [0; 4128];
+    let mut bits: [u8; 2112] = [0; 2112];
     let a = replay(
-        6,
+        8,
         gates,
         &given,
         records,

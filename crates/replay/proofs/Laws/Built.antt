@@ -39,7 +39,7 @@ use Rattle.replay_form.proofs.Lengths.{length-ones, length-end}
 use Rattle.replay_form.specs.Calls as form
 use Rattle.replay_form.specs.Calls.{replaySized, slotsSize, bitsSize, outRight}
 use Rattle.replay_form.proofs.Calls as calls
-use Rattle.replay.specs.Runs.{RunIn, circuit}
+use Rattle.replay_plan.specs.Runs.{RunIn, circuit}
 use Rattle.replay.specs.Answers.{job, lent, outcome, FinishIn, Finished, BuiltIn}
 
 module _ (K : ℕ) (gates given records driven starting : List ℕ) (lines : ℕ) (recording plan words counts work tape slots bits out end : List ℕ)
@@ -189,6 +189,7 @@ module _ (K : ℕ) (gates given records driven starting : List ℕ) (lines : ℕ
     pub used-small : (s : ℕ) → s ≡ orZero (isHeight K) (2 ^ (K + 1)) → r .stages * s ≤ length plan1
     used-small s es = used-fits (r .stages * s) s es refl
 
+    -- a count for each stage
     pub stages-fit : r .stages ≤ length counts1
     stages-fit = counts-of b refl .1
 

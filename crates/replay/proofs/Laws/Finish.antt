@@ -4,7 +4,7 @@ use mathlib.Core.Path.{_≡_, refl, _∙_, ap}
 use mathlib.Core.Logic.{_≢_}
 use mathlib.Core.List.{List}
 use lib.ListN.{length, replicate}
-use Rattle.replay.specs.Runs.{RunOut}
+use Rattle.replay_plan.specs.Runs.{RunOut}
 use Rattle.replay.specs.Answers.{Finished}
 
 module _ (number : ℕ) (gates records driven starting : List ℕ) (lines : ℕ) (recording work tape slots bits out end : List ℕ) where

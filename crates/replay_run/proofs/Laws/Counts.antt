@@ -13,6 +13,7 @@ use Rattle.rules.specs.Records.{first, later}
 use Rattle.replay_form.specs.Clocks.{bitsOut, flipFlops}
 use Rattle.replay_tape.specs.Clocks.{recordPlaces, placesOf, flipsFrom}
 
+-- an index for each flip-flop
 pub length-flips : (j : ℕ) (gs : List Group) → length (flipsFrom j gs) ≡ flipFlops gs
 unfolding flipsFrom flipFlops
 length-flips j [] = refl
@@ -21,6 +22,7 @@ length-flips j (flipFlop e d ∷ gs) = ap suc (length-flips (j + 2) gs)
 length-flips j (memory ls ∷ gs) = length-flips (j + length ls) gs
 length-flips j (stagedPin p ∷ gs) = length-flips (j + 1) gs
 
+-- a place for each bit handed out
 pub length-places : (r : ℕ → ℕ) (gs : List Group) → length (placesOf r gs) ≡ bitsOut gs
 unfolding placesOf recordPlaces bitsOut
 length-places r [] = refl
@@ -59,6 +61,7 @@ module _ (r t : ℕ → ℕ) where
   record-agree (memory ls) e = memory-agree ls e
   record-agree (stagedPin p) e = ap (λ (a : ℕ). literalOf a 0 ∷ []) (e p (in-here p []))
 
+  -- the places are the same where the slots of the pins named are
   pub places-agree : (gs : List Group) → ((q : ℕ) → Ends q gs → r q ≡ t q) → placesOf r gs ≡ placesOf t gs
   unfolding placesOf
   places-agree [] e = refl

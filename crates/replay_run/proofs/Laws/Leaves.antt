@@ -28,25 +28,30 @@ and-true₂ true = refl
 and-true₂ false = refl
 
 module _ (g : List Node) (marks : List ℕ) (p : ℕ) where
+  -- pin 0 is no leaf
   pub leaf-zero : p ≡ 0 → false ≡ lineLeaf g marks p
   unfolding lineLeaf leafPin
   leaf-zero e = rw e
 
+  -- a marked pin is none of a line's
   pub leaf-driven : (getD marks p 0 ≡ 0 → ⊥) → false ≡ lineLeaf g marks p
   unfolding lineLeaf isOne
   leaf-driven e = rw (ne-eqb (getD marks p 0) 0 e) (and-false (leafPin g p))
 
   module _ (some : p ≡ 0 → ⊥) (there : p < length g) (free : getD marks p 0 ≡ 0) where
+    -- another is one where no gate drives it
     pub leaf-by : (b : Bool) → b ≡ isLeaf (getD g p leaf) → b ≡ lineLeaf g marks p
     unfolding lineLeaf leafPin isOne
     leaf-by b e =
         let l : leafPin g p ≡ b = rw (lt-ltb 0 p (omega (arith, some)), lt-ltb p (length g) there) (sym e) in
         rw (free, l) (and-true₂ b)
 
+-- a leaf is put
 pub leaf-put : (b : Bool) (n p : ℕ) (leaves : List ℕ) → n < length leaves → b ≡ true → LeafPut b n p leaves (set leaves n p) (n + 1)
 unfolding leafOf
 leaf-put b n p leaves h e = record { len = length-set leaves n p; count = omega arith; is = rw (e, add-one n) (take-suc-set leaves n p h) }
 
+-- another pin is not
 pub leaf-none : (b : Bool) (n p : ℕ) (leaves : List ℕ) → b ≡ false → LeafPut b n p leaves leaves n
 unfolding leafOf
 leaf-none b n p leaves e = record { len = refl; count = omega arith; is = rw e (sym (append-nil (take n leaves))) }
@@ -58,6 +63,7 @@ unfolding keep leafOf
 keep-front f x xs true e = rw (e, keep)
 keep-front f x xs false e = rw (e, keep)
 
+-- the pins below p have been looked at
 pub record LeavesTo (gates marks leaves : List ℕ) (p n : ℕ) (now : List ℕ) : Type 0 where
   pub upto : p ≤ pinCount gates
   pub few : n ≤ p
@@ -65,9 +71,11 @@ pub record LeavesTo (gates marks leaves : List ℕ) (p n : ℕ) (now : List ℕ)
   pub is : keep (lineLeaf (graphOf gates) marks) (upTo (pinCount gates) 0) ≡ take n now ++ keep (lineLeaf (graphOf gates) marks) (upTo (pinCount gates - p) p)
 
 module _ (gates marks leaves : List ℕ) (A : LeavesIn gates marks leaves) where
+  -- none at the beginning
   pub leaves-none : LeavesTo gates marks leaves 0 0 leaves
   leaves-none = let z : pinCount gates - 0 ≡ pinCount gates = omega arith in record { upto = omega arith; few = omega arith; len = refl; is = rw z }
 
+  -- one pin more
   pub leaves-more : (p n : ℕ) (now : List ℕ) → LeavesTo gates marks leaves p n now → p < pinCount gates → (b : Bool) → b ≡ lineLeaf (graphOf gates) marks p → (now′ : List ℕ) (r : ℕ) →
       LeafPut b n p now now′ r → LeavesTo gates marks leaves (p + 1) r now′
   unfolding upTo
@@ -84,6 +92,7 @@ module _ (gates marks leaves : List ℕ) (A : LeavesIn gates marks leaves) where
             ∙ sym (append-assoc (take n now) (leafOf b p) _) ∙ ap (λ (l : List ℕ). l ++ keep f (upTo (pinCount gates - (p + 1)) (p + 1))) (sym (P .is));
       }
 
+  -- all pins
   pub leaves-done : (p n : ℕ) (now : List ℕ) → LeavesTo gates marks leaves p n now → pinCount gates ≤ p → LeavesPut gates marks leaves now n
   unfolding upTo keep
   leaves-done p n now R h =
@@ -107,15 +116,18 @@ leaves-are g driven marks e = keep-same (lineLeaf g marks) (λ p. leafPin g p &&
 
 -- ---- the marks
 
+-- those from the i-th on are marked
 pub record MarkedTo (driven marks : List ℕ) (i : ℕ) (now : List ℕ) : Type 0 where
   pub upto : i ≤ length driven
   pub marked : Marked (drop i driven) marks now
 
 module _ (driven marks : List ℕ) where
+  -- none at the beginning
   pub marked-none : MarkedTo driven marks (length driven) marks
   unfolding mem markOr
   marked-none = record { upto = omega arith; marked = record { len = refl; each = λ p h. rw (drop-length driven) } }
 
+  -- one more
   pub marked-more : (i : ℕ) (now : List ℕ) → MarkedTo driven marks i now → 0 < i → (d : ℕ) → d ≡ getD driven (i - 1) 0 → MarkedTo driven marks (i - 1) (set now d 1)
   unfolding mem markOr
   marked-more i now R h d ed =
@@ -131,6 +143,7 @@ module _ (driven marks : List ℕ) where
         };
       }
 
+  -- all of them
   pub marked-done : (i : ℕ) (now : List ℕ) → MarkedTo driven marks i now → i ≤ 0 → Marked driven marks now
   marked-done i now R h = let e : i ≡ 0 = omega arith in record { len = R .marked .len; each = λ p b. R .marked .each p b ∙ rw e }
 

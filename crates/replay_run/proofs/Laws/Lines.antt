@@ -42,6 +42,7 @@ pub record Clocked (tape places flips driven leaves recording bits₀ state₀ o
       ≡ andThen (record { out = take to out; end = state }) (linesRun tape places flips driven leaves pins n left (drop from recording) bits state)
 
 module _ (tape places flips driven leaves recording bits₀ state₀ out₀ : List ℕ) (pins n k : ℕ) (A : LinesIn tape places flips driven leaves recording bits₀ state₀ out₀ pins n k) where
+  -- no line at the beginning
   pub clocked-none : Clocked tape places flips driven leaves recording bits₀ state₀ out₀ pins n k k 0 0 bits₀ state₀ out₀
   unfolding andThen
   clocked-none = record {
@@ -57,9 +58,11 @@ module _ (tape places flips driven leaves recording bits₀ state₀ out₀ : Li
 
   module _ (left from to : ℕ) (bits state out : List ℕ) (R : Clocked tape places flips driven leaves recording bits₀ state₀ out₀ pins n k left from to bits state out) (h : 0 < left)
       (e s : ℕ) (ee : e ≡ from + length leaves) (es : s ≡ to + length places) where
+    -- the next line is in the recording
     pub line-there : e ≤ length recording
     line-there = omega (arith, R .ahead, one-more left (length leaves) h)
 
+    -- and its bits have room
     pub part-there : s ≤ length out
     part-there = omega (arith, R .room, one-more left (length places) h)
 
@@ -72,6 +75,7 @@ module _ (tape places flips driven leaves recording bits₀ state₀ out₀ : Li
     part-length : length (take (s - to) (drop to out)) ≡ length places
     part-length = length-take-le (s - to) (drop to out) (omega (arith, length-drop to out, part-there)) ∙ omega arith
 
+    -- what is asked of a clock
     pub clock-in : ClockIn tape places flips driven leaves line bits state (take (s - to) (drop to out)) pins n
     clock-in = record {
       run = record { there = A .run .there; room = omega (arith, R .blen, A .run .room); below = A .run .below; bit = R .bit };
@@ -134,6 +138,7 @@ module _ (tape places flips driven leaves recording bits₀ state₀ out₀ : Li
           R .done ∙ rw (left-run left h (drop from recording) bits state, b, o, t, d, q)
           (then-assoc (record { out = take to out; end = state }) (record { out = y; end = state′ }) (linesRun tape places flips driven leaves pins n (left - 1) (drop e recording) bits′ state′))
 
+      -- one line more
       pub clocked-more : Clocked tape places flips driven leaves recording bits₀ state₀ out₀ pins n k (left - 1) e s bits′ state′ out′
       clocked-more =
           let l : length out′ ≡ length out = ap length out-there ∙ length-append (take to out ++ y) (drop s out) ∙ omega (arith, head-length, length-drop s out, part-there) in
@@ -151,6 +156,7 @@ module _ (tape places flips driven leaves recording bits₀ state₀ out₀ : Li
             done = more-done;
           }
 
+  -- all lines
   pub clocked-done : (left from to : ℕ) (bits state out : List ℕ) → Clocked tape places flips driven leaves recording bits₀ state₀ out₀ pins n k left from to bits state out → left ≤ 0 →
       LinesOut tape places flips driven leaves recording bits₀ state₀ out₀ pins n k bits state out
   unfolding linesRun andThen laidOver

@@ -19,10 +19,12 @@ use Rattle.replay_tape.specs.Clocks.{recordPlaces, placesOf}
 use Rattle.replay_run.specs.Places.{inversionBy, Inverts, readIn, RecordIn, RecordPut, PlacesIn, PlacesPut}
 use Rattle.replay_run.proofs.Laws.Flips.{kinds, whole-some}
 
+-- a staged pin has no inversion
 pub inverts-none : (k x : ℕ) → k ≡ 4 → Inverts k x 0
 unfolding inversionBy
 inverts-none k x e = record { is = rw e; small = omega arith }
 
+-- a literal has its own
 pub inverts-some : (k x : ℕ) → (k ≡ 4 → ⊥) → (r : ℕ) → r ≡ inversionOf x → r ≤ 1 → Inverts k x r
 unfolding inversionBy
 inverts-some k x e r er h = record { is = rw (ne-eqb k 4 e, inversionBy) er; small = h }
@@ -35,6 +37,7 @@ map-at f (x ∷ l) zero h = refl
 map-at f (x ∷ l) (suc i) h = map-at f l i (omega arith)
 
 module _ (r : ℕ → ℕ) where
+  -- a place for each endpoint of a record
   pub length-record : (x : Group) → length (recordPlaces r x) ≡ length (endpointsOf x)
   unfolding recordPlaces endpointsOf
   length-record (output l) = refl
@@ -84,6 +87,7 @@ module _ (r : ℕ → ℕ) where
 abbrev placesHere : (records reads : List ℕ) → ℕ → List ℕ
 placesHere records reads at = recordPlaces (readIn reads) (groupAt (drop at records))
 
+-- the first i places of a record are put
 pub record RecordTo (records reads : List ℕ) (at size j : ℕ) (places : List ℕ) (i : ℕ) (now : List ℕ) : Type 0 where
   pub upto : i ≤ size
   pub len : length now ≡ length places
@@ -93,16 +97,20 @@ module _ (records reads : List ℕ) (at size : ℕ) (places : List ℕ) (j : ℕ
   here-length : length (placesHere records reads at) ≡ size
   here-length = length-record (readIn reads) (groupAt (drop at records)) ∙ sym (A .sized ∙ size-endpoints records at (A .whole))
 
+  -- the record stands whole
   pub record-inside : at + 1 + size ≤ length records
   record-inside = let S = standing records at (A .whole) in omega (arith, S .inside, A .sized)
 
+  -- none at the beginning
   pub record-none : RecordTo records reads at size j places 0 places
   record-none = let z : j + 0 ≡ j = omega arith in record { upto = omega arith; len = refl; is = rw z (sym (append-nil (take j places))) }
 
   module _ (i : ℕ) (h : i < size) (p v : ℕ) (ep : p ≡ endpointAt records at i) where
+    -- the pin has a slot
     pub pin-inside : p < length reads
     pin-inside = omega (arith, A .pins i h)
 
+    -- whose literal fits
     pub slot-small : getD reads p 0 < 2147483648
     slot-small = A .small p pin-inside
 
@@ -118,6 +126,7 @@ module _ (records reads : List ℕ) (at size : ℕ) (places : List ℕ) (j : ℕ
           let w : inversionBy (getD (drop at records) 0 0) (getD (drop at records) (suc i) 0) ≡ v = ap₂ inversionBy k x ∙ sym (I .is) in
           place-front (readIn reads) (drop at records) (A .whole) i l ∙ ap₂ (λ (a b : ℕ). 2 * getD reads a 0 + b) e w
 
+      -- one place more
       pub record-more : (now : List ℕ) → RecordTo records reads at size j places i now → RecordTo records reads at size j places (i + 1) (set now (j + i) (2 * getD reads p 0 + v))
       record-more now R =
           let y = 2 * getD reads p 0 + v in
@@ -130,6 +139,7 @@ module _ (records reads : List ℕ) (at size : ℕ) (places : List ℕ) (j : ℕ
             is = rw (n, m, s) (take-suc-set now (j + i) y (omega (arith, R .len, A .room)) ∙ rw (R .is) (append-assoc (take j places) (take i (placesHere records reads at)) (y ∷ [])));
           }
 
+  -- all of a record
   pub record-done : (i : ℕ) (now : List ℕ) → RecordTo records reads at size j places i now → size ≤ i → RecordPut records reads at size j places now
   record-done i now R h =
       let e : i ≡ size = omega (arith, R .upto) in
@@ -137,6 +147,7 @@ module _ (records reads : List ℕ) (at size : ℕ) (places : List ℕ) (j : ℕ
 
 -- ---- all records
 
+-- the records before an index have their places
 pub record PlacesTo (records reads places : List ℕ) (at j : ℕ) (now : List ℕ) : Type 0 where
   pub rest : List Group
   pub unread : read (drop at records) ≡ groups rest
@@ -147,6 +158,7 @@ pub record PlacesTo (records reads places : List ℕ) (at j : ℕ) (now : List �
   pub is : placesOf (readIn reads) (groupsOf records) ≡ take j now ++ placesOf (readIn reads) rest
 
 module _ (records reads places : List ℕ) (A : PlacesIn records reads places) where
+  -- none at the beginning
   pub places-none : PlacesTo records reads places 0 0 places
   places-none = record { rest = groupsOf records; unread = A .readable; named = A .named; len = refl; inside = omega arith; low = omega arith; is = refl }
 
@@ -154,9 +166,11 @@ module _ (records reads places : List ℕ) (A : PlacesIn records reads places) w
     abbrev next : Next records at (R .rest)
     next = read-next records at (R .rest) (R .unread) h
 
+    -- the record stands whole
     pub places-inside : at + 1 + size ≤ length records
     places-inside = let S = standing records at (next .whole) in omega (arith, S .inside)
 
+    -- what is asked of the next record
     pub record-in : RecordIn records reads at size now j
     record-in = record {
       whole = next .whole;
@@ -166,6 +180,7 @@ module _ (records reads places : List ℕ) (A : PlacesIn records reads places) w
       room = omega (arith, places-inside, R .low, R .len, A .room);
     }
 
+    -- one record more
     pub places-more : (now′ : List ℕ) → RecordPut records reads at size j now now′ → PlacesTo records reads places (at + (1 + size)) (j + size) now′
     unfolding placesOf
     places-more now′ P =
@@ -182,6 +197,7 @@ module _ (records reads places : List ℕ) (A : PlacesIn records reads places) w
           is = R .is ∙ ap (λ (l : List ℕ). take j now ++ l) f ∙ sym (append-assoc (take j now) (placesHere records reads at) (placesOf (readIn reads) (next .rest))) ∙ ap (λ (l : List ℕ). l ++ placesOf (readIn reads) (next .rest)) (sym (P .is));
         }
 
+  -- all records
   pub places-done : (at j : ℕ) (now : List ℕ) → PlacesTo records reads places at j now → length records ≤ at → PlacesPut records reads places now j
   unfolding placesOf
   places-done at j now R h =

@@ -29,6 +29,7 @@ drop-whole l n = take-all (length l - n) (drop n l) (omega (arith, length-drop n
 
 -- ---- a word
 
+-- the positions of a word from p on are read
 pub record WordTo (cells slots : List ℕ) (at p : ℕ) (reads now : List ℕ) : Type 0 where
   pub high : p ≤ at + 32
   pub inside : p ≤ length cells
@@ -36,6 +37,7 @@ pub record WordTo (cells slots : List ℕ) (at p : ℕ) (reads now : List ℕ) :
   pub slotted : Slotted slots reads now (λ q. firstAt q p (take (at + 32 - p) (drop p cells)))
 
 module _ (cells slots reads : List ℕ) (at : ℕ) where
+  -- none at the beginning
   pub word-none : (p : ℕ) → Least (at + 32) (length cells) p → WordTo cells slots at p reads reads
   unfolding firstAt slotOr
   word-none p L = record {
@@ -67,6 +69,7 @@ module _ (cells slots reads : List ℕ) (at : ℕ) where
         (λ t. let e = eqb-true n q t in rw (t, firstAt) (ap (λ (i : ℕ). getD (set now n v) i 0) (sym e) ∙ getD-set-same now n v 0 (omega (arith, R .slotted .len)) ∙ ev))
         (λ t. let e = eqb-false n q t in rw (t, firstAt, s) (getD-set-other now n q v 0 (λ z. e (sym z)) ∙ R .slotted .each q b))
 
+    -- one position more
     pub word-more : WordTo cells slots at (p - 1) reads (set now n v)
     word-more = record {
       high = omega (arith, R .high);
@@ -75,6 +78,7 @@ module _ (cells slots reads : List ℕ) (at : ℕ) where
       slotted = record { len = length-set now n v ∙ R .slotted .len; each = λ q b. first-step q b ∙ ap (λ (l : List ℕ). slotOr slots (getD reads q 0) (firstAt q (p - 1) l)) (sym front) };
     }
 
+  -- the whole word
   pub word-done : (w : ℕ) → at ≡ 32 * w → (p : ℕ) (now : List ℕ) → WordTo cells slots at p reads now → p ≤ at → WordRead cells slots w reads now
   unfolding firstAt
   word-done w ew p now R h = record {
@@ -93,15 +97,18 @@ unfolding slotOr inWords
 word-then slots cells q old w ws nothing e = rw (e, inWords)
 word-then slots cells q old w ws (found p) e = rw (e, inWords)
 
+-- the words from the i-th on are read
 pub record WordsTo (cells slots words reads : List ℕ) (i : ℕ) (now : List ℕ) : Type 0 where
   pub upto : i ≤ length words
   pub slotted : Slotted slots reads now (λ q. inWords cells q (drop i words))
 
 module _ (cells slots words reads : List ℕ) where
+  -- none at the beginning
   pub words-none : WordsTo cells slots words reads (length words) reads
   unfolding inWords slotOr
   words-none = record { upto = omega arith; slotted = record { len = refl; each = λ q h. rw (drop-length words) } }
 
+  -- one word more
   pub words-more : (i : ℕ) (now : List ℕ) → WordsTo cells slots words reads i now → 0 < i → (w : ℕ) → w ≡ getD words (i - 1) 0 → (now′ : List ℕ) → WordRead cells slots w now now′ →
       WordsTo cells slots words reads (i - 1) now′
   words-more i now R h w ew now′ W =
@@ -115,6 +122,7 @@ module _ (cells slots words reads : List ℕ) where
         };
       }
 
+  -- all words of a stage
   pub words-done : (i : ℕ) (now : List ℕ) → WordsTo cells slots words reads i now → i ≤ 0 → WordsRead cells slots words reads now
   words-done i now R h = let e : i ≡ 0 = omega arith in record { len = R .slotted .len; each = λ q b. R .slotted .each q b ∙ rw e }
 
@@ -135,6 +143,7 @@ unfolding slotOr writtenBy
 stage-then slots plan words counts size at q old c nothing e = rw (e, writtenBy)
 stage-then slots plan words counts size at q old c (found p) e = rw (e, writtenBy) (getD-drop at slots p 0)
 
+-- the stages from the k-th on are read
 pub record PlanTo (size : ℕ) (plan slots words counts reads : List ℕ) (k at stop : ℕ) (now : List ℕ) : Type 0 where
   pub upto : k ≤ length counts
   pub from : at ≡ size * k
@@ -144,6 +153,7 @@ pub record PlanTo (size : ℕ) (plan slots words counts reads : List ℕ) (k at 
   pub slotted : Slotted slots reads now (λ q. writtenBy size at q (drop at plan) (drop stop words) (drop k counts))
 
 module _ (size : ℕ) (plan slots words counts reads : List ℕ) (total : ℕ) (A : PlanAt size plan slots words counts total) where
+  -- none at the beginning
   pub plan-none : PlanTo size plan slots words counts reads (length counts) (size * length counts) total reads
   unfolding writtenBy slotOr
   plan-none = record {
@@ -156,6 +166,7 @@ module _ (size : ℕ) (plan slots words counts reads : List ℕ) (total : ℕ) (
   }
 
   module _ (k at stop : ℕ) (now : List ℕ) (R : PlanTo size plan slots words counts reads k at stop now) (h : 0 < k) where
+    -- a stage is left
     pub size-below : size ≤ at
     size-below =
         let s : suc (k - 1) ≡ k = omega arith in
@@ -166,6 +177,7 @@ module _ (size : ℕ) (plan slots words counts reads : List ℕ) (total : ℕ) (
         let s : suc (k - 1) ≡ k = omega arith in
         omega (arith, R .from, (rw s at (mul-suc size (k - 1))))
 
+    -- its slots stand beside its cells
     pub stage-fits : length (take (at - (at - size)) (drop (at - size) plan)) ≤ length (take (length slots - (at - size)) (drop (at - size) slots))
     stage-fits =
         let l = length-take-le (at - (at - size)) (drop (at - size) plan) (omega (arith, length-drop (at - size) plan, R .inside)) in
@@ -178,9 +190,11 @@ module _ (size : ℕ) (plan slots words counts reads : List ℕ) (total : ℕ) (
           let t : take k counts ≡ take (k - 1) counts ++ (c ∷ []) = ap (λ (i : ℕ). take i counts) (sym s) ∙ take-suc counts (k - 1) 0 (omega (arith, R .upto)) ∙ rw ec in
           ap sum t ∙ sum-append (take (k - 1) counts) (c ∷ []) ∙ ap (λ (i : ℕ). sum (take (k - 1) counts) + i) (sum-one c)
 
+      -- its words are left
       pub count-below : c ≤ stop
       count-below = omega (arith, R .ends, sum-lower)
 
+      -- one stage more
       pub plan-more : (now′ : List ℕ) → WordsRead (take (at - (at - size)) (drop (at - size) plan)) (take (length slots - (at - size)) (drop (at - size) slots)) (take (stop - (stop - c)) (drop (stop - c) words)) now now′ →
           PlanTo size plan slots words counts reads (k - 1) (at - size) (stop - c) now′
       plan-more now′ W =
@@ -205,6 +219,7 @@ module _ (size : ℕ) (plan slots words counts reads : List ℕ) (total : ℕ) (
             };
           }
 
+  -- all stages
   pub plan-done : (k at stop : ℕ) (now : List ℕ) → PlanTo size plan slots words counts reads k at stop now → k ≤ 0 → PlanRead size plan slots words counts reads now
   unfolding sum
   plan-done k at stop now R h =

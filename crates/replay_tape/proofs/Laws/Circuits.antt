@@ -31,6 +31,7 @@ use Rattle.replay_tape.proofs.Laws.Clocks.{length-put, places-hand, fli
 
 -- ---- the bits of the pins
 
+-- bits put in two parts
 pub put-append : (ds ls st ln b : List ℕ) → length st ≡ length ds → putBits (ds ++ ls) (st ++ ln) b ≡ putBits ds st (putBits ls ln b)
 unfolding putBits
 put-append [] ls [] ln b e = refl
@@ -38,6 +39,7 @@ put-append [] ls (s ∷ st) ln b e = absurd (omega arith)
 put-append (d ∷ ds) ls [] ln b e = absurd (omega arith)
 put-append (d ∷ ds) ls (s ∷ st) ln b e = ap (λ (l : List ℕ). set l d (asNumber (isOne s))) (put-append ds ls st ln b (omega arith))
 
+-- a pin that is not put keeps its bit
 pub put-out : (ps vs b : List ℕ) (p : ℕ) → mem p ps ≡ false → getD (putBits ps vs b) p 0 ≡ getD b p 0
 unfolding putBits mem
 put-out [] vs b p o = refl
@@ -66,6 +68,7 @@ module _ (g : List Node) (driven line state bits : List ℕ) (len : length state
   put-length : length put ≡ length bits
   put-length = length-put driven state _ ∙ length-put (lineLeaves g driven) line bits
 
+  -- a bit for each pin
   pub length-pins : length (pinBits g driven line state) ≡ length g
   unfolding pinBits
   length-pins = ap suc (length-map (upTo (length g - 1) 1) _ ∙ length-upTo (length g - 1) 1) ∙ omega (arith, R .one)
@@ -116,6 +119,7 @@ module _ (C : Circuit) (B : Valuation) (tape : List ℕ) (n : ℕ) (read : ℕ �
 
 -- ---- the tape of a plan
 
+-- running keeps the bits that were there
 pub run-keeps : (xs : List Node) (bits : List ℕ) (s : ℕ) → s < length bits → getD (runTape xs bits) s 0 ≡ getD bits s 0
 unfolding runTape
 run-keeps [] bits s h = refl

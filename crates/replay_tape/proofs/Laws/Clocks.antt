@@ -21,25 +21,30 @@ use Rattle.replay_tape.proofs.Laws.Running.{literal-number, number-smal
 
 -- ---- bits to their pins
 
+-- as many bits
 pub length-put : (ps vs bits : List ℕ) → length (putBits ps vs bits) ≡ length bits
 unfolding putBits
 length-put [] vs bits = refl
 length-put (p ∷ ps) vs bits = length-set (putBits ps (drop 1 vs) bits) p _ ∙ length-put ps (drop 1 vs) bits
 
+-- the pins from the i-th on have their bits
 pub record PutFrom (pins values bits : List ℕ) (i : ℕ) (now : List ℕ) : Type 0 where
   pub upto : i ≤ length pins
   pub len : length now ≡ length bits
   pub done : now ≡ putBits (drop i pins) (drop i values) bits
 
 module _ (pins values bits : List ℕ) (A : PinsAt pins values bits) where
+  -- none at the beginning
   pub put-none : PutFrom pins values bits (length pins) bits
   unfolding putBits
   put-none = record { upto = omega arith; len = refl; done = rw (drop-length pins) }
 
   module _ (i : ℕ) (now : List ℕ) (R : PutFrom pins values bits i now) (h : 0 < i) (p : ℕ) (ep : p ≡ getD pins (i - 1) 0) where
+    -- the pin is there
     pub put-inside : p < length now
     put-inside = omega (arith, A .inside (i - 1) (omega (arith, R .upto)), R .len)
 
+    -- one pin more
     pub put-more : (v : ℕ) → v ≡ asNumber (isOne (getD values (i - 1) 0)) → PutFrom pins values bits (i - 1) (set now p v)
     unfolding putBits
     put-more v ev =
@@ -53,40 +58,48 @@ module _ (pins values bits : List ℕ) (A : PinsAt pins values bits) where
           done = rw (d, drop-drop 1 (i - 1) values, o, getD-drop (i - 1) values 0 0, z, ← ev, ← R .done);
         }
 
+  -- all pins
   pub put-done : (i : ℕ) (now : List ℕ) → PutFrom pins values bits i now → i ≤ 0 → now ≡ putBits pins values bits
   put-done i now R h = let e : i ≡ 0 = omega arith in R .done ∙ rw e
 
 -- ---- bits handed out
 
+-- a bit for each place
 pub length-handed : (ls bits : List ℕ) → length (handed ls bits) ≡ length ls
 unfolding handed
 length-handed [] bits = refl
 length-handed (a ∷ ls) bits = ap suc (length-handed ls bits)
 
+-- the bit of a place
 pub getD-handed : (ls bits : List ℕ) (i : ℕ) → i < length ls → getD (handed ls bits) i 0 ≡ placeBit bits (getD ls i 0)
 unfolding handed
 getD-handed [] bits i h = absurd (omega arith)
 getD-handed (a ∷ ls) bits zero h = refl
 getD-handed (a ∷ ls) bits (suc i) h = getD-handed ls bits i (omega arith)
 
+-- the first i places have handed out their bits
 pub record HandedTo (places bits out : List ℕ) (i : ℕ) (now : List ℕ) : Type 0 where
   pub upto : i ≤ length places
   pub len : length now ≡ length out
   pub each : (k : ℕ) → k < i → getD now k 0 ≡ placeBit bits (getD places k 0)
 
 module _ (places bits out : List ℕ) (A : PlacesAt places bits out) where
+  -- none at the beginning
   pub handed-none : HandedTo places bits out 0 out
   handed-none = record { upto = omega arith; len = refl; each = λ k h. absurd (omega arith) }
 
   module _ (i : ℕ) (h : i < length places) (a : ℕ) (ea : a ≡ getD places i 0) where
+    -- the place's slot is there
     pub place-inside : a / 2 < length bits
     unfolding pinOf
     place-inside = rw ea (A .inside i h)
 
+    -- its bit is a bit
     pub place-small : getD bits (a / 2) 0 ≤ 1
     unfolding pinOf
     place-small = rw ea (A .bit i h)
 
+    -- one place more
     pub handed-more : (now : List ℕ) → HandedTo places bits out i now → (x : ℕ) → x ≡ getD bits (a / 2) 0 → HandedTo places bits out (i + 1) (set now i ((a + x) % 2))
     unfolding placeBit slotBit pinOf
     handed-more now R x ex = record {
@@ -98,25 +111,30 @@ module _ (places bits out : List ℕ) (A : PlacesAt places bits out) where
           (λ t. let e = eqb-false k i t in getD-set-other now i k _ 0 e ∙ R .each k (omega (arith, e)));
     }
 
+  -- all places
   pub handed-done : (i : ℕ) (now : List ℕ) → HandedTo places bits out i now → length places ≤ i → now ≡ handed places bits
   handed-done i now R h = ext-getD 0 now (handed places bits) (R .len ∙ A .room ∙ sym (length-handed places bits))
       (λ k b. let l : k < length places = omega (arith, R .len, A .room) in R .each k (omega arith) ∙ sym (getD-handed places bits k l))
 
 -- ---- the next bits
 
+-- without enable the bit stays
 pub pick-old : (e d b : ℕ) → e ≡ 0 → b ≡ pick e d b
 unfolding pick
 pick-old e d b h = rw (eq-eqb e 0 h, pick)
 
+-- with it the data is taken
 pub pick-data : (e d b : ℕ) → (e ≡ 0 → ⊥) → d ≡ pick e d b
 unfolding pick
 pick-data e d b h = rw (ne-eqb e 0 h, pick)
 
+-- a bit for each flip-flop
 pub length-datas : (js out state : List ℕ) → length (datas js out state) ≡ length js
 unfolding datas
 length-datas [] out state = refl
 length-datas (j ∷ js) out state = ap suc (length-datas js out (drop 1 state))
 
+-- a flip-flop's next bit
 pub getD-datas : (js out state : List ℕ) (i : ℕ) → i < length js → getD (datas js out state) i 0 ≡ pick (getD out (getD js i 0) 0) (getD out (getD js i 0 + 1) 0) (getD state i 0)
 unfolding datas
 getD-datas [] out state i h = absurd (omega arith)
@@ -125,6 +143,7 @@ getD-datas (j ∷ js) out state (suc i) h =
     let e : 1 + i ≡ suc i = omega arith in
     getD-datas js out (drop 1 state) i (omega arith) ∙ ap (λ (b : ℕ). pick (getD out (getD js i 0) 0) (getD out (getD js i 0 + 1) 0) b) (getD-drop 1 state i 0 ∙ ap (λ (n : ℕ). getD state n 0) e)
 
+-- the first i flip-flops have their next bits
 pub record TakenTo (flips out state : List ℕ) (i : ℕ) (now : List ℕ) : Type 0 where
   pub upto : i ≤ length flips
   pub len : length now ≡ length state
@@ -132,13 +151,16 @@ pub record TakenTo (flips out state : List ℕ) (i : ℕ) (now : List ℕ) : Typ
   pub rest : (k : ℕ) → i ≤ k → getD now k 0 ≡ getD state k 0
 
 module _ (flips out state : List ℕ) (A : FlipsAt flips out state) where
+  -- none at the beginning
   pub taken-none : TakenTo flips out state 0 state
   taken-none = record { upto = omega arith; len = refl; each = λ k h. absurd (omega arith); rest = λ k h. refl }
 
   module _ (i : ℕ) (h : i < length flips) (j : ℕ) (ej : j ≡ getD flips i 0) where
+    -- a flip-flop's bits were handed out
     pub flip-inside : j + 1 < length out
     flip-inside = rw ej (A .inside i h)
 
+    -- one flip-flop more
     pub taken-more : (now : List ℕ) → TakenTo flips out state i now → (v : ℕ) → v ≡ pick (getD out j 0) (getD out (j + 1) 0) (getD now i 0) → TakenTo flips out state (i + 1) (set now i v)
     taken-more now R v ev = record {
       upto = omega arith;
@@ -149,14 +171,17 @@ module _ (flips out state : List ℕ) (A : FlipsAt flips out state) where
       rest = λ k b. getD-set-other now i k v 0 (λ d. omega arith) ∙ R .rest k (omega arith);
     }
 
+  -- all flip-flops
   pub taken-done : (i : ℕ) (now : List ℕ) → TakenTo flips out state i now → length flips ≤ i → now ≡ datas flips out state
   taken-done i now R h = ext-getD 0 now (datas flips out state) (R .len ∙ A .room ∙ sym (length-datas flips out state))
       (λ k b. let l : k < length flips = omega (arith, R .len, A .room) in R .each k (omega arith) ∙ sym (getD-datas flips out state k l))
 
+-- 0 is the bit 0
 pub bit-zero : (x : ℕ) → x ≡ 0 → 0 ≡ asNumber (isOne x)
 unfolding asNumber isOne
 bit-zero x e = rw (eq-eqb x 0 e)
 
+-- anything else the bit 1
 pub bit-one : (x : ℕ) → (x ≡ 0 → ⊥) → 1 ≡ asNumber (isOne x)
 unfolding asNumber isOne
 bit-one x e = rw (ne-eqb x 0 e)
@@ -238,6 +263,7 @@ module _ (v : ℕ → Bool) where
 
 -- ---- one clock
 
+-- a bit that is put is a bit
 pub put-small : (ps vs bits : List ℕ) (s : ℕ) → s < length bits → getD bits s 0 ≤ 1 → getD (putBits ps vs bits) s 0 ≤ 1
 unfolding putBits
 put-small [] vs bits s l h = h
@@ -245,18 +271,22 @@ put-small (p ∷ ps) vs bits s l h = split (eqb s p)
     (λ t. let e = eqb-true s p t in rw (e, getD-set-same (putBits ps (drop 1 vs) bits) p (asNumber (isOne (getD vs 0 0))) 0 (omega (arith, length-put ps (drop 1 vs) bits))) (number-small (isOne (getD vs 0 0))))
     (λ t. rw (getD-set-other (putBits ps (drop 1 vs) bits) p s (asNumber (isOne (getD vs 0 0))) 0 (eqb-false s p t)) (put-small ps (drop 1 vs) bits s l h))
 
+-- pins stay where they are
 pub pins-kept : (pins values bits u : List ℕ) → length u ≡ length bits → PinsAt pins values bits → PinsAt pins values u
 pins-kept pins values bits u e A = record { enough = A .enough; inside = λ i h. omega (arith, A .inside i h) }
 
 module _ (tape places flips driven leaves line bits state out : List ℕ) (pins n : ℕ) (C : ClockIn tape places flips driven leaves line bits state out pins n) where
   module _ (u : List ℕ) (eu : u ≡ putBits leaves line bits) where
+    -- the line's bits are put
     pub line-length : length u ≡ length bits
     line-length = ap length eu ∙ length-put leaves line bits
 
     module _ (w : List ℕ) (ew : w ≡ putBits driven state u) where
+      -- and those of the flip-flops
       pub put-length : length w ≡ length bits
       put-length = ap length ew ∙ length-put driven state u ∙ line-length
 
+      -- the tape can be run
       pub clock-run : RunAt pins n tape w
       clock-run = record {
         there = C .run .there;
@@ -268,16 +298,19 @@ module _ (tape places flips driven leaves line bits state out : List ℕ) (pins 
       }
 
       module _ (x : List ℕ) (ex : x ≡ laidOver (runTape (entriesOf n tape) (take pins w)) w) where
+        -- a slot's bit is the tape's
         pub slot-there : (s : ℕ) → s < pins + n → getD x s 0 ≡ getD (runTape (entriesOf n tape) (take pins w)) s 0
         unfolding laidOver
         slot-there s h = rw ex (List·getD-append (runTape (entriesOf n tape) (take pins w)) _ 0 s (omega (arith, length-ran pins n tape w clock-run n)))
 
+        -- as many bits
         pub slots-length : length x ≡ length bits
         unfolding laidOver
         slots-length =
             let r = runTape (entriesOf n tape) (take pins w) in
             ap length ex ∙ length-append r (drop (length r) w) ∙ omega (arith, length-drop (length r) w, length-ran pins n tape w clock-run n, put-length, C .run .room)
 
+        -- the places can hand out
         pub clock-places : PlacesAt places x out
         clock-places = record {
           room = C .room;
@@ -285,12 +318,15 @@ module _ (tape places flips driven leaves line bits state out : List ℕ) (pins 
           bit = λ i h. rw (slot-there (pinOf (getD places i 0)) (C .named i h)) (ran-small pins n tape w clock-run n (pinOf (getD places i 0)) (C .named i h));
         }
 
+        -- the bits of all slots
         pub clock-bits : x ≡ bitsAt tape driven leaves line bits state pins n
         unfolding bitsAt
         clock-bits = ex ∙ rw (ew, eu)
 
+        -- the flip-flops can take theirs
         pub clock-flips : (y : List ℕ) → y ≡ handed places x → FlipsAt flips y state
         clock-flips y e = record { room = C .takes .room; inside = λ i h. omega (arith, C .takes .inside i h, ap length e, length-handed places x, C .room) }
 
+        -- what a clock leaves
         pub clock-out : (y z : List ℕ) → y ≡ handed places x → z ≡ datas flips y state → ClockOut tape places flips driven leaves line bits state pins n x z y
         clock-out y z ey ez = record { slots = clock-bits; hands = ey ∙ ap (handed places) clock-bits; next = ez ∙ ap (λ (o : List ℕ). datas flips o state) (ey ∙ ap (handed places) clock-bits) }

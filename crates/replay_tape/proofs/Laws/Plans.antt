@@ -33,10 +33,12 @@ use Rattle.replay_tape.proofs.Laws.Sources.{load-past, load-there}
 -- ---- stage 1
 
 module _ (g : List Node) (n : ℕ) where
+  -- a leaf is in its own slot
   pub first-leaf : n < length g → isLeaf (getD g n leaf) ≡ true → n ≡ firstSlot g n
   unfolding firstSlot
   first-leaf h e = rw (e, lt-ltb n (length g) h, firstSlot)
 
+  -- a gate is in none
   pub first-gate : isLeaf (getD g n leaf) ≡ false → 0 ≡ firstSlot g n
   unfolding firstSlot
   first-gate e = rw (e, firstSlot)
@@ -55,9 +57,11 @@ pub record SlotsTo (gates l : List ℕ) (p : ℕ) (now : List ℕ) : Type 0 wher
   pub each : (n : ℕ) → n < p → getD now n 0 ≡ firstSlot (graphOf gates) n
 
 module _ (gates l : List ℕ) where
+  -- none at the beginning
   pub slots-none : SlotsTo gates l 0 l
   slots-none = record { len = refl; each = λ n h. absurd (omega arith) }
 
+  -- one pin more
   pub slots-more : (p : ℕ) (now : List ℕ) → SlotsTo gates l p now → p < length now → (v : ℕ) → v ≡ firstSlot (graphOf gates) p → SlotsTo gates l (p + 1) (set now p v)
   slots-more p now T h v ev = record {
     len = length-set now p v ∙ T .len;
@@ -66,6 +70,7 @@ module _ (gates l : List ℕ) where
         (λ t. let e = eqb-false n p t in getD-set-other now p n v 0 e ∙ T .each n (omega (arith, e)));
   }
 
+  -- all pins
   pub slots-done : (p : ℕ) (now : List ℕ) → SlotsTo gates l p now → length now ≤ p → FirstSlots gates l now
   slots-done p now T h = record { len = T .len; each = λ n b. T .each n (omega (arith, T .len)) }
 
@@ -118,6 +123,7 @@ module _ (K m : ℕ) (g : List Node) (cells l : List ℕ) (e : ℕ) (w t u t′ 
 
 -- stage 1, whose loads are leaves
 module _ (K : ℕ) (cells gates w l t : List ℕ) (O : OneIn K cells gates w l t) (u : List ℕ) (F : FirstSlots gates l u) where
+  -- what is asked of stage 1
   pub one-in : (m : ℕ) → m ≡ pinCount gates → StageIn K m 0 cells u w t
   one-in m em = record {
     up = O .up;
@@ -135,14 +141,17 @@ module _ (K : ℕ) (cells gates w l t : List ℕ) (O : OneIn K cells gates w l t
       (λ k. sym (load-there u n n refl) ∙ F .each n (ltb-true n (length l) k))
       (λ k. let h = ltb-false n (length l) k in sym (load-past u n n refl (omega (arith, F .len))) ∙ first-none (graphOf gates) n (omega (arith, graph-length gates, O .pins)))
 
+  -- it loads the leaves' own slots
   pub first-loads : loadIn u ≡ firstSlot (graphOf gates)
   first-loads = λ i n. first-load n i
 
 -- ---- all the stages
 
+-- the tape of all stages of a plan
 unfoldable pub madeAll : (K m : ℕ) → List Node → (ℕ → ℕ) → List Node → List ℕ → Made
 madeAll K m g load tape plan = madeFrom (rooms K (length plan)) m K g load tape plan
 
+-- slots in front of a tape's
 abbrev pub joined : List ℕ → Made → Made
 joined xs r = madeOf (xs ++ r .slots) (r .tape)
 

@@ -20,6 +20,7 @@ use Rattle.replay_tape.specs.Running.{entriesOf, Below, RunAt}
 
 -- ---- bits as numbers
 
+-- a bit is at most 1
 pub number-small : (b : Bool) → asNumber b ≤ 1
 unfolding asNumber
 number-small true = omega arith
@@ -49,6 +50,7 @@ both-number false false = refl
 
 -- ---- entries
 
+-- as many entries
 pub length-entries : (n : ℕ) (area : List ℕ) → length (entriesOf n area) ≡ n
 unfolding entriesOf
 length-entries zero area = refl
@@ -66,6 +68,7 @@ entries-set (suc n) area i v h = rw (entries-set n area i v (omega arith), getD-
 abbrev pub after : ℕ → (area bits : List ℕ) → ℕ → List ℕ
 after pins area bits k = runTape (entriesOf k area) (take pins bits)
 
+-- the first k entries have their bits
 pub record Ran (pins n : ℕ) (area bits : List ℕ) (k : ℕ) (now : List ℕ) : Type 0 where
   pub upto : k ≤ n
   pub len : length now ≡ length bits
@@ -75,6 +78,7 @@ module _ (pins n : ℕ) (area bits : List ℕ) (A : RunAt pins n area bits) wher
   abbrev ran : ℕ → List ℕ
   ran k = after pins area bits k
 
+  -- a bit for each pin and entry
   pub length-ran : (k : ℕ) → length (ran k) ≡ pins + k
   length-ran k = length-run (entriesOf k area) (take pins bits) ∙ omega (arith, length-entries k area, length-take-le pins bits (omega (arith, A .room)))
 
@@ -82,6 +86,7 @@ module _ (pins n : ℕ) (area bits : List ℕ) (A : RunAt pins n area bits) wher
   unfolding entriesOf runTape
   ran-more k = run-append (entriesOf k area) _ (take pins bits)
 
+  -- each is a bit
   pub ran-small : (k s : ℕ) → s < pins + k → getD (ran k) s 0 ≤ 1
   unfolding entriesOf runTape
   ran-small zero s h = rw (getD-take pins bits s 0 (omega arith)) (A .bit s (omega arith))
@@ -89,6 +94,7 @@ module _ (pins n : ℕ) (area bits : List ℕ) (A : RunAt pins n area bits) wher
       (λ t. let b = ltb-true s (pins + k) t in rw (List·getD-append (ran k) _ 0 s (omega (arith, length-ran k))) (ran-small k s b))
       (λ t. let e : s ≡ length (ran k) = omega (arith, length-ran k, ltb-false s (pins + k) t) in rw (e, getD-append-seam (ran k) _ [] 0) (number-small _)))
 
+  -- none at the beginning
   pub ran-none : Ran pins n area bits 0 bits
   unfolding entriesOf runTape
   ran-none = let e : pins + 0 ≡ pins = omega arith in record { upto = omega arith; len = refl; done = rw e (sym (take-append-drop pins bits)) }
@@ -97,14 +103,17 @@ module _ (pins n : ℕ) (area bits : List ℕ) (A : RunAt pins n area bits) wher
     slot-there : (s : ℕ) → s < pins + k → getD now s 0 ≡ getD (ran k) s 0
     slot-there s b = rw (R .done) (List·getD-append (ran k) _ 0 s (omega (arith, length-ran k)))
 
+    -- a slot's bit is a bit
     pub slot-small : (s : ℕ) → s < pins + k → getD now s 0 ≤ 1
     slot-small s b = rw (slot-there s b) (ran-small k s b)
 
     module _ (a b : ℕ) (ea : a ≡ getD area (2 * k) 0) (eb : b ≡ getD area (2 * k + 1) 0) where
+      -- the first slot is there
       pub first-below : a / 2 < pins + k
       unfolding pinOf
       first-below = rw ea (A .below .first k h)
 
+      -- the second too
       pub second-below : b / 2 < pins + k
       unfolding pinOf
       second-below = rw eb (A .below .second k h)
@@ -113,6 +122,7 @@ module _ (pins n : ℕ) (area bits : List ℕ) (A : RunAt pins n area bits) wher
       unfolding slotBit pinOf
       literal-there c l = literal-number c _ (slot-small (c / 2) l) ∙ rw (slot-there (c / 2) l)
 
+      -- one entry more
       pub ran-step : (p q : ℕ) → p ≡ getD now (a / 2) 0 → q ≡ getD now (b / 2) 0 → Ran pins n area bits (k + 1) (set now (pins + k) (((a + p) % 2 + (b + q) % 2) / 2))
       unfolding entryBit
       ran-step p q ep eq =
@@ -128,6 +138,7 @@ module _ (pins n : ℕ) (area bits : List ℕ) (A : RunAt pins n area bits) wher
             done = rw (add-one k, ran-more k, ← e, R .done, drop-cons bits (pins + k) 0 (omega (arith, A .room)), s) (set-at (ran k) _ _ v (pins + k) (length-ran k) ∙ sym (append-snoc (ran k) v _));
           }
 
+  -- all entries
   pub ran-done : (k : ℕ) (now : List ℕ) → Ran pins n area bits k now → n ≤ k → now ≡ laidOver (runTape (entriesOf n area) (take pins bits)) bits
   unfolding laidOver
   ran-done k now R h = let e : k ≡ n = omega (arith, R .upto) in R .done ∙ rw (e, length-ran n)
@@ -147,10 +158,12 @@ module _ (t : List ℕ) (e a b : ℕ) (h : 2 * e + 2 ≤ length t) where
   push-other : (i : ℕ) → i < 2 * e → getD pushed i 0 ≡ getD t i 0
   push-other i l = getD-set-other (set t (2 * e) a) (2 * e + 1) i b 0 (λ d. omega arith) ∙ getD-set-other t (2 * e) i a 0 (λ d. omega arith)
 
+  -- an entry more
   pub entries-push : entriesOf (e + 1) pushed ≡ entriesOf e t ++ (gate a b ∷ [])
   unfolding entriesOf
   entries-push = rw (add-one e, push-first, push-second, entries-set e (set t (2 * e) a) (2 * e + 1) b (omega arith), entries-set e t (2 * e) a (omega arith))
 
+  -- it names slots before its own
   pub below-push : (m : ℕ) → Below m e t → pinOf a < m + e → pinOf b < m + e → Below m (e + 1) pushed
   below-push m B la lb = record {
     first = λ k l. split (ltb k e)

@@ -30,6 +30,7 @@ module _ (l : List ℕ) (n p : ℕ) (e : p ≡ n) where
 
 -- ---- sources
 
+-- a slot's literal fits in 32 bits
 pub literal-fits : (s i : ℕ) (a : ℕ) → s < 2147483648 → i ≡ inversionOf a → 2 * s + i < 4294967296
 unfolding inversionOf
 literal-fits s i a h e = omega arith
@@ -38,6 +39,7 @@ module _ (g : List Node) (cells w : List ℕ) (p : ℕ) (C : AboveAt cells w p) 
   here : getD cells p 0 ≡ getD cells p empty
   here = getD-inside cells p 0 empty (C .here)
 
+  -- an empty cell has slot 0
   pub source-empty : getD cells p 0 ≡ 4294967295 → SourceIs g cells w p (old 0)
   unfolding sourceAt
   source-empty e = record { all = λ K load h. rw (not-filled (getD cells p empty) (sym here ∙ e), sourceAt) }
@@ -49,6 +51,7 @@ module _ (g : List Node) (cells w : List ℕ) (p : ℕ) (C : AboveAt cells w p) 
     first : getD cells a 0 ≡ getD cells (firstLower p) empty
     first = rw ea (getD-inside cells (firstLower p) 0 empty (C .first))
 
+    -- a cell that copies has the slot of its first lower cell
     pub source-copies : getD cells a 0 ≡ getD cells p 0 → SourceIs g cells w p (old (getD w a 0))
     unfolding sourceAt
     source-copies e = record {
@@ -63,6 +66,7 @@ module _ (g : List Node) (cells w : List ℕ) (p : ℕ) (C : AboveAt cells w p) 
       unfolding sourceAt
       lacks e = record { all = λ K load h. rw (held, lt-leb (2 ^ K) p h, apart, e, sourceAt) }
 
+      -- a cell whose first lower cell is empty has slot 0
       pub source-first-lacks : getD cells a 0 ≡ 4294967295 → SourceIs g cells w p (old 0)
       source-first-lacks e = lacks (rw (not-filled (getD cells (firstLower p) empty) (sym first ∙ e)))
 
@@ -73,9 +77,11 @@ module _ (g : List Node) (cells w : List ℕ) (p : ℕ) (C : AboveAt cells w p) 
         second : getD cells b 0 ≡ getD cells (secondLower p) empty
         second = rw eb (getD-inside cells (secondLower p) 0 empty (C .second))
 
+        -- so has one whose second is
         pub source-second-lacks : getD cells b 0 ≡ 4294967295 → SourceIs g cells w p (old 0)
         source-second-lacks e = lacks (rw (first-there, not-filled (getD cells (secondLower p) empty) (sym second ∙ e)))
 
+        -- another is an entry over both
         pub source-gate : (getD cells b 0 ≡ 4294967295 → ⊥) → (x : Node) → x ≡ getD g (getD cells p 0) leaf → (r : Source) → r ≡ gateSource (getD w a 0) (getD w b 0) x → SourceIs g cells w p r
         unfolding sourceAt
         source-gate e x ex r er = record {
@@ -102,6 +108,7 @@ gate-below s x y leaf z a b = z
 gate-below s x y (gate c d) z a b = (literal-below s x c a, literal-below s y d b)
 
 module _ (K : ℕ) (g : List Node) (cells : List ℕ) (load slot : ℕ → ℕ) (p : ℕ) (low : 1 ≤ p) where
+  -- a source names slots that are there
   pub source-below : (s : ℕ) → p < 2 ^ K → 0 < s → ((q : ℕ) → p < q → q < 2 ^ (K + 1) → slot q < s) → SourceBelow s (sourceAt K g cells load slot p)
   unfolding sourceAt
   source-below s high z small =

@@ -25,6 +25,7 @@ use Rattle.replay_tape.proofs.Laws.Sources.{load-past, load-there, Sour
 
 -- ---- level 0
 
+-- the cells of level 0 below q are loaded
 pub record RowTo (K : ℕ) (cells l w : List ℕ) (q : ℕ) (now : List ℕ) : Type 0 where
   pub len : length now ≡ length w
   pub low : 2 ^ K ≤ q
@@ -32,13 +33,16 @@ pub record RowTo (K : ℕ) (cells l w : List ℕ) (q : ℕ) (now : List ℕ) : T
   pub row : (x : ℕ) → 2 ^ K ≤ x → x < q → getD now x 0 ≡ loadIn l (getD cells x empty)
 
 module _ (K : ℕ) (cells l w : List ℕ) (A : UpAt K cells w) where
+  -- none at the beginning
   pub row-none : (q : ℕ) → q ≡ 2 ^ K → RowTo K cells l w q w
   row-none q e = record { len = refl; low = omega arith; high = omega (arith, A .stage .double); row = λ x a b. absurd (omega arith) }
 
   module _ (q : ℕ) (now : List ℕ) (r : RowTo K cells l w q now) (h : q < length cells) where
+    -- the position is there
     pub row-inside : q < length now
     row-inside = omega (arith, r .len, A .same)
 
+    -- one cell more
     pub row-more : (v : ℕ) → v ≡ loadIn l (getD cells q 0) → RowTo K cells l w (q + 1) (set now q v)
     row-more v ev =
         let k : loadIn l (getD cells q 0) ≡ loadIn l (getD cells q empty) = ap (loadIn l) (getD-inside cells q 0 empty h) in
@@ -51,6 +55,7 @@ module _ (K : ℕ) (cells l w : List ℕ) (A : UpAt K cells w) where
               (λ t. getD-set-other now q y v 0 (λ d. eqb-false y q t d) ∙ r .row y a (omega (arith, eqb-false y q t)));
         }
 
+  -- all of level 0
   pub row-done : (q : ℕ) (now : List ℕ) → RowTo K cells l w q now → length cells ≤ q → RowLoaded K cells l w now
   row-done q now r h = record { len = r .len; row = λ x a b. r .row x a (omega (arith, A .stage .size)) }
 
@@ -109,6 +114,7 @@ module _ (m K e : ℕ) (g : List Node) (cells l w t u : List ℕ) (I : StageIn K
 
 -- ---- above level 0
 
+-- the positions from p on have their slots and entries
 pub record Making (K m : ℕ) (g : List Node) (cells : List ℕ) (e : ℕ) (w t : List ℕ) (p : ℕ) (w′ t′ : List ℕ) (e′ : ℕ) : Type 0 where
   pub wlen : length w′ ≡ length w
   pub tlen : length t′ ≡ length t
@@ -123,6 +129,7 @@ pub record Making (K m : ℕ) (g : List Node) (cells : List ℕ) (e : ℕ) (w t 
   pub past : length g ≡ m → NoneFrom (2 ^ K) (2 ^ (K + 1)) m cells w → NoneFrom p (2 ^ (K + 1)) m cells w′
 
 module _ (K m : ℕ) (g : List Node) (cells : List ℕ) (e : ℕ) (w t : List ℕ) (A : AndAt K m e cells w t) where
+  -- level 0 at the beginning
   pub making-none : (p : ℕ) → p ≡ 2 ^ K → Making K m g cells e w t p w t e
   making-none p ep = record {
     wlen = refl;
@@ -138,6 +145,7 @@ module _ (K m : ℕ) (g : List Node) (cells : List ℕ) (e : ℕ) (w t : List �
   }
 
   module _ (p : ℕ) (now tape : List ℕ) (count : ℕ) (M : Making K m g cells e w t p now tape count) (h : 1 < p) where
+    -- what is asked of the next cell
     pub making-above : AboveAt cells now (p - 1)
     making-above =
         let l = lower-cells K (p - 1) (omega arith) (omega (arith, M .high)) in
@@ -152,6 +160,7 @@ module _ (K m : ℕ) (g : List Node) (cells : List ℕ) (e : ℕ) (w t : List �
           small = λ q a b. omega (arith, M .small q (omega arith) (omega (arith, A .up .stage .size)), A .fits, M .count);
         }
 
+    -- there is room for its entry
     pub making-put : PutAt now tape (p - 1) m count
     making-put = record {
       here = omega (arith, A .up .same, A .up .stage .size, M .wlen, M .high, A .up .stage .double);
@@ -230,12 +239,14 @@ module _ (K m : ℕ) (g : List Node) (cells : List ℕ) (e : ℕ) (w t : List �
       one-below : (x : Source) → SourceIs g cells now q x → SourceBelow (m + count) x
       one-below x X = rw (X .all K (λ n. 0) (omega (arith, M .high))) (source-below K g cells (λ n. 0) _ q (omega arith) (m + count) (omega (arith, M .high)) (omega (arith, A .one)) (λ i a b. M .small i (omega arith) b))
 
+    -- one position more
     pub making-more : (r : code.Source) → SourceIs g cells now (p - 1) (sourceFor r) → (now′ tape′ : List ℕ) (count′ : ℕ) → Puts now tape (p - 1) m count (sourceFor r) now′ tape′ count′ →
         Making K m g cells e w t (p - 1) now′ tape′ count′
     making-more r X now′ tape′ count′ P =
         let s : p ≡ suc (p - 1) = omega arith in
         rw (P .slot, P .entry, P .count) (one-more (p - 1) s r X (one-below (p - 1) s (sourceFor r) X))
 
+  -- the whole stage
   pub making-done : (p : ℕ) (now tape : List ℕ) (count : ℕ) → Making K m g cells e w t p now tape count → p ≤ 1 → Ands K m g cells e w t (set now 0 0) tape count
   unfolding stageMade
   making-done p now tape count M h =

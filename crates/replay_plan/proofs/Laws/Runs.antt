@@ -43,9 +43,9 @@ use Rattle.replay_run.specs.Lines.{LinesIn, LinesOut, linesRun}
 use Rattle.replay_run.proofs.Laws.Slots.{written-is, slot-read}
 use Rattle.replay_run.proofs.Laws.Counts.{length-flips, length-places, flips-inside, places-agree}
 use Rattle.replay_run.proofs.Laws.Lines.{lines-run}
-use Rattle.replay.specs.declared.tape.Lists.{Lists}
-use Rattle.replay.specs.Tape.{TapeIn, TapeOut, ListsIn, ListsOut}
-use Rattle.replay.specs.Runs.{RunIn, RunOut, circuit}
+use Rattle.replay_plan.specs.declared.tape.Lists.{Lists}
+use Rattle.replay_plan.specs.Tape.{TapeIn, TapeOut, ListsIn, ListsOut}
+use Rattle.replay_plan.specs.Runs.{RunIn, RunOut, circuit}
 
 -- ---- places name slots that are there
 

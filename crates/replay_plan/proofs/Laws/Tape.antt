@@ -15,8 +15,8 @@ use Rattle.replay_run.specs.Places.{PlacesIn, PlacesPut}
 use Rattle.replay_run.specs.Leaves.{Marked, LeavesIn, LeavesPut}
 use Rattle.replay_run.specs.Flips.{FlipsIn, FlipsPut}
 use Rattle.replay_run.proofs.Laws.Leaves.{marks-are, leaves-are}
-use Rattle.replay.specs.declared.tape.Lists.{Lists}
-use Rattle.replay.specs.Tape.{TapeIn, TapeOut, ListsIn, ListsOut}
+use Rattle.replay_plan.specs.declared.tape.Lists.{Lists}
+use Rattle.replay_plan.specs.Tape.{TapeIn, TapeOut, ListsIn, ListsOut}
 
 module _ (K : ℕ) (plan gates words counts : List ℕ) (total : ℕ) (w l t : List ℕ) (I : TapeIn K plan gates words counts total w l t) (w′ b t′ : List ℕ) (e : ℕ) (M : PlanMade K plan gates w l t w′ b t′ e) where
   -- what is asked to read the words

@@ -8,7 +8,7 @@ use replay_run::leaves::put_leaves;
 use replay_run::places::put_places;
 use replay_run::slots::read_plan;
 use replay_tape::plans::make_plan;
-ghost use Rattle.replay.specs.Tape.{TapeIn, TapeOut, ListsIn, ListsOut};
+ghost use Rattle.replay_plan.specs.Tape.{TapeIn, TapeOut, ListsIn, ListsOut};
 
 // The tape of a plan's stages, and in `looks` the slot that each pin is read from. Returns how many entries there are.
 pub fn make_tape(

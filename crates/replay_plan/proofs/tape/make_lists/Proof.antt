@@ -1,8 +1,8 @@
--- `replay::tape::make_lists` meets its contract. Assumes nothing.
-use Rattle.replay.proofs.Laws.Tape.{places-in, flips-in, lists-out}
+-- `replay_plan::tape::make_lists` meets its contract. Assumes nothing.
+use Rattle.replay_plan.proofs.Laws.Tape.{places-in, flips-in, lists-out}
 use borrow.Author.Needs.{needs}
-use Rattle.replay.proofs.tape.make_lists.Statement.{statement}
-use Rattle.replay.proofs.tape.make_lists.Tie as tie
+use Rattle.replay_plan.proofs.tape.make_lists.Statement.{statement}
+use Rattle.replay_plan.proofs.tape.make_lists.Tie as tie
 
 pin-count-requires : tie.Need-pin-count-requires
 pin-count-requires c κs = search needs

@@ -11,7 +11,7 @@ use Rattle.replay_tape.specs.Plans.{PlanIn, PlanMade}
 use Rattle.replay_run.specs.Slots.{PlanAt, slotOr, writtenBy}
 use Rattle.replay_run.specs.Places.{readIn}
 use Rattle.replay_run.specs.Leaves.{Marked}
-use Rattle.replay.specs.declared.tape.Lists.{Lists}
+use Rattle.replay_plan.specs.declared.tape.Lists.{Lists}
 
 -- a plan with its words and counts
 pub record TapeIn (K : ℕ) (plan gates words counts : List ℕ) (total : ℕ) (w l t : List ℕ) : Type 0 where

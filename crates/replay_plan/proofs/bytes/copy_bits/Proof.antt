@@ -1,13 +1,13 @@
--- `replay::bytes::copy_bits` meets its contract. Assumes nothing.
+-- `replay_plan::bytes::copy_bits` meets its contract. Assumes nothing.
 use Prim.Native.Nat.{_-_}
 use native.Mathlib.Omega.{arith}
 use lib.ListN.{length, getD}
 use Rattle.rules.specs.Fold.{asNumber}
 use Rattle.replay_form.specs.Clocks.{isOne}
-use Rattle.replay.proofs.Laws.Bytes.{Filled, filled-none, filled-more, copied}
+use Rattle.replay_plan.proofs.Laws.Bytes.{Filled, filled-none, filled-more, copied}
 use borrow.Author.Needs.{needs}
-use Rattle.replay.proofs.bytes.copy_bits.Statement.{statement}
-use Rattle.replay.proofs.bytes.copy_bits.Tie as tie
+use Rattle.replay_plan.proofs.bytes.copy_bits.Statement.{statement}
+use Rattle.replay_plan.proofs.bytes.copy_bits.Tie as tie
 
 abbrev Inv-loop : tie.InvT-loop
 Inv-loop from to₀ i₀ to i = Filled (λ k. asNumber (isOne (getD from k 0))) to₀ i to

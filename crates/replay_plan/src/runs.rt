@@ -6,7 +6,7 @@ use crate::tape::make_tape;
 use cells::Height;
 use graph::pin_count;
 use replay_run::lines::run_lines;
-ghost use Rattle.replay.specs.Runs.{RunIn, RunOut};
+ghost use Rattle.replay_plan.specs.Runs.{RunIn, RunOut};
 
 pub fn run_plan(
     height: Height,

@@ -1,12 +1,12 @@
--- `replay::runs::run_plan` meets its contract. Assumes nothing.
+-- `replay_plan::runs::run_plan` meets its contract. Assumes nothing.
 use mathlib.Core.Path.{refl, _∙_}
 use native.Mathlib.Omega.{arith}
-use Rattle.replay.proofs.Laws.Runs.{end-kept}
-use Rattle.replay.proofs.Laws.Runs.{work-kept, slots-kept, bits-kept, places-fit, leaves-fit, flips-fit, flips-small}
-use Rattle.replay.proofs.Laws.Runs.{tape-in, lists-in, lines-in, run-out}
+use Rattle.replay_plan.proofs.Laws.Runs.{end-kept}
+use Rattle.replay_plan.proofs.Laws.Runs.{work-kept, slots-kept, bits-kept, places-fit, leaves-fit, flips-fit, flips-small}
+use Rattle.replay_plan.proofs.Laws.Runs.{tape-in, lists-in, lines-in, run-out}
 use borrow.Author.Needs.{needs}
-use Rattle.replay.proofs.runs.run_plan.Statement.{statement}
-use Rattle.replay.proofs.runs.run_plan.Tie as tie
+use Rattle.replay_plan.proofs.runs.run_plan.Statement.{statement}
+use Rattle.replay_plan.proofs.runs.run_plan.Tie as tie
 
 clear-bytes-requires : tie.Need-clear-bytes-requires
 clear-bytes-requires c κs = search needs

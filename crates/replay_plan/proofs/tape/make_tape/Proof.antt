@@ -1,9 +1,9 @@
--- `replay::tape::make_tape` meets its contract. Assumes nothing.
+-- `replay_plan::tape::make_tape` meets its contract. Assumes nothing.
 use Rattle.fold.proofs.Laws.Stages.{size-there}
-use Rattle.replay.proofs.Laws.Tape.{words-at, tape-out}
+use Rattle.replay_plan.proofs.Laws.Tape.{words-at, tape-out}
 use borrow.Author.Needs.{needs}
-use Rattle.replay.proofs.tape.make_tape.Statement.{statement}
-use Rattle.replay.proofs.tape.make_tape.Tie as tie
+use Rattle.replay_plan.proofs.tape.make_tape.Statement.{statement}
+use Rattle.replay_plan.proofs.tape.make_tape.Tie as tie
 
 make-plan-requires : tie.Need-make-plan-requires
 make-plan-requires c κs = c .before .before .before .before .before .before .before .before .before .before .pre .made

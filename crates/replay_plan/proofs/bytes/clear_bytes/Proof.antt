@@ -1,12 +1,12 @@
--- `replay::bytes::clear_bytes` meets its contract. Assumes nothing.
+-- `replay_plan::bytes::clear_bytes` meets its contract. Assumes nothing.
 use Prim.Native.Nat.{_-_}
 use mathlib.Core.Path.{refl}
 use native.Mathlib.Omega.{arith}
 use lib.ListN.{length}
-use Rattle.replay.proofs.Laws.Bytes.{Filled, filled-none, filled-more, cleared}
+use Rattle.replay_plan.proofs.Laws.Bytes.{Filled, filled-none, filled-more, cleared}
 use borrow.Author.Needs.{needs}
-use Rattle.replay.proofs.bytes.clear_bytes.Statement.{statement}
-use Rattle.replay.proofs.bytes.clear_bytes.Tie as tie
+use Rattle.replay_plan.proofs.bytes.clear_bytes.Statement.{statement}
+use Rattle.replay_plan.proofs.bytes.clear_bytes.Tie as tie
 
 abbrev Inv-loop : tie.InvT-loop
 Inv-loop s₀ i₀ s i = Filled (λ k. 0) s₀ i s
