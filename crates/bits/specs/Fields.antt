@@ -11,7 +11,7 @@ bitsIn xs = gather (bitsOf 8) xs
 
 pub record FieldAt (at w : ℕ) (xs : List ℕ) : Type 0 where
   pub inside : at + w ≤ 8 * length xs
-  pub small : length xs ≤ 8192
+  pub small : length xs ≤ 2 ^ 40
   pub short : w ≤ 17
 
 pub record FieldIs (at w : ℕ) (xs : List ℕ) (n : ℕ) : Type 0 where

@@ -42,8 +42,14 @@ pub const BAD_RESET: u32 = 13;
 // A job that no AIGER file holds.
 pub const NO_FILE: u32 = 14;
 
-// A replay's area for the bits handed out or the end bits is too short.
-pub const NO_OUT: u32 = 17;
+// A file that is no plan sheet, or a plan that no sheet holds.
+pub const NO_SHEET: u32 = 15;
+
+// A plan sheet of an unknown number.
+pub const UNKNOWN_SHEET: u32 = 16;
+
+// The area for what comes out is too short.
+pub const TOO_SHORT: u32 = 17;
 
 // A replay with a memory or a given pin.
 pub const NOT_PLAIN: u32 = 18;

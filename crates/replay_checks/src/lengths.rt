@@ -1,6 +1,6 @@
 // Checks 20 and 17, by lengths. A product is never made: what it is compared with is divided.
 use crate::counts::Counts;
-use refusals::NO_OUT;
+use refusals::TOO_SHORT;
 use refusals::WRONG_LENGTH;
 ghost use mathlib.Core.Path.{_≡_};
 ghost use Prim.Native.Nat.{_*_};
@@ -78,7 +78,7 @@ pub fn measure(
         return WRONG_LENGTH;
     }
     if !out_right(flips, bits, lines, out, end) {
-        return NO_OUT;
+        return TOO_SHORT;
     }
     0
 }

@@ -220,7 +220,8 @@ module _ (rule : WordRule) (K : ℕ) (g : List Node) (ok : Valid g) (tall : 6 �
     abbrev pub waiting : List ℕ
     waiting = waitingOf groups []
 
-    ready : Ready g r waiting
+    -- before the first stage no pin waits twice, and each is of the graph
+    pub ready : Ready g r waiting
     ready = record {
       once = waitingOf-once groups nobody;
       bounded = λ x i. let h : x < length g = elim (wait-ends x groups [] i) [ inl a ↦ in-nil x a | inr a ↦ named x a ] in (h, graph-few g ok x h);
@@ -252,7 +253,8 @@ module _ (rule : WordRule) (K : ℕ) (g : List Node) (ok : Valid g) (tall : 6 �
     pub refusal-given : (rooms : ℕ) {n k : ℕ} → Refused rule K g given groups rooms n k → build rule K g given groups rooms ≡ refusal n k
     refusal-given = counted.refusal-given rule K g r G tall small given groups ready
 
-    whole-stages : (rooms : ℕ) (ss : List Stage) → build rule K g given groups rooms ≡ whole ss → stages rule K g rooms 1 given waiting (wordLimit K - reserved groups) ≡ whole ss
+    -- a whole plan is what the stages give: its reservation is not over
+    pub whole-stages : (rooms : ℕ) (ss : List Stage) → build rule K g given groups rooms ≡ whole ss → stages rule K g rooms 1 given waiting (wordLimit K - reserved groups) ≡ whole ss
     unfolding build
     whole-stages rooms ss e = split (reservable K groups) (λ c. rw (c, build) at e) (λ c. absurd (let d : refusal 6 0 ≡ whole ss = rw (c, build) at e in let z : _≡_ {A = ℕ} 0 1 = cc in omega arith))
 

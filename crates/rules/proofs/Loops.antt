@@ -155,6 +155,23 @@ module _ (g : List Node) where
       unfolding rank
       rank-few p h = omega (arith, once-few (length g) (alone p) (λ q i. elim (in-cons q p (under g p) i) [ inl d ↦ rw d h | inr d ↦ from-inside p (under-from p q d) ]))
 
+      from-above : ((q x : ℕ) → In x (below g [] q) → 0 < x) → (p : ℕ) {q : ℕ} → From g [] (below g [] p) q → 0 < q
+      from-above above p (start {q = q} e) = above p q e
+      from-above above p (step {q = q} {x = x} f e) = above q x e
+
+      -- where pin 0 is no operand, a pin above it has fewer than N
+      pub rank-fewer : ((q x : ℕ) → In x (below g [] q) → 0 < x) → (p : ℕ) → 0 < p → p < length g → suc (rank g p) < length g
+      unfolding rank
+      rank-fewer above p k h =
+          let out : Out 0 (p ∷ under g p) = split (mem 0 (p ∷ under g p)) (λ e. absurd (elim (in-cons 0 p (under g p) e) [ inl d ↦ omega arith | inr d ↦ let z = from-above above p (under-from p 0 d) in omega arith ])) (λ e. e) in
+          omega (
+            arith,
+            once-few (length g) (one out (alone p)) (λ q i. elim (in-cons q 0 (p ∷ under g p) i) [
+              | inl d ↦ rw d (omega arith)
+              | inr d ↦ elim (in-cons q p (under g p) d) [ inl c ↦ rw c h | inr c ↦ from-inside p (under-from p q c) ]
+            ]),
+          )
+
 -- ---- the smallest pin on a loop
 
 module _ (g : List Node) where

@@ -17,7 +17,7 @@ Reader = List ℕ → Read (List ℕ)
 -- ---- n readings
 
 -- n readings one behind the other
-pub many : Reader → ℕ → List ℕ → Read (List ℕ)
+unfoldable pub many : Reader → ℕ → List ℕ → Read (List ℕ)
 many one zero bs = got [] bs
 many one (suc n) bs = next (one bs) (λ x cs. next (many one n cs) (λ xs ds. got (x ++ xs) ds))
 

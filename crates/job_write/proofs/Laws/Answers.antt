@@ -1,21 +1,18 @@
 -- The answer of writing, by the judgement, the measure and the bits put. Assumes nothing.
 use mathlib.Core.Path.{_≡_, refl, sym, ap, _∙_}
 use mathlib.Core.Bool.{true, false}
-use mathlib.Core.List.{List, [], _∷_, _++_}
-use Prim.Native.Nat.{ℕ, zero, suc, _+_, _-_, _*_, _/_, _%_, _<_, _≤_}
+use mathlib.Core.List.{List}
+use Prim.Native.Nat.{ℕ, _/_, _%_, _<_, _≤_}
 use native.Mathlib.Omega.{arith}
 use lib.Dec.{leb}
-use lib.ListN.{length, drop}
-use lib.Seq.{sets-eq, getD-drop, drop-at, drop-drop}
+use lib.ListN.{length}
 use borrow.Author.Tests.{le-leb, lt-leb, leb-true}
-use Rattle.rules.specs.Lists.{gather, laidOver}
 use Rattle.rules.specs.Records.{read, groupsOf}
-use Rattle.rules.specs.Job.{Job, File?, noFile, file, bitsOf, bytesOf, jobBits, writeJob}
-use Rattle.rules.proofs.Job.Bits.{Bytes, width, bytes-append, bytes-length, bits-bytes}
+use Rattle.rules.specs.Job.{Job, File?, noFile, file, bytesOf, jobBits, writeJob}
+use Rattle.rules.proofs.Job.Bits.{Bytes, bytes-length}
 use Rattle.rules.proofs.Job.Files.{Written, written, is-written, byte-length}
-use Rattle.bits.specs.Fields.{bitsIn}
 use Rattle.bits.specs.Putting.{Put}
-use Rattle.bits.proofs.Laws.Fields.{bits-length}
+use Rattle.bits.proofs.Laws.Files.{bits-laid}
 use Rattle.job_write.specs.Answers.{refused, writeInto}
 use Rattle.job_write.specs.Fits.{Fitting, Judged}
 use Rattle.job_write.specs.Sections.{fileBits, Measured}
@@ -69,35 +66,6 @@ module _ {J : Job} {n : ℕ} (F : Fitting J n) where
       let l : leb (length bytes) (length xs) ≡ false = lt-leb (length bytes) (length xs) (omega (arith, bytes-length (fileBits J), ap length (M .same))) in
       rw (is-file (omega arith), writeInto, l, M .same)
 
-  -- ---- the bits, as bytes
-
-  back : (xs : List ℕ) → Bytes xs → bytesOf (bitsIn xs) ≡ xs
-  unfolding bitsIn
-  back xs B = bits-bytes xs B
-
-  bytes-drop : (k : ℕ) {xs : List ℕ} → Bytes xs → Bytes (drop k xs)
-  bytes-drop k {xs} B = record { at = λ i. rw (getD-drop k xs i 0) (B .at (k + i)) }
-
-  drop-bits : (k : ℕ) (xs : List ℕ) → drop (8 * k) (bitsIn xs) ≡ bitsIn (drop k xs)
-  unfolding bitsIn gather
-  drop-bits zero xs = refl
-  drop-bits (suc k) [] = let e : 8 * suc k ≡ suc (8 * k + 7) = omega arith in rw e
-  drop-bits (suc k) (x ∷ xs) =
-      let e : 8 * suc k ≡ 8 + 8 * k = omega arith in
-      rw (e, ← drop-drop (8 * k) 8 (bitsOf 8 x ++ gather (bitsOf 8) xs), drop-at (bitsOf 8 x) (gather (bitsOf 8) xs) 8 (width 8 x)) (drop-bits k xs)
-
-  module _ {xs xs₁ : List ℕ} {m : ℕ} (P : Put (fileBits J) xs xs₁ 0 m) (B : Bytes xs) (B₁ : Bytes xs₁) (room : length (fileBits J) / 8 ≤ length xs) where
-    laid : xs₁ ≡ laidOver bytes xs
-    unfolding laidOver
-    laid =
-        let bs = fileBits J in
-        let w = whole-bytes in
-        let k = length bs / 8 in
-        let e : 0 + length bs ≡ 8 * k = omega arith in
-        let s : bitsIn xs₁ ≡ bs ++ bitsIn (drop k xs) = P .is ∙ sets-eq bs (bitsIn xs) 0 (omega (arith, bits-length xs)) ∙ rw e (ap (λ (r : List ℕ). bs ++ r) (drop-bits k xs)) in
-        let l : length bytes ≡ k = bytes-length bs in
-        sym (back xs₁ B₁) ∙ ap bytesOf s ∙ bytes-append bs (bitsIn (drop k xs)) w ∙ rw l (ap (λ (r : List ℕ). bytes ++ r) (back (drop k xs) (bytes-drop k B)))
-
   -- a file that fits stands over the front of the lent bytes
   pub writes : {xs xs₁ xs₂ : List ℕ} {m r : ℕ} → Measured J xs xs₁ m → m ≤ 65536 → m / 8 ≤ length xs₁ → Put (fileBits J) xs₁ xs₂ 0 r → Bytes xs₁ → Bytes xs₂ →
       record { number = 0; length = m / 8; bytes = xs₂ } ≡ writeInto (writeJob J) xs
@@ -107,4 +75,4 @@ module _ {J : Job} {n : ℕ} (F : Fitting J n) where
       let d = bytes-length (fileBits J) in
       let l : leb (length bytes) (length xs₁) ≡ true = le-leb (length bytes) (length xs₁) (omega arith) in
       let e : m / 8 ≡ length bytes = omega arith in
-      rw (← M .same, is-file (omega arith), writeInto, l, e, laid P B B₂ (omega arith))
+      rw (← M .same, is-file (omega arith), writeInto, l, e, bits-laid (fileBits J) whole-bytes P B B₂ (omega arith))

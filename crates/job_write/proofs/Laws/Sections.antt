@@ -3,20 +3,18 @@ use mathlib.Core.Path.{_≡_, refl, sym, ap, _∙_}
 use mathlib.Core.Bool.{Bool, true, false, _&&_}
 use mathlib.Core.List.{List, [], _∷_, _++_, append-assoc}
 use Prim.Native.Nat.{ℕ, zero, suc, _+_, _-_, _*_, _/_, _%_, _^_, _<_, _≤_}
-use native.Mathlib.Nat.{div-lt-iff-lt-mul}
 use native.Mathlib.Numerals.{add-one}
 use native.Mathlib.Omega.{arith}
 use lib.Dec.{leb, eqb}
-use lib.ListN.{length, getD, take, drop, replicate, length-append, length-drop, drop-of-length-le}
+use lib.ListN.{length, getD, take, drop, length-append, length-drop, drop-of-length-le}
 use lib.Seq.{drop-cons, length-take-le}
-use lib.Pow.{pow-pos}
 use borrow.Author.Tests.{eq-eqb, ne-eqb, leb-true, ltb-true}
 use Rattle.rules.proofs.Records.{groups-of}
 use Rattle.rules.specs.Lists.{every, gather}
 use Rattle.rules.specs.Cells.{empty}
 use Rattle.rules.specs.Graph.{Node, leaf, gate, nodeOf, graphOf, pinCount}
 use Rattle.rules.specs.Records.{Group, groups, sizeOf, groupAt, wholeAt, read, groupsOf}
-use Rattle.rules.specs.Job.{Job, bitsOf, numberWidth, pinBits, pinsBits, groupBits, groupsBits, jobBits, toByte, isMark, nodesFit, gatesFit, fitsProgram}
+use Rattle.rules.specs.Job.{Job, bitsOf, numberWidth, pinBits, pinsBits, groupBits, groupsBits, jobBits, isMark, nodesFit, gatesFit, fitsProgram}
 use Rattle.rules.proofs.Lists.Members.{split, and-true}
 use Rattle.rules.proofs.Job.Kinds.{not-groups, and-then}
 use Rattle.rules.proofs.Job.Bits.{width, gather-width}
@@ -25,6 +23,7 @@ use Rattle.records.specs.Values.{sizeAt}
 use Rattle.records.proofs.Reading.{read-step, read-end, read-cut, Stands, standing}
 use Rattle.bits.specs.Putting.{Put}
 use Rattle.bits.proofs.Laws.Putting.{Left, left-all, left-step, left-none, put-then, none-back}
+use Rattle.bits.proofs.Laws.Files.{put-padded}
 use Rattle.job_write.specs.Fits.{Fitting}
 use Rattle.job_write.specs.Sections.{headBits, givenBits, recordsBits, fileBits, PutIn, RecordTo, HeadTo, GivenTo, GroupsTo, Measured}
 use Rattle.job_write.proofs.Laws.Fits.{graph-step, graph-end}
@@ -226,22 +225,14 @@ pub groups-put : (records : List ℕ) (n : ℕ) → length records ≤ 512 → l
 unfolding recordsBits
 groups-put records n h e P Q = record { put = rw e (put-then P (Q .put)); near = omega (arith, P .behind, Q .near, width 16 n) }
 
-zero-bits : (n : ℕ) → bitsOf n 0 ≡ replicate n 0
-unfolding bitsOf
-zero-bits zero = refl
-zero-bits (suc n) = let z : 0 / 2 ^ n % 2 ≡ 0 = omega (arith, div-lt-iff-lt-mul {x = 0} {y = 1} (pow-pos n) .1 (omega (arith, pow-pos n))) in rw (z, zero-bits n)
-
 in-sections : (J : Job) → jobBits J (groupsOf (J .records)) ≡ headBits (J .height) (J .gates) ++ givenBits (J .given) ++ recordsBits (J .records)
 unfolding jobBits headBits givenBits recordsBits
 in-sections J = simp append-assoc
 
 -- the three sections and the padding are the file
 pub job-put : (J : Job) {x y z u v : List ℕ} {p q r s : ℕ} → PutIn (2 ^ 20) (headBits (J .height) (J .gates)) x y 0 p → PutIn (2 ^ 21) (givenBits (J .given)) y z p q → PutIn (2 ^ 20) (recordsBits (J .records)) z u q r → Put (bitsOf ((8 - r % 8) % 8) 0) u v r s → Put (fileBits J) x v 0 s
-unfolding fileBits toByte
-job-put J {r = r} P Q R Z =
-    let A = put-then (put-then (P .put) (Q .put)) (R .put) in
-    let e : length (jobBits J (groupsOf (J .records))) ≡ r = omega (arith, A .behind, ap length (in-sections J)) in
-    rw (e, ← zero-bits ((8 - r % 8) % 8), in-sections J) (put-then A Z)
+unfolding fileBits
+job-put J P Q R Z = let A = put-then (put-then (P .put) (Q .put)) (R .put) in put-padded (rw (in-sections J) A) Z
 
 -- ---- what a fitting job asks
 

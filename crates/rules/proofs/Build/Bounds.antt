@@ -36,7 +36,7 @@ pub record Few (K : ℕ) (g : List Node) (a : Answer) : Type 0 where
 
 module _ (rule : WordRule) (K : ℕ) (g : List Node) (r : ℕ → ℕ) (G : Graph g r) (tall : 6 ≤ K) (small : length g ≤ empty) where
   -- fewer than d deep, or none: at most d stages
-  stages-few : (rooms k : ℕ) (done waiting : List ℕ) → Ready g r waiting → (room d : ℕ) → (waiting ≡ []) ⊎ (remaining (length g) g done waiting < d) → (ss : List Stage) → stages rule K g rooms k done waiting room ≡ whole ss → length ss ≤ d
+  pub stages-few : (rooms k : ℕ) (done waiting : List ℕ) → Ready g r waiting → (room d : ℕ) → (waiting ≡ []) ⊎ (remaining (length g) g done waiting < d) → (ss : List Stage) → stages rule K g rooms k done waiting room ≡ whole ss → length ss ≤ d
   unfolding stages
   stages-few zero k done [] R room d h ss e = let z : ss ≡ [] = cc in rw z (omega arith)
   stages-few zero k done (w ∷ ws) R room d h ss e = absurd (let z : _≡_ {A = ℕ} 0 1 = cc in omega arith)

@@ -19,12 +19,14 @@ use Rattle.rules.proofs.Job.Turns.{all-got, only-held}
 
 -- ---- padding
 
-zeros : (n : ℕ) → every (λ b. eqb b 0) (replicate n 0) ≡ true
+-- so many zero bits are all 0
+pub zeros : (n : ℕ) → every (λ b. eqb b 0) (replicate n 0) ≡ true
 unfolding every
 zeros zero = refl
 zeros (suc n) = zeros n
 
-zeros-only : (bs : List ℕ) → every (λ b. eqb b 0) bs ≡ true → bs ≡ replicate (length bs) 0
+-- and bits that are all 0 are so many zero bits
+pub zeros-only : (bs : List ℕ) → every (λ b. eqb b 0) bs ≡ true → bs ≡ replicate (length bs) 0
 zeros-only [] e = refl
 zeros-only (b ∷ bs) e =
     let h = every-parts (λ b. eqb b 0) b bs e in

@@ -1,0 +1,26 @@
+-- What calls of `read` and `write` give, by their contracts. Assumes nothing.
+use Prim.Native.Nat.{ℕ}
+use mathlib.Core.Path.{_≡_, sym, ap, _∙_}
+use mathlib.Core.List.{List}
+use lib.ListN.{take}
+use Rattle.rules.specs.Job.{file}
+use Rattle.rules.proofs.Job.Bits.{Bytes}
+use Rattle.sheet_form.specs.Forms.{sheetOne}
+use Rattle.sheet_form.specs.Sheets.{sheet}
+use Rattle.sheet_form.specs.Calls.{Areas, areas, sheetOf, Written, written, into, writer, Loaded, loaded, from, reader}
+use Rattle.sheet_form.proofs.Forms.{one}
+use Rattle.sheet_form.proofs.Back as form
+use Rattle.sheet_read.specs.declared.Answer.{Answer}
+
+-- What `write` left after 0, read into any areas, gives the height and the stages that were written.
+pub read-back : (K n : ℕ) (a : Areas) (bytes : List ℕ) (number size : ℕ) (bytes′ : List ℕ) → written number size bytes′ ≡ writer sheetOne K n a bytes → number ≡ 0 →
+    (b : Areas) (r : Answer) (p′ w′ c′ : List ℕ) → loaded (r .number) (r .height) (r .stages) (r .words) (areas p′ w′ c′) ≡ reader sheetOne (take size bytes′) b →
+    loaded (r .number) (r .height) (r .stages) (r .words) (areas p′ w′ c′) ≡ from (sheet (sheetOf K n a)) b
+read-back K n a bytes number size bytes′ w z b r p′ w′ c′ e =
+    e ∙ ap (λ (x : Written). reader sheetOne (take (x .length) (x .bytes)) b) w ∙ form.read-back sheetOne one K n a bytes (sym (ap (λ (x : Written). x .number) w) ∙ z) b
+
+-- Whatever `read` took after 0, `write` makes of the areas that it left: the same bytes, or 17 where they are too few.
+pub write-back : (bs : List ℕ) → Bytes bs → (a : Areas) (r : Answer) (p′ w′ c′ : List ℕ) → loaded (r .number) (r .height) (r .stages) (r .words) (areas p′ w′ c′) ≡ reader sheetOne bs a → r .number ≡ 0 →
+    (xs : List ℕ) (number size : ℕ) (xs′ : List ℕ) → written number size xs′ ≡ writer sheetOne (r .height) (r .stages) (areas p′ w′ c′) xs → written number size xs′ ≡ into (file bs) xs
+write-back bs B a r p′ w′ c′ e z xs number size xs′ w =
+    w ∙ ap (λ (x : Loaded). writer sheetOne (x .reply .height) (x .reply .stages) (x .areas) xs) e ∙ form.write-back sheetOne one bs B a (sym (ap (λ (x : Loaded). x .reply .number) e) ∙ z) xs

@@ -1,0 +1,135 @@
+-- The calls there and back, for any areas: what was written is read, and what was read is written to the same bytes. Assumes nothing.
+use Prim.Native.Nat.{ℕ, zero, suc, _+_, _-_, _*_, _≤_}
+use mathlib.Core.Path.{_≡_, refl, sym, ap, _∙_}
+use mathlib.Core.Bool.{Bool, true, false, _&&_}
+use mathlib.Core.List.{List, [], _∷_, _++_, append-assoc}
+use native.Mathlib.Omega.{arith}
+use lib.Dec.{leb, eqb}
+use lib.ListN.{length, getD, take, drop, replicate, length-drop}
+use lib.Seq.{take-at, take-add, length-take-le}
+use borrow.Author.Tests.{le-leb, leb-true}
+use Rattle.rules.specs.Lists.{gather, sum, padded, laidOver}
+use Rattle.rules.specs.Cells.{empty, stageSize, wordLimit, rooms}
+use Rattle.rules.specs.Build.{Stage, cellsOf, wordsOf, countsOf}
+use Rattle.rules.specs.Job.{bitsOf, Read, cut, got, isPadding, File?, noFile, file}
+use Rattle.rules.proofs.Lists.Members.{split, and-true}
+use Rattle.rules.proofs.Job.Bits.{Bytes}
+use Rattle.rules.proofs.Build.Lengths.{Sized}
+use Rattle.sheet_form.specs.Forms.{Form}
+use Rattle.sheet_form.specs.Sheets.{Sheet, stageFits, stagesFit, writeSheet, Sheet?, refused, sheet, readBody, accept, readSheet}
+use Rattle.sheet_form.specs.Calls.{Areas, stagesIn, stand, sheetOf, sheetIn, unwritten, into, writer, unread, roomy, areasWith, from, reader}
+use Rattle.sheet_form.proofs.Cells.{Sound}
+use Rattle.sheet_form.proofs.Stages.{stage-fits}
+use Rattle.sheet_form.proofs.Sheets.{no-sheet, wrote, read-written, only-written}
+use Rattle.sheet_form.proofs.Calls.{sheet-in}
+
+-- ---- the stages that areas hold
+
+-- so many cells, counts and words are there
+pub record Stand (K n : ℕ) (ps ws cs : List ℕ) : Type 0 where
+  pub cells : n * stageSize K ≤ length ps
+  pub counts : n ≤ length cs
+  pub words : sum (take n cs) ≤ length ws
+
+-- areas that hold n stages have so many
+pub stand-is : (K n : ℕ) (a : Areas) → stand K n a ≡ true → Stand K n (a .plan) (a .words) (a .counts)
+unfolding stand
+stand-is K n a e =
+    let x = and-true (leb (n * stageSize K) (length (a .plan)) && leb n (length (a .counts))) (leb (sum (take n (a .counts))) (length (a .words))) e in
+    let y = and-true (leb (n * stageSize K) (length (a .plan))) (leb n (length (a .counts))) (x .0) in
+    record { cells = leb-true _ _ (y .0); counts = leb-true _ _ (y .1); words = leb-true _ _ (x .1) }
+
+-- what the stages in areas are, by cells, words and counts
+pub record Held (K n : ℕ) (ps ws cs : List ℕ) : Type 0 where
+  pub cells : cellsOf (stagesIn K n ps ws cs) ≡ take (n * stageSize K) ps
+  pub words : wordsOf (stagesIn K n ps ws cs) ≡ take (sum (take n cs)) ws
+  pub counts : countsOf (stagesIn K n ps ws cs) ≡ take n cs
+  pub stages : length (stagesIn K n ps ws cs) ≡ n
+
+-- areas that hold n stages hold exactly the first cells, words and counts
+pub held-in : (K n : ℕ) (plan words counts : List ℕ) → Stand K n plan words counts → Held K n plan words counts
+unfolding stagesIn cellsOf wordsOf countsOf sum
+held-in K zero plan words counts S = let z : 0 * stageSize K ≡ 0 = omega arith in record { cells = rw z; words = refl; counts = refl; stages = refl }
+held-in K (suc n) plan words [] S = absurd (omega (arith, S .counts))
+held-in K (suc n) plan words (c ∷ counts) S =
+    let m : suc n * stageSize K ≡ stageSize K + n * stageSize K = omega arith in
+    let l : length (take c words) ≡ c = length-take-le c words (omega (arith, S .words)) in
+    let H = held-in K n (drop (stageSize K) plan) (drop c words) counts (record { cells = omega (arith, S .cells, m, length-drop (stageSize K) plan); counts = omega (arith, S .counts); words = omega (arith, S .words, length-drop c words) }) in
+    record {
+      cells = rw (m, take-add (stageSize K) (n * stageSize K) plan, H .cells);
+      words = rw (take-add c (sum (take n counts)) words, H .words);
+      counts = rw (l, H .counts);
+      stages = ap suc (H .stages);
+    }
+
+-- ---- there and back
+
+no-file : {P : Type 0} {bs : List ℕ} → noFile ≡ file bs → P
+no-file e = absurd (let z : _≡_ {A = ℕ} 0 1 = cc in omega arith)
+
+module _ (F : Form) (S : Sound F) (K n : ℕ) (a : Areas) where
+  from-file : (bs : List ℕ) → sheetIn F K n a ≡ file bs → writeSheet F (sheetOf K n a) ≡ file bs
+  unfolding sheetIn
+  from-file bs e = split (stand K n a) (λ t. rw (t, sheetIn) at e) (λ t. no-file (rw (t, sheetIn) at e))
+
+  -- What was written, read again into any areas, gives the height and the stages that were written.
+  pub read-back : (xs : List ℕ) → writer F K n a xs .number ≡ 0 → (b : Areas) → reader F (take (writer F K n a xs .length) (writer F K n a xs .bytes)) b ≡ from (sheet (sheetOf K n a)) b
+  unfolding writer into unwritten laidOver reader
+  read-back xs z b = by (sheetIn F K n a) refl z
+    where
+      by : (f : File?) → sheetIn F K n a ≡ f → into f xs .number ≡ 0 → reader F (take (into f xs .length) (into f xs .bytes)) b ≡ from (sheet (sheetOf K n a)) b
+      by noFile e y = absurd (omega arith)
+      by (file bs) e y = split (leb (length bs) (length xs))
+          (λ t. let k = take-at bs (drop (length bs) xs) (length bs) refl in rw (t, into, k, read-written F S (sheetOf K n a) bs (from-file bs e)))
+          (λ t. absurd (let q : 17 ≡ 0 = rw (t, into) at y in omega arith))
+
+-- ---- back and there
+
+fits-sized : (F : Form) (K : ℕ) (ss : List Stage) → stagesFit F K ss ≡ true → Sized (stageSize K) ss
+unfolding stagesFit
+fits-sized F K [] e = tt
+fits-sized F K (s ∷ ss) e = let d = and-true (stageFits F K s) (stagesFit F K ss) e in (stage-fits F K s (d .0) .size, fits-sized F K ss (d .1))
+
+-- areas with a sheet's stages over their front are written as these stages
+areas-with : (F : Form) (T : Sheet) (a : Areas) → Sized (stageSize (T .height)) (T .stages) → sheetIn F (T .height) (length (T .stages)) (areasWith T a) ≡ writeSheet F T
+unfolding areasWith padded laidOver
+areas-with F T a z =
+    let K = T .height in
+    let ss = T .stages in
+    let R : ℕ = rooms K (length (a .plan)) in
+    let p = replicate (R * stageSize K - length (cellsOf ss)) empty in
+    let w = replicate (wordLimit K - length (wordsOf ss)) empty in
+    let c : List ℕ = replicate (R - length (countsOf ss)) 0 in
+    let x = drop (length (cellsOf ss ++ p)) (a .plan) in
+    let y = drop (length (wordsOf ss ++ w)) (a .words) in
+    let v = drop (length (countsOf ss ++ c)) (a .counts) in
+    rw (append-assoc (cellsOf ss) p x, append-assoc (wordsOf ss) w y, append-assoc (countsOf ss) c v) (sheet-in F K ss z (p ++ x) (w ++ y) (c ++ v))
+
+refused-some : (F : Form) (bs : List ℕ) (n : ℕ) → readSheet F bs ≡ refused n → n ≡ 0 → ⊥
+unfolding readSheet accept
+refused-some F [] n e z = absurd (let q : 15 ≡ n = cc in omega arith)
+refused-some F (b ∷ bs) n e z = split (eqb b (F .number))
+    (λ t. other (readBody F (gather (bitsOf 8) bs)) (rw (t, readSheet) at e))
+    (λ t. let d : refused 16 ≡ refused n = rw (t, readSheet) at e in let q : 16 ≡ n = cc in omega arith)
+  where
+    other : (r : Read Sheet) → accept r ≡ refused n → ⊥
+    other cut d = let q : 15 ≡ n = cc in omega arith
+    other (got T rest) d = split (isPadding rest)
+        (λ t. no-sheet (sym (rw (t, accept) at d)))
+        (λ t. let c : refused 15 ≡ refused n = rw (t, accept) at d in let q : 15 ≡ n = cc in omega arith)
+
+module _ (F : Form) (S : Sound F) (bs : List ℕ) (B : Bytes bs) (a : Areas) where
+  -- Whatever was read, writing it from the areas that reading left gives the same bytes.
+  pub write-back : reader F bs a .reply .number ≡ 0 → (xs : List ℕ) →
+      writer F (reader F bs a .reply .height) (reader F bs a .reply .stages) (reader F bs a .areas) xs ≡ into (file bs) xs
+  unfolding reader from unread writer
+  write-back z xs = by (readSheet F bs) refl z
+    where
+      by : (r : Sheet?) → readSheet F bs ≡ r → from r a .reply .number ≡ 0 → writer F (from r a .reply .height) (from r a .reply .stages) (from r a .areas) xs ≡ into (file bs) xs
+      by (refused n) e y = absurd (refused-some F bs n e y)
+      by (sheet T) e y = split (roomy T a)
+          (λ t.
+          let w = only-written F S T bs B e in
+          let q = areas-with F T a (fits-sized F (T .height) (T .stages) (wrote F S T bs w .held .stages)) in
+          rw (t, from, q, w))
+          (λ t. absurd (let q : 17 ≡ 0 = rw (t, from) at y in omega arith))

@@ -1,0 +1,10 @@
+pub mod Cells
+pub mod Stages
+pub mod Sheets
+pub mod Forms
+pub mod Sizes
+pub mod Words
+pub mod Built
+pub mod Calls
+pub mod Back
+pub mod Examples

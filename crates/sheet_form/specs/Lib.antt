@@ -1,0 +1,4 @@
+pub mod Forms
+pub mod Sheets
+pub mod Calls
+pub mod Opened

@@ -1,0 +1,5 @@
+pub mod Steps
+pub mod Stages
+pub mod Walk
+pub mod Areas
+pub mod Answers
