@@ -1,8 +1,8 @@
-// An AIGER file and a recording from two files, at height 10 with eight rooms.
+// An AIGER file and a recording from two files.
+use crate::lent::replayed;
 use crate::plain::differing;
 use aiger::read;
 use libc::STDOUT_FILENO;
-use replay::replay;
 use try_cases::more;
 use try_cases::part;
 
@@ -97,24 +97,15 @@ fn refused(number: u32) {
     io::write_all(STDOUT_FILENO, b"\n");
 }
 
-// All flip-flops start at 0, as the file says.
+// All flip-flops start at 0, as the file says. At height 10.
 fn run(gates: &[u32], records: &[u32], driven: &[u32], lines: usize, recording: &[u8]) {
-    let given: [u32; 0] = [];
     let starts: [u8; 64] = [0; 64];
     let start = part_of(&starts, 0, driven.len());
     let mut out: [u8; 65536] = [7; 65536];
     let mut end: [u8; 64] = [7; 64];
-    let mut plan: [u32; 16384] = [0; 16384];
-    let mut words: [u32; 32] = [0; 32];
-    let mut counts: [u32; 8] = [0; 8];
-    let mut work: [u32; 10752] = [0; 10752];
-    let mut tape: [u32; 16384] = [0; 16384];
-    let mut slots: [u32; 16640] = [0; 16640];
-    let mut bits: [u8; 8704] = [0; 8704];
-    let a = replay(
+    let number = replayed(
         10,
         gates,
-        &given,
         records,
         driven,
         start,
@@ -122,16 +113,9 @@ fn run(gates: &[u32], records: &[u32], driven: &[u32], lines: usize, recording: 
         recording,
         &mut out,
         &mut end,
-        &mut plan,
-        &mut words,
-        &mut counts,
-        &mut work,
-        &mut tape,
-        &mut slots,
-        &mut bits,
     );
-    if a.number != 0 {
-        refused(a.number);
+    if number != 0 {
+        refused(number);
         return;
     }
     let seen = differing(gates, records, driven, start, lines, recording, &out, &end);

@@ -1,10 +1,12 @@
 // Replays recordings, and compares every bit that comes out with the graph run another way. With no arguments: 200 small machines, drawn at
 // random. With an AIGER file and a recording, a line of 0 and 1 a clock: the outputs' bits, a line a clock, and the end bits.
 mod files;
+mod lent;
 mod machines;
 mod plain;
 
 use files::replay_file;
+use lent::replayed;
 use libc::STDOUT_FILENO;
 use machines::Chance;
 use machines::below;
@@ -14,7 +16,6 @@ use machines::draw_records;
 use machines::free_leaves;
 use machines::next;
 use plain::differing;
-use replay::replay;
 use try_cases::more;
 use try_cases::part;
 
@@ -108,7 +109,7 @@ fn run(gates: &[u32], records: &[u32], driven: &[u32], c: Chance, t: Totals) -> 
     compare(gates, records, driven, start, recording, t)
 }
 
-// Height 8 and eight rooms.
+// At height 8.
 fn compare(
     gates: &[u32],
     records: &[u32],
@@ -117,20 +118,11 @@ fn compare(
     recording: &[u8],
     t: Totals,
 ) -> Totals {
-    let given: [u32; 0] = [];
     let mut out: [u8; 512] = [7; 512];
     let mut end: [u8; 32] = [7; 32];
-    let mut plan: [u32; 4096] = [0; 4096];
-    let mut words: [u32; 8] = [0; 8];
-    let mut counts: [u32; 8] = [0; 8];
-    let mut work: [u32; 1408] = [0; 1408];
-    let mut tape: [u32; 4096] = [0; 4096];
-    let mut slots: [u32; 4128] = [0; 4128];
-    let mut bits: [u8; 2112] = [0; 2112];
-    let a = replay(
+    let number = replayed(
         8,
         gates,
-        &given,
         records,
         driven,
         start,
@@ -138,15 +130,8 @@ fn compare(
         recording,
         &mut out,
         &mut end,
-        &mut plan,
-        &mut words,
-        &mut counts,
-        &mut work,
-        &mut tape,
-        &mut slots,
-        &mut bits,
     );
-    if a.number != 0 {
+    if number != 0 {
         return Totals {
             replayed: t.replayed,
             refused: more(t.refused, 1),
