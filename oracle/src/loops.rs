@@ -173,17 +173,17 @@ fn differs(case: &Case, what: &str) -> bool {
     false
 }
 
-/// Every graph of one to four pins, then so many random ones. Whether all agreed.
-pub fn loops(count: u64, seed: u64) -> bool {
+/// Every graph of one to `most` pins, then so many random ones. Whether all agreed.
+pub fn loops(count: u64, seed: u64, most: usize) -> bool {
     let mut all = Tally::default();
-    for pins in 1..=4 {
+    for pins in 1..=most {
         for case in (0..).map_while(|index| counted(pins, index)) {
             if let Err(what) = all.compare(&case) {
                 return differs(&case, &what);
             }
         }
     }
-    all.print("every graph of one to four pins");
+    all.print(&format!("every graph of one to {most} pins"));
     let (mut r, mut random) = (Random::new(seed), Tally::default());
     for _ in 0..count {
         let case = drawn(&mut r);

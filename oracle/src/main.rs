@@ -21,7 +21,7 @@ mod shrink;
 
 use placer::WordRule;
 
-const USAGE: &str = "usage: oracle run SECONDS BUILDS MERGES SEED LOW HIGH RULE | oracle loops COUNT SEED |
+const USAGE: &str = "usage: oracle run SECONDS BUILDS MERGES SEED LOW HIGH RULE | oracle loops COUNT SEED MOST |
        oracle rules COUNT SEED LOW HIGH | oracle bench TURNS [checks] | oracle record VECTORS RECORDED";
 
 /// The published traversal calls itself as deep as the graph is.
@@ -55,7 +55,7 @@ fn work(words: &[String]) -> bool {
         ["run", seconds, builds, merges, seed, low, high, by] => {
             run::run(rule(by), number(seconds), [number(builds), number(merges)], number(seed), height(low), height(high))
         }
-        ["loops", count, seed] => loops::loops(number(count), number(seed)),
+        ["loops", count, seed, most] => loops::loops(number(count), number(seed), number(most) as usize),
         ["rules", count, seed, low, high] => rules::rules(number(count), number(seed), height(low), height(high)),
         ["bench", turns] => {
             let turns = number(turns).max(1) as usize;
