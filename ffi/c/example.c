@@ -26,7 +26,7 @@ static void *numbers(size_t count) { return lent(count, sizeof(uint32_t)); }
 static uint32_t job(void) {
     static uint8_t file[PLACER_JOB_BYTES];
     static uint32_t g[PLACER_JOB_GATES], v[PLACER_JOB_GIVEN], r[PLACER_JOB_RECORDS];
-    size_t wrote[PLACER_WRITE_LEN], read[PLACER_READ_LEN], deep[PLACER_DEPTH_LEN], built[PLACER_BUILD_LEN], listed[PLACER_LIST_LEN];
+    size_t wrote[PLACER_WRITE_LEN], read[PLACER_READ_LEN], deep[PLACER_DEPTH_LEN], aside[PLACER_RESERVED_LEN], built[PLACER_BUILD_LEN], listed[PLACER_LIST_LEN];
     uint32_t number = write_job(6, gates, 16, given, 0, records, 2, file, sizeof file, wrote, PLACER_WRITE_LEN);
     if (number != PLACER_DONE)
         return number;
@@ -45,6 +45,10 @@ static uint32_t job(void) {
         return number;
     size_t rooms = deep[PLACER_DEPTH_D] + 1;
     printf("D %zu, so %zu rooms\n", deep[PLACER_DEPTH_D], rooms);
+    number = placer_reserved(g, gs, v, vs, r, rs, work, work_len, aside, PLACER_RESERVED_LEN);
+    if (number != PLACER_DONE)
+        return number;
+    printf("reserved %zu of %zu words\n", aside[PLACER_RESERVED_WORDS], placer_words_size(height));
 
     size_t plan_len = placer_plan_size(height, rooms), words_len = placer_words_size(height);
     uint32_t *plan = numbers(plan_len), *words = numbers(words_len), *counts = numbers(rooms);

@@ -197,6 +197,26 @@ enum placer_depth_answer { PLACER_DEPTH_NUMBER, PLACER_DEPTH_D, PLACER_DEPTH_PIN
 uint32_t placer_depth(const uint32_t *gates, size_t gates_len, const uint32_t *given, size_t given_len, const uint32_t *records,
                       size_t records_len, uint32_t *work, size_t work_len, size_t *answer, size_t answer_len);
 
+/* The answer of placer_reserved: what is returned, as of placer_depth; the records' memories and duplicate activations; the words that are
+ * set aside for them; with 23 the pin. What does not apply is 0. */
+enum placer_reserved_answer {
+    PLACER_RESERVED_NUMBER,
+    PLACER_RESERVED_MEMORIES,
+    PLACER_RESERVED_DUPLICATES,
+    PLACER_RESERVED_WORDS,
+    PLACER_RESERVED_PIN,
+    PLACER_RESERVED_LEN
+};
+
+/* What a build of these records sets aside, counted whole, whether or not it is more than may be reserved: W is 2^(height - 5), and a build is
+ * refused with 6 where the words are W or more, or four times the memories and the duplicates are more than W.
+ * gates, given, records, work: as for placer_depth
+ * answer:  at least PLACER_RESERVED_LEN numbers
+ *
+ * Returns the number. Where `answer` is too short that is 2, and nothing is changed. */
+uint32_t placer_reserved(const uint32_t *gates, size_t gates_len, const uint32_t *given, size_t given_len, const uint32_t *records,
+                         size_t records_len, uint32_t *work, size_t work_len, size_t *answer, size_t answer_len);
+
 /* ---- A merge */
 
 /* The answer of a merge: what is returned; the sums of stages and words; the refused stage; the partitions left; the unions examined; the

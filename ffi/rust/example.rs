@@ -6,7 +6,7 @@
 #[path = "placer.rs"]
 mod placer;
 
-use placer::{build, build_by, depth, fold, list_answer, merge, read_aiger, read_job, write_aiger, write_job, Areas, Groups, Refusal, WordRule, EMPTY as E};
+use placer::{build, build_by, depth, fold, list_answer, merge, read_aiger, read_job, reserved, write_aiger, write_job, Areas, Groups, Refusal, WordRule, EMPTY as E};
 
 const GATES: [u32; 16] = [E, E, E, E, E, E, E, E, E, E, 2, 4, 6, 9, 10, 12];
 const RECORDS: [u32; 2] = [1, 14];
@@ -26,6 +26,7 @@ fn job() {
     let deep = depth(gates, given, records, &mut work).depth;
     let rooms = deep + 1;
     println!("D {deep}, so {rooms} rooms");
+    println!("reserved {} of {} words", reserved(gates, given, records, &mut work).words, placer::words_size(height));
 
     let mut plan = vec![0; placer::plan_size(height, rooms)];
     let mut words = vec![0; placer::words_size(height)];

@@ -259,6 +259,17 @@ pub struct Depth {
     pub pin: usize,
 }
 
+/// The numbers that `reserved` answers: 0, the records' memories and duplicate activations and the words set aside for them, or what refuses it and 0
+/// each; with 23 the smallest pin on any loop.
+#[derive(Clone, Copy, Debug, PartialEq, Eq)]
+pub struct Reserved {
+    pub number: u32,
+    pub memories: usize,
+    pub duplicates: usize,
+    pub words: usize,
+    pub pin: usize,
+}
+
 /// What a circuit is run on: the leaf that each flip-flop drives, a starting bit each (0 or not 0), and so many lines of a recording, a byte for each
 /// leaf that no flip-flop drives, in pin order.
 #[derive(Clone, Copy)]
@@ -334,6 +345,14 @@ extern "C" {
     ) -> u32;
 
     fn placer_depth(
+        gates: *const u32, gates_len: usize,
+        given: *const u32, given_len: usize,
+        records: *const u32, records_len: usize,
+        work: *mut u32, work_len: usize,
+        answer: *mut usize, answer_len: usize,
+    ) -> u32;
+
+    fn placer_reserved(
         gates: *const u32, gates_len: usize,
         given: *const u32, given_len: usize,
         records: *const u32, records_len: usize,
@@ -485,6 +504,22 @@ pub fn depth(gates: &[u32], given: &[u32], records: &[u32], work: &mut [u32]) ->
         )
     };
     Depth { number, depth: answer[1], pin: answer[2] }
+}
+
+/// What a build of these records sets aside, counted whole, whether or not it is more than may be reserved. The work is a build's, and 0 afterwards.
+pub fn reserved(gates: &[u32], given: &[u32], records: &[u32], work: &mut [u32]) -> Reserved {
+    let mut answer = [0usize; 5];
+    // SAFETY: as for `build_by`.
+    let number = unsafe {
+        placer_reserved(
+            gates.as_ptr(), gates.len(),
+            given.as_ptr(), given.len(),
+            records.as_ptr(), records.len(),
+            work.as_mut_ptr(), work.len(),
+            answer.as_mut_ptr(), answer.len(),
+        )
+    };
+    Reserved { number, memories: answer[1], duplicates: answer[2], words: answer[3], pin: answer[4] }
 }
 
 /// Merges partitions while no union takes more stages than the greatest of them and `extra` more. It takes any numbers and slices.

@@ -4,9 +4,8 @@ use crate::end::{Done, End};
 use crate::files::Out;
 use crate::job::{self, Form, Job};
 use crate::memory::{self, size, Space};
-use crate::placer::{build_work_size, depth, plan_size, replay_bits_size, replay_slots_size, replay_tape_size, words_size, Answer, EMPTY};
+use crate::placer::{build_work_size, depth, plan_size, replay_bits_size, replay_slots_size, replay_tape_size, reserved, words_size, Answer, EMPTY};
 use crate::plan::{refusal_line, Built};
-use std::collections::BTreeSet;
 use std::path::PathBuf;
 
 /// Say whether a file is a job, what it has and what to lend
@@ -16,28 +15,6 @@ pub struct Args {
     file: PathBuf,
     #[command(flatten)]
     space: Space,
-}
-
-/// The words that are set aside: one a memory, and one for each 32 of a pin's distinct activations beyond its first. The library tells this number to
-/// nobody; it is counted here to be shown, and decides nothing.
-fn reserved(job: &Job) -> usize {
-    let mut memories = 0;
-    let mut codes = BTreeSet::new();
-    let mut pins = BTreeSet::new();
-    for (kind, numbers) in job.records() {
-        let (pin, code) = match (kind, numbers) {
-            (1, [literal]) => (literal / 2, 2 + u64::from(literal % 2)),
-            (2, [enable, data]) => (data / 2, 2 * u64::from(*enable) + u64::from(data % 2)),
-            (4, [pin]) => (*pin, 2),
-            _ => {
-                memories += 1;
-                continue;
-            }
-        };
-        codes.insert((pin, code));
-        pins.insert(pin);
-    }
-    memories + (codes.len() - pins.len() + 31) / 32
 }
 
 fn counts(job: &Job) -> Vec<(&'static str, usize)> {
@@ -76,11 +53,12 @@ pub fn run(args: &Args) -> Done<()> {
     let work = build_work_size(gates, records);
     let mut area = memory::area(0, work)?;
     let told = depth(&job.gates, &job.given, &job.records, &mut area);
+    let aside = reserved(&job.gates, &job.given, &job.records, &mut area);
     drop(area);
     let built = Built::of(&job, &args.space)?;
     let height = built.height;
     if told.number == 0 {
-        out.put(format!("depth {}\nrooms {}\nreserved {}\nheight {height}\n", told.depth, told.depth.saturating_add(1), reserved(&job)))?;
+        out.put(format!("depth {}\nrooms {}\nreserved {}\nheight {height}\n", told.depth, told.depth.saturating_add(1), aside.words))?;
     }
     if let Some(said) = built.refused(&job) {
         let Answer { number, stage, pin, .. } = built.answer;

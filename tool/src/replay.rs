@@ -60,15 +60,24 @@ struct Lines {
     over: bool,
 }
 
+/// What the next line of a recording is.
+enum Next {
+    Clock,
+    /// a line of another length: so many bits, at most one more than there are inputs
+    Odd(usize),
+    /// the end, which a point may mark
+    End,
+}
+
 impl Lines {
-    fn wrong<T>(&self, what: String) -> Done<T> {
-        Err(End::Refused(format!("{}:{}: refused with 20: {what}", self.name, self.line)))
+    fn wrong(&self, what: String) -> End {
+        End::Refused(format!("{}:{}: refused with 20: {what}", self.name, self.line))
     }
 
-    /// The next line's bits, each where its input's leaf stands; false at the end, which a point may mark.
-    fn next(&mut self, places: &[usize], row: &mut [u8]) -> Done<bool> {
+    /// The next line's bits, each where its input's leaf stands.
+    fn next(&mut self, places: &[usize], row: &mut [u8]) -> Done<Next> {
         if self.over {
-            return Ok(false);
+            return Ok(Next::End);
         }
         self.text.clear();
         // a right line has a byte an input and its end: more are not looked at
@@ -76,7 +85,7 @@ impl Lines {
         match (&mut self.from).take(most).read_until(b'\n', &mut self.text) {
             Ok(0) => {
                 self.over = true;
-                return Ok(false);
+                return Ok(Next::End);
             }
             Ok(count) => self.bytes = self.bytes.saturating_add(count as u64),
             Err(error) => return stopped(&self.name, words(&error)),
@@ -85,19 +94,24 @@ impl Lines {
         let text = self.text.strip_suffix(b"\n").unwrap_or(&self.text);
         if text == b"." {
             self.over = true;
-            return Ok(false);
+            return Ok(Next::End);
         }
         if let Some(at) = text.iter().take(places.len()).position(|&byte| byte != b'0' && byte != b'1') {
-            return self.wrong(format!("character {} is '{}', no 0 or 1", at + 1, char::from(text[at]).escape_default()));
+            return Err(self.wrong(format!("character {} is '{}', no 0 or 1", at + 1, char::from(text[at]).escape_default())));
         }
         if text.len() != places.len() {
-            let has = if text.len() < places.len() { text.len().to_string() } else { format!("more than {}", places.len()) };
-            return self.wrong(format!("the line has {has} bits; a clock has {}, one an input", places.len()));
+            return Ok(Next::Odd(text.len().min(places.len() + 1)));
         }
         for (&place, &byte) in places.iter().zip(text) {
             row[place] = u8::from(byte == b'1');
         }
-        Ok(true)
+        Ok(Next::Clock)
+    }
+
+    /// What is said of a line with so many bits.
+    fn odd(&self, has: usize, inputs: usize) -> End {
+        let has = if has < inputs { has.to_string() } else { format!("more than {inputs}") };
+        self.wrong(format!("the line has {has} bits; a clock has {inputs}, one an input"))
     }
 }
 
@@ -270,24 +284,29 @@ pub fn run(args: &Args) -> Done<()> {
     let mut clocks = 0u64;
     let ended = loop {
         // leaves that are no input stay 0
-        let size = piece.saturating_mul(layout.leaves);
+        let size = piece.saturating_mul(layout.leaves).max(layout.leaves + 1);
         let missing = size.saturating_sub(given.len());
         memory::more(&mut given, missing)?;
         given.resize(size, 0);
         // a wrong line ends the recording after the clocks before it
         let mut count = 0;
+        let mut odd = None;
         let mut wrong = None;
         while count < piece {
             match lines.next(&layout.places, &mut given[count * layout.leaves..(count + 1) * layout.leaves]) {
-                Ok(true) => count += 1,
-                Ok(false) => break,
+                Ok(Next::Clock) => count += 1,
+                Ok(Next::Odd(has)) => {
+                    odd = Some(has);
+                    break;
+                }
+                Ok(Next::End) => break,
                 Err(end) => {
                     wrong = Some(end);
                     break;
                 }
             }
         }
-        if count == 0 && !first {
+        if count == 0 && !first && odd.is_none() {
             break wrong.map_or(Ok(()), Err);
         }
         out.clear();
@@ -320,6 +339,16 @@ pub fn run(args: &Args) -> Done<()> {
         progress.show(lines.bytes, clocks);
         if let Some(end) = wrong {
             break Err(end);
+        }
+        if let Some(has) = odd {
+            // a clock of other bits than there are leaves is handed on as it is: the library judges lengths
+            let bits = &given[..layout.leaves.saturating_sub(layout.places.len()) + has];
+            memory::more(&mut out, layout.handed)?;
+            out.resize(layout.handed, 0);
+            let recording = Recording { driven: &aag.latches, start: &start, lines: 1, bits };
+            let run = Run { out: &mut out, end: &mut end };
+            let answer = placer::replay(height, &job.gates, &job.given, &job.records, recording, run, lent.areas(), taped.areas());
+            break Err(if answer.number == 20 { lines.odd(has, layout.places.len()) } else { refused(&job, aag, height, &answer, &lent, &start) });
         }
         if took < SHORT {
             piece = piece.saturating_mul(4).min(most);

@@ -1,4 +1,5 @@
 pub mod Deepest
 pub mod Walks
+pub mod Aside
 pub mod Outcome
 pub mod Unique

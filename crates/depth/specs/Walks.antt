@@ -1,4 +1,4 @@
--- What the walks that give D start from and leave. Assumes nothing.
+-- What the walks that give D, and the count of what is set aside, start from and leave. Assumes nothing.
 use Prim.Native.Nat.{ℕ}
 use mathlib.Core.Path.{_≡_}
 use mathlib.Core.Bool.{Bool}
@@ -9,6 +9,8 @@ use Rattle.rules.specs.Records.{groupsOf}
 use Rattle.rules.specs.Checks.{workSize}
 use Rattle.rules.specs.Depth.{deepest}
 use Rattle.checks.specs.Passed.{Passed}
+use Rattle.placer_start.specs.declared.reservation.Count.{Count}
+use Rattle.placer_start.specs.Reservation.{Counts, Few}
 use Rattle.placer_start.specs.Opening.{BeginAt}
 
 -- input that passed the checks, whatever the height, and an area that a build may begin in
@@ -28,4 +30,16 @@ pub record MeasureAt (gates given records w : List ℕ) : Type 0 where
 
 pub record Measured (gates given records w : List ℕ) (d : ℕ) (w′ : List ℕ) : Type 0 where
   pub depth : d ≡ deepest (graphOf gates) given (groupsOf records)
+  pub work : w′ ≡ replicate (length w) 0
+
+-- every record counted, in an area that keeps its length
+pub record Totalled (records w : List ℕ) (r : Count) (w′ : List ℕ) : Type 0 where
+  pub counts : Counts (groupsOf records) r
+  pub few : Few r
+  pub len : length w′ ≡ length w
+
+-- so few that the words set aside fit, and the area is 0
+pub record Tallied (records w : List ℕ) (r : Count) (w′ : List ℕ) : Type 0 where
+  pub counts : Counts (groupsOf records) r
+  pub few : Few r
   pub work : w′ ≡ replicate (length w) 0

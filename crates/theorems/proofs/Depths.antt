@@ -12,7 +12,7 @@ use Rattle.rules.specs.Depth.{deepest}
 use Rattle.rules.specs.Build as rules
 use Rattle.checks.proofs.Laws.Passed.{passed, any-height}
 use Rattle.depth.specs.declared.Answer.{Answer}
-use Rattle.depth.specs.Calls.{Outcome, outcome, tellRefusal, teller}
+use Rattle.depth.specs.Calls.{Told, telling, outcome, tellRefusal, teller, tellDepth}
 use Rattle.theorems.specs.Inputs.{D}
 use Rattle.theorems.proofs.Calls.{Call, checked, input, roomsOf, enough, six-to-nine}
 
@@ -21,20 +21,20 @@ pub record DepthCall (C : Call) : Type 0 where
   pub entry : List ℕ
   pub answer : Answer
   pub exit : List ℕ
-  pub ensures : outcome answer exit ≡ teller (C .gates) (C .given) (C .records) entry
+  pub ensures : outcome answer exit ≡ tellDepth (C .gates) (C .given) (C .records) entry
 
 module _ (C : Call) (T : DepthCall C) (z : T .answer .number ≡ 0) where
-  abbrev telling : ℕ
-  telling = tellRefusal (C .gates) (C .given) (C .records) (T .entry)
+  abbrev refused : ℕ
+  refused = tellRefusal (C .gates) (C .given) (C .records) (T .entry)
 
-  told : (n : ℕ) → telling ≡ n → (n ≡ 0) × (T .answer .depth ≡ deepest (graphOf (C .gates)) (C .given) (groupsOf (C .records)))
-  unfolding outcome teller
-  told zero e = (refl, ap (λ (o : Outcome). o .depth) (rw (e, teller) at (T .ensures)))
-  told (suc n) e = absurd (let E = ap (λ (o : Outcome). o .number) (rw (e, teller) at (T .ensures)) in omega arith)
+  told : (n : ℕ) → refused ≡ n → (n ≡ 0) × (T .answer .depth ≡ deepest (graphOf (C .gates)) (C .given) (groupsOf (C .records)))
+  unfolding outcome telling teller tellDepth
+  told zero e = (refl, ap (λ (o : Told ℕ). o .told) (rw (e, teller) at (T .ensures)))
+  told (suc n) e = absurd (let E = ap (λ (o : Told ℕ). o .number) (rw (e, teller) at (T .ensures)) in omega arith)
 
   -- An answer of 0 tells D.
   pub told-D : (e : checked C ≡ 0) → T .answer .depth ≡ D (input C e)
-  told-D e = told telling refl .1
+  told-D e = told refused refl .1
 
   module _ (more : T .answer .depth < roomsOf C) where
     within : (e : checked C ≡ 0) → D (input C e) < roomsOf C
@@ -53,7 +53,7 @@ module _ (C : Call) (T : DepthCall C) (z : T .answer .number ≡ 0) where
     pub lent-enough : isHeight (C .height) ≡ true → rules.sizesRight (C .height) (C .gates) (C .records) (C .entry) ≡ true → (C .answer .number ≡ 0) ⊎ ((C .answer .number ≡ 6) ⊎ ((C .answer .number ≡ 7) ⊎ (C .answer .number ≡ 8)))
     unfolding tellRefusal
     lent-enough h s =
-        let t : telling ≡ 0 = told telling refl .0 in
+        let t : refused ≡ 0 = told refused refl .0 in
         let P = passed 6 _ (C .gates) (C .given) (C .records) t in
         let e : checked C ≡ 0 = rw s (any-height (C .height) 6 true (C .gates) (C .given) (C .records) h (P .height) ∙ rw (P .areas) at t) in
         enough C e (within e)
