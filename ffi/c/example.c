@@ -1,7 +1,8 @@
 /* Two of the scope document's bench examples at height 6. Pins 1 to 4 are leaves, 5 = (2, 4), 6 = (6, 9), 7 = (10, 12), output 14: as a job
  * file, which is read back, built in D + 1 rooms, listed and folded; and built under the rule that writes idle runs too, with too few counts, and
  * under a number that names no rule. D of a chain of 60 gates, and with a given pin near its end. A merge: the leaf outputs 2 and 4, a partition
- * each, no extra stages. And the AIGER document's half adder, read whole and cut, and written again, with its two unused variables as inputs. */
+ * each, no extra stages. The first example's plan as a sheet, which is read back and listed again, into too few words, cut, and of an unknown number.
+ * And the AIGER document's half adder, read whole and cut, and written again, with its two unused variables as inputs. */
 #include "placer.h"
 #include <stdio.h>
 #include <stdlib.h>
@@ -92,6 +93,40 @@ static uint32_t show(uint32_t rule, size_t counts_len) {
     return number;
 }
 
+/* The sheet of its plan, and that plan again: the same listing. */
+static uint32_t sheet(void) {
+    uint32_t plan[128], words[2], counts[1], work[16 * 8 + 8 * 2 + 512], plan2[128], words2[2], counts2[1];
+    size_t built[PLACER_BUILD_LEN], wrote[PLACER_WRITE_LEN], read[PLACER_SHEET_LEN], listed[PLACER_LIST_LEN];
+    uint32_t number = placer_build(6, gates, 16, given, 0, records, 2, plan, 128, words, 2, counts, 1, work, sizeof work / sizeof *work, built, PLACER_BUILD_LEN);
+    if (number != PLACER_DONE)
+        return number;
+    size_t room = placer_sheet_size(6, built[PLACER_BUILD_STAGES]);
+    uint8_t *bytes = lent(room, 1);
+    number = write_sheet(6, built[PLACER_BUILD_STAGES], plan, 128, words, 2, counts, 1, bytes, room, wrote, PLACER_WRITE_LEN);
+    if (number != PLACER_DONE)
+        return number;
+    size_t size = wrote[PLACER_WRITE_LENGTH];
+    printf("sheet of %zu bytes, of at most %zu\n", size, room);
+
+    number = read_sheet(bytes, size, plan2, 128, words2, 2, counts2, 1, read, PLACER_SHEET_LEN);
+    if (number != PLACER_DONE)
+        return number;
+    printf("height %zu stages %zu words %zu\n", read[PLACER_SHEET_HEIGHT], read[PLACER_SHEET_STAGES], read[PLACER_SHEET_WORDS]);
+    size_t out_len = placer_listing_size(6, read[PLACER_SHEET_STAGES], read[PLACER_SHEET_WORDS]);
+    uint8_t *out = lent(out_len, 1);
+    number = list_answer(6, PLACER_DONE, read[PLACER_SHEET_STAGES], 0, 0, plan2, 128, words2, 2, counts2, 1, out, out_len, listed, PLACER_LIST_LEN);
+    fwrite(out, 1, listed[PLACER_LIST_LENGTH], stdout);
+    free(out);
+
+    for (int damage = 0; damage < 3; damage++) {
+        bytes[0] = damage == 2 ? 3 : 1;
+        uint32_t refused = read_sheet(bytes, damage == 1 ? size - 1 : size, plan2, 128, words2, damage == 0 ? 1 : 2, counts2, 1, read, PLACER_SHEET_LEN);
+        printf("sheet: refused %u: %s\n", refused, placer_describe(refused));
+    }
+    free(bytes);
+    return number;
+}
+
 /* The chain of examples/split.txt: pins 1 and 2 are leaves, 3 = (2, 4), and each pin p after it (2 * (p - 1), 2). */
 static uint32_t splitting(void) {
     uint32_t chain[126] = {E, E, E, E, E, E, 2, 4}, work[16 * 63 + 8 * 2 + 512];
@@ -145,7 +180,7 @@ int main(void) {
     size_t answer[PLACER_BUILD_LEN];
     uint32_t whole = job(), every = show(PLACER_EVERY_RUN, 1), small = show(PLACER_NEEDED_RUNS, 0), none = first(2, 1, answer), deep = splitting();
     merging();
-    if (aiger() != PLACER_DONE)
+    if (sheet() != PLACER_DONE || aiger() != PLACER_DONE)
         return 1;
     return whole != PLACER_DONE || deep != PLACER_DONE || every != PLACER_DONE || small != PLACER_WRONG_SIZE || none != PLACER_WRONG_SIZE;
 }

@@ -1,4 +1,4 @@
-/* The placer, for C: builds, merges, folds, replays, listings, job files and AIGER files. Link libentries.a, which ffi/library writes (x86-64, Linux).
+/* The placer, for C: builds, merges, folds, replays, listings, plan sheets, job files and AIGER files. Link libentries.a, which ffi/library writes (x86-64, Linux).
  *
  * Every call returns, whatever numbers it is handed: it answers, or refuses with a number, and each contract says for all of them what is
  * returned and left. The caller checks nothing beforehand. What the caller owes is the memory:
@@ -32,7 +32,8 @@ extern "C" {
 
 /* What a call returns. 6 to 9 leave plan and words as empty marks, counts and work 0; every other refusal leaves everything lent as it was, but
  * for the answer. The first that applies is given, in the order 1, 2, 3, 23, 4, 5, 10, 6, then for each stage 9, 7, 8; of a job file 11, then 2; of
- * an AIGER file read 12, 13, 2, 3, 23, 4, and of one written 14, then 2; a replay has 18, 19, 20, 17 between 5 and 6. */
+ * an AIGER file read 12, 13, 2, 3, 23, 4, and of one written 14, then 2; of a plan sheet read 16, 15, 17, and of one written 15, then 17; a replay has
+ * 18, 19, 20, 17 between 5 and 6. */
 enum placer_refusal {
     PLACER_DONE = 0,          /* not refused */
     PLACER_NO_HEIGHT = 1,     /* the height is not 6 to 13 */
@@ -49,7 +50,9 @@ enum placer_refusal {
     PLACER_NO_AIGER = 12,     /* the bytes are no AIGER file, or it is cut; the answer has the place of the first bad line, or the file's length */
     PLACER_RESET = 13,        /* a latch has a reset value other than 0; the answer has the place of its line */
     PLACER_NOT_AIGER = 14,    /* no AIGER file holds the job */
-    PLACER_SHORT = 17,        /* a replay's out or end is too short */
+    PLACER_NO_SHEET = 15,     /* the bytes are no plan sheet, or no sheet holds the plan */
+    PLACER_NEW_SHEET = 16,    /* a plan sheet of an unknown number */
+    PLACER_SHORT = 17,        /* an area for what comes out is too short: of a plan sheet, or a replay's out or end */
     PLACER_NOT_PLAIN = 18,    /* a replay has a memory or a given pin */
     PLACER_NOT_DRIVEN = 19,   /* a driven pin is no leaf, or is driven twice */
     PLACER_WRONG_LENGTH = 20, /* driven pins, starting bits or recording have not the length that records and lines state */
@@ -74,7 +77,9 @@ static inline const char *placer_describe(uint32_t number) {
     case PLACER_NO_AIGER: return "no AIGER file, or one that is cut";
     case PLACER_RESET: return "a latch has a reset value other than 0";
     case PLACER_NOT_AIGER: return "no AIGER file holds the job";
-    case PLACER_SHORT: return "the area for the bits handed out or the end bits is too short";
+    case PLACER_NO_SHEET: return "no plan sheet, or no sheet for the plan";
+    case PLACER_NEW_SHEET: return "a plan sheet of an unknown number";
+    case PLACER_SHORT: return "an area for what comes out is too short";
     case PLACER_NOT_PLAIN: return "a memory or a given pin, which no recording replays";
     case PLACER_NOT_DRIVEN: return "a driven pin is no leaf, or is driven twice";
     case PLACER_WRONG_LENGTH: return "driven pins, starting bits or recording have another length than stated";
@@ -134,6 +139,12 @@ static inline size_t placer_replay_bits_size(size_t gates_len, size_t plan_len) 
 static inline size_t placer_listing_size(uint32_t height, size_t stages, size_t words) {
     size_t stage = placer_sum(48, placer_product(17, placer_stage_size(height)));
     return placer_sum(64, placer_sum(placer_product(stages, stage), placer_product(11, words)));
+}
+
+/* The bytes that hold the plan sheet of any build with so many stages: 4, one a word that may be written, and 17 * 2^(height - 2) a stage. */
+static inline size_t placer_sheet_size(uint32_t height, size_t stages) {
+    size_t stage = height < 6 || height > 13 ? SIZE_MAX : (size_t)17 << (height - 2);
+    return placer_sum(4, placer_sum(placer_words_size(height), placer_product(stages, stage)));
 }
 
 /* No job file has more bytes, and no job of one more numbers in its lists. */
@@ -320,6 +331,38 @@ enum placer_write_answer { PLACER_WRITE_NUMBER, PLACER_WRITE_LENGTH, PLACER_WRIT
 uint32_t list_answer(uint32_t height, uint32_t number, size_t stages, size_t stage, uint32_t pin, const uint32_t *plan,
                      size_t plan_len, const uint32_t *words, size_t words_len, const uint32_t *counts, size_t counts_len,
                      uint8_t *out, size_t out_len, size_t *answer, size_t answer_len);
+
+/* ---- Plan sheets: a plan on disk, without its graph */
+
+/* The sheet of a plan, as a build left it. Its bits stand most significant first: the sheet number 8 (1), the height 4, the stages 16; for each stage its
+ * word count 16 and words of 8, then for each position from 1 on a bit that says whether it is filled, and if so its pin of 16; and zeros up to a byte.
+ * height:  the build's
+ * stages:  of the build's answer
+ * plan, words, counts: as it left them
+ * bytes:   placer_sheet_size(height, stages) bytes hold the sheet of any build
+ * answer:  at least PLACER_WRITE_LEN numbers
+ *
+ * Returns 0; 15 for a plan that no sheet can hold (a height that is none, more than 65,535 stages or stages that the areas don't hold, a filled position
+ * 0, a pin 0 or above 65,535, a word not below placer_words_size(height), a count above 65,535), which no build leaves; 17 where the bytes are too few;
+ * and then they are unchanged. Where `answer` is too short that is 2, and nothing is changed. */
+uint32_t write_sheet(uint32_t height, size_t stages, const uint32_t *plan, size_t plan_len, const uint32_t *words, size_t words_len,
+                     const uint32_t *counts, size_t counts_len, uint8_t *bytes, size_t bytes_len, size_t *answer, size_t answer_len);
+
+/* The answer of a sheet read: what is returned, the height, the stages and the words in all; 0 each on refusal. */
+enum placer_sheet_answer { PLACER_SHEET_NUMBER, PLACER_SHEET_HEIGHT, PLACER_SHEET_STAGES, PLACER_SHEET_WORDS, PLACER_SHEET_LEN };
+
+/* The plan of a sheet, into areas that then stand as a build leaves them: unused cells and words PLACER_EMPTY, unused counts 0. Only what write_sheet
+ * writes is read.
+ * plan:    a room a stage; it counts at its whole stages, and numbers behind them stay
+ * words:   at least placer_words_size(height) numbers and as many as the sheet has words; numbers behind these stay. There are fewer words than bytes
+ * counts:  at least a number a room of the plan; numbers behind these stay
+ * answer:  at least PLACER_SHEET_LEN numbers
+ *
+ * Returns 0; 16 where the first byte is no known sheet number; 15 for bytes that are cut, too many, or no sheet otherwise; 17 where an area is too short
+ * for the sheet; and then no area is changed. With areas of no numbers it only judges: 17 is then for what is a sheet. Where `answer` is too short that
+ * is 2, and nothing is changed. */
+uint32_t read_sheet(const uint8_t *bytes, size_t bytes_len, uint32_t *plan, size_t plan_len, uint32_t *words, size_t words_len, uint32_t *counts,
+                    size_t counts_len, size_t *answer, size_t answer_len);
 
 /* ---- Job files */
 

@@ -1,12 +1,13 @@
 //! Two of the scope document's bench examples at height 6. Pins 1 to 4 are leaves, 5 = (2, 4), 6 = (6, 9), 7 = (10, 12), output 14: as a job
 //! file, which is read back, built in D + 1 rooms, listed and folded; and built under the rule that writes idle runs too, and with too few counts.
-//! D of a chain of 60 gates, and with a given pin near its end. A merge: the leaf outputs 2 and 4, a partition each, no extra stages. And the AIGER
-//! document's half adder, read whole and cut, and written again, with its two unused variables as inputs.
+//! D of a chain of 60 gates, and with a given pin near its end. A merge: the leaf outputs 2 and 4, a partition each, no extra stages. The first example's
+//! plan as a sheet, which is read back and listed again, into too few words, cut, and of an unknown number. And the AIGER document's half adder, read
+//! whole and cut, and written again, with its two unused variables as inputs.
 #[allow(dead_code)] // not all of it is shown
 #[path = "placer.rs"]
 mod placer;
 
-use placer::{build, build_by, depth, fold, list_answer, merge, read_aiger, read_job, reserved, write_aiger, write_job, Areas, Groups, Refusal, WordRule, EMPTY as E};
+use placer::{build, build_by, depth, fold, list_answer, merge, read_aiger, read_job, read_sheet, reserved, write_aiger, write_job, write_sheet, Answer, Areas, Groups, Refusal, WordRule, EMPTY as E};
 
 const GATES: [u32; 16] = [E, E, E, E, E, E, E, E, E, E, 2, 4, 6, 9, 10, 12];
 const RECORDS: [u32; 2] = [1, 14];
@@ -59,6 +60,31 @@ fn first(rule: WordRule, counts: usize) {
     }
 }
 
+/// The sheet of its plan, and that plan again: the same listing.
+fn sheet() {
+    let (mut plan, mut words, mut counts, mut work) = ([0; 128], [0; 2], [0; 1], [0; 16 * 8 + 8 * 2 + 512]);
+    let built = build(6, &GATES, &[], &RECORDS, Areas { plan: &mut plan, words: &mut words, counts: &mut counts, work: &mut work });
+    let mut bytes = vec![0; placer::sheet_size(6, built.stages)];
+    let wrote = write_sheet(6, built.stages, &plan, &words, &counts, &mut bytes);
+    println!("sheet of {} bytes, of at most {}", wrote.length, bytes.len());
+
+    let (mut plan, mut words, mut counts) = ([0; 128], [0; 2], [0; 1]);
+    let read = read_sheet(&bytes[..wrote.length], &mut plan, &mut words, &mut counts);
+    println!("height {} stages {} words {}", read.height, read.stages, read.words);
+    let answer = Answer { stages: read.stages, words: read.words, ..Answer::default() };
+    let mut out = vec![0; placer::listing_size(read.height, read.stages, read.words)];
+    let listed = list_answer(read.height, &answer, &plan, &words, &counts, &mut out);
+    print!("{}", String::from_utf8_lossy(&out[..listed.length]));
+
+    for (first, length, room) in [(1, wrote.length, 1), (1, wrote.length - 1, 2), (3, wrote.length, 2)] {
+        bytes[0] = first;
+        let damaged = read_sheet(&bytes[..length], &mut plan, &mut words[..room], &mut counts);
+        if let Some(refusal) = Refusal::of(damaged.number) {
+            println!("sheet: {refusal}");
+        }
+    }
+}
+
 /// The chain of examples/split.txt: pins 1 and 2 are leaves, 3 = (2, 4), and each pin p after it (2 * (p - 1), 2).
 fn splitting() {
     let mut chain = vec![E, E, E, E, E, E, 2, 4];
@@ -101,5 +127,6 @@ fn main() {
     first(WordRule::NeededRuns, 0);
     splitting();
     merging();
+    sheet();
     aiger();
 }

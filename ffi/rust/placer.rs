@@ -1,4 +1,4 @@
-//! The placer, for Rust: builds, merges, folds, replays, listings, job files and AIGER files. Link `libentries.a`, which `ffi/library` writes (x86-64, Linux).
+//! The placer, for Rust: builds, merges, folds, replays, listings, plan sheets, job files and AIGER files. Link `libentries.a`, which `ffi/library` writes (x86-64, Linux).
 //! No crate beyond `core` is needed. Every function takes any numbers and slices, and answers or refuses; none panics.
 //!
 //! A room is the memory of one stage: `stage_size(height)` numbers of the plan and one of the counts. A build fills as many as it has stages.
@@ -50,7 +50,11 @@ pub enum Refusal {
     Reset = 13,
     /// No AIGER file holds the job.
     NotAiger = 14,
-    /// A replay's out or end is too short.
+    /// The bytes are no plan sheet, or no sheet holds the plan.
+    NoSheet = 15,
+    /// A plan sheet of an unknown number.
+    NewSheet = 16,
+    /// A slice for what comes out is too short: of a plan sheet, or a replay's out or end.
     Short = 17,
     /// A replay has a memory or a given pin.
     NotPlain = 18,
@@ -80,6 +84,8 @@ impl Refusal {
             12 => Refusal::NoAiger,
             13 => Refusal::Reset,
             14 => Refusal::NotAiger,
+            15 => Refusal::NoSheet,
+            16 => Refusal::NewSheet,
             17 => Refusal::Short,
             18 => Refusal::NotPlain,
             19 => Refusal::NotDriven,
@@ -106,7 +112,9 @@ impl Refusal {
             Refusal::NoAiger => "no AIGER file, or one that is cut",
             Refusal::Reset => "a latch has a reset value other than 0",
             Refusal::NotAiger => "no AIGER file holds the job",
-            Refusal::Short => "the area for the bits handed out or the end bits is too short",
+            Refusal::NoSheet => "no plan sheet, or no sheet for the plan",
+            Refusal::NewSheet => "a plan sheet of an unknown number",
+            Refusal::Short => "an area for what comes out is too short",
             Refusal::NotPlain => "a memory or a given pin, which no recording replays",
             Refusal::NotDriven => "a driven pin is no leaf, or is driven twice",
             Refusal::WrongLength => "driven pins, starting bits or recording have another length than stated",
@@ -179,6 +187,12 @@ pub const fn listing_size(height: u32, stages: usize, words: usize) -> usize {
     stages.saturating_mul(stage).saturating_add(words.saturating_mul(11)).saturating_add(64)
 }
 
+/// Bytes that hold the plan sheet of any build with so many stages: 4, one a word that may be written, and 17 * 2^(height - 2) a stage.
+pub const fn sheet_size(height: u32, stages: usize) -> usize {
+    let stage = if height < 6 || height > 13 { usize::MAX } else { 17 << (height - 2) };
+    stages.saturating_mul(stage).saturating_add(words_size(height)).saturating_add(4)
+}
+
 /// No job file has more bytes.
 pub const JOB_BYTES: usize = 8192;
 /// No job of a file has more numbers of gates,
@@ -212,7 +226,7 @@ pub enum WordRule {
 }
 
 /// The numbers that a build answers: 0 and the plan's stages and words, or what refuses it and where; with 23 the smallest pin on any loop.
-#[derive(Clone, Copy, Debug, PartialEq, Eq)]
+#[derive(Clone, Copy, Debug, Default, PartialEq, Eq)]
 pub struct Answer {
     pub number: u32,
     pub stages: usize,
@@ -305,6 +319,15 @@ pub struct Folded {
 pub struct Written {
     pub number: u32,
     pub length: usize,
+}
+
+/// The numbers that reading a plan sheet answers: 0, the height, the stages and the words in all; or what refuses it and 0.
+#[derive(Clone, Copy, Debug, PartialEq, Eq)]
+pub struct Sheet {
+    pub number: u32,
+    pub height: u32,
+    pub stages: usize,
+    pub words: usize,
 }
 
 /// The numbers that reading a job file answers: 0, the height and how many numbers each slice has of the job; or what refuses it and 0.
@@ -420,6 +443,26 @@ extern "C" {
         words: *const u32, words_len: usize,
         counts: *const u32, counts_len: usize,
         out: *mut u8, out_len: usize,
+        answer: *mut usize, answer_len: usize,
+    ) -> u32;
+
+    #[link_name = "write_sheet"]
+    fn write_sheet_entry(
+        height: u32,
+        stages: usize,
+        plan: *const u32, plan_len: usize,
+        words: *const u32, words_len: usize,
+        counts: *const u32, counts_len: usize,
+        bytes: *mut u8, bytes_len: usize,
+        answer: *mut usize, answer_len: usize,
+    ) -> u32;
+
+    #[link_name = "read_sheet"]
+    fn read_sheet_entry(
+        bytes: *const u8, bytes_len: usize,
+        plan: *mut u32, plan_len: usize,
+        words: *mut u32, words_len: usize,
+        counts: *mut u32, counts_len: usize,
         answer: *mut usize, answer_len: usize,
     ) -> u32;
 
@@ -630,6 +673,44 @@ pub fn list_answer(height: u32, built: &Answer, plan: &[u32], words: &[u32], cou
         )
     };
     Written { number, length: answer[1] }
+}
+
+/// The sheet of so many stages of a plan, as a build left them, to the front of `bytes`. `sheet_size` bytes hold the sheet of any build, which is never
+/// refused with `NoSheet`.
+pub fn write_sheet(height: u32, stages: usize, plan: &[u32], words: &[u32], counts: &[u32], bytes: &mut [u8]) -> Written {
+    let mut answer = [0usize; 2];
+    // SAFETY: as for `build_by`.
+    let number = unsafe {
+        write_sheet_entry(
+            height,
+            stages,
+            plan.as_ptr(), plan.len(),
+            words.as_ptr(), words.len(),
+            counts.as_ptr(), counts.len(),
+            bytes.as_mut_ptr(), bytes.len(),
+            answer.as_mut_ptr(), answer.len(),
+        )
+    };
+    Written { number, length: answer[1] }
+}
+
+/// The plan of a sheet's bytes, into slices that then stand as a build leaves them. Lend a room a stage, a count a room, and words at least
+/// `words_size(height)` and as many as the sheet has, of which there are fewer than bytes. With empty slices it only judges: `Short` is then for what is a
+/// sheet.
+pub fn read_sheet(bytes: &[u8], plan: &mut [u32], words: &mut [u32], counts: &mut [u32]) -> Sheet {
+    let mut answer = [0usize; 4];
+    // SAFETY: as for `build_by`.
+    let number = unsafe {
+        read_sheet_entry(
+            bytes.as_ptr(), bytes.len(),
+            plan.as_mut_ptr(), plan.len(),
+            words.as_mut_ptr(), words.len(),
+            counts.as_mut_ptr(), counts.len(),
+            answer.as_mut_ptr(), answer.len(),
+        )
+    };
+    let [_, height, stages, words] = answer;
+    Sheet { number, height: height as u32, stages, words } // a height is at most 13
 }
 
 /// The job of a file's bytes, to the front of the slices. `JOB_GATES`, `JOB_GIVEN` and `JOB_RECORDS` numbers hold any.

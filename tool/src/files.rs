@@ -2,7 +2,7 @@
 
 use crate::end::{stopped, words, Done, End};
 use crate::memory;
-use std::fs::File;
+use std::fs::{self, File};
 use std::io::{self, BufWriter, Read, Write};
 use std::path::Path;
 
@@ -52,6 +52,30 @@ pub fn read(path: &Path, limit: usize) -> Done<Vec<u8>> {
             Err(error) if error.kind() == io::ErrorKind::Interrupted => {}
             Err(error) => return stopped(name(path), words(&error)),
         }
+    }
+}
+
+/// A file written whole: under another name first, so that a failure leaves what stood there. A device or pipe is written as it is.
+pub fn write(path: &Path, bytes: &[u8]) -> Done<()> {
+    let written = match fs::metadata(path) {
+        Ok(found) if !found.is_file() => File::create(path).and_then(|mut file| file.write_all(bytes)),
+        found => {
+            let whole = if found.is_ok() { fs::canonicalize(path) } else { Ok(path.to_path_buf()) };
+            whole.and_then(|whole| {
+                let mut part = whole.clone().into_os_string();
+                part.push(format!(".{}.part", std::process::id()));
+                let part = Path::new(&part);
+                let written = File::create(part).and_then(|mut file| file.write_all(bytes).and_then(|()| file.sync_all())).and_then(|()| fs::rename(part, &whole));
+                if written.is_err() {
+                    let _ = fs::remove_file(part);
+                }
+                written
+            })
+        }
+    };
+    match written {
+        Ok(()) => Ok(()),
+        Err(error) => stopped(path.display(), words(&error)),
     }
 }
 

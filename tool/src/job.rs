@@ -1,10 +1,11 @@
-//! A file handed in: an AIGER file, a job file or a job's text, read into the lists that the library takes.
+//! A file handed in: an AIGER file, a job file or a job's text, read into the lists that the library takes; or a plan sheet.
 
 use crate::aag::{self, Aag};
-use crate::end::{Done, End};
+use crate::end::{stopped, Done, End};
 use crate::files;
 use crate::memory::{self, Graph};
 use crate::placer::{read_aiger, read_job, AIGER_GATES, AIGER_LATCHES, AIGER_RECORDS, JOB_GATES, JOB_GIVEN, JOB_RECORDS};
+use crate::sheet;
 use crate::text::{self, Text};
 use crate::why;
 use std::path::Path;
@@ -26,9 +27,10 @@ pub struct Job {
     pub records: Vec<u32>,
 }
 
-/// What became of a file: lists, or the number that refuses it and what is said of that.
+/// What became of a file: lists, a plan sheet, or the number that refuses it and what is said of that.
 pub enum Read {
     Job(Job),
+    Sheet { name: String, bytes: Vec<u8> },
     Refused { number: u32, pin: usize, said: String },
 }
 
@@ -127,6 +129,8 @@ pub fn read(path: &Path, memory: usize) -> Done<Read> {
         aiger(name, bytes)
     } else if is_text(&bytes) {
         job_text(name, &bytes)
+    } else if sheet::is(path, &bytes) {
+        Ok(Read::Sheet { name, bytes })
     } else {
         job_file(name, bytes)
     }
@@ -136,6 +140,7 @@ pub fn read(path: &Path, memory: usize) -> Done<Read> {
 pub fn accepted(path: &Path, memory: usize) -> Done<Job> {
     match read(path, memory)? {
         Read::Job(job) => Ok(job),
+        Read::Sheet { name, .. } => stopped(name, "a plan sheet has no gates and no records: only plan lists one"),
         Read::Refused { said, .. } => Err(End::Refused(said)),
     }
 }

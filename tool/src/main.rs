@@ -15,6 +15,7 @@ mod plan;
 #[path = "../../ffi/rust/placer.rs"]
 mod placer;
 mod replay;
+mod sheet;
 mod svg;
 mod text;
 mod vcd;

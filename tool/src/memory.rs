@@ -111,12 +111,8 @@ fn room_bytes(height: u32, replay: bool) -> usize {
     plan.saturating_add(taped).saturating_add(size_of::<u32>())
 }
 
-/// Lends what a build needs, with the rooms that are asked for, else D + 1; fewer where the memory allows no more, which is said.
-pub fn lend(name: &str, space: &Space, height: u32, graph: Graph<'_>, work: usize, replay: bool) -> Done<Lent> {
-    let mut work = area(0, work.max(build_work_size(graph.gates.len(), graph.records.len())))?;
-    // what depth refuses a build refuses too, and then no room is needed
-    let told = depth(graph.gates, graph.given, graph.records, &mut work);
-    let enough = if told.number == 0 { told.depth.saturating_add(1) } else { 0 };
+/// The rooms that are asked for, else `enough`; fewer where the memory allows no more, which is said.
+pub fn rooms(name: &str, space: &Space, height: u32, enough: usize, replay: bool) -> usize {
     let asked = space.rooms.unwrap_or(enough);
     let held = (height >= 6 && height <= 13).then(|| space.memory / room_bytes(height, replay)).unwrap_or(0);
     if asked > held && held > 0 {
@@ -125,7 +121,22 @@ pub fn lend(name: &str, space: &Space, height: u32, graph: Graph<'_>, work: usiz
     } else if asked > held && stage_size(height) != usize::MAX {
         say(format!("placer: {name}: --memory allows no room of {}", size(room_bytes(height, replay))));
     }
-    let rooms = asked.min(held);
+    asked.min(held)
+}
+
+/// The areas of a plan: cells, words and counts.
+pub fn plan(height: u32, rooms: usize, words: usize) -> Done<(Vec<u32>, Vec<u32>, Vec<u32>)> {
+    Ok((area(0, if rooms == 0 { 0 } else { plan_size(height, rooms) })?, area(0, words)?, area(0, rooms)?))
+}
+
+/// Lends what a build needs, with the rooms that are asked for, else D + 1; fewer where the memory allows no more, which is said.
+pub fn lend(name: &str, space: &Space, height: u32, graph: Graph<'_>, work: usize, replay: bool) -> Done<Lent> {
+    let mut work = area(0, work.max(build_work_size(graph.gates.len(), graph.records.len())))?;
+    // what depth refuses a build refuses too, and then no room is needed
+    let told = depth(graph.gates, graph.given, graph.records, &mut work);
+    let enough = if told.number == 0 { told.depth.saturating_add(1) } else { 0 };
+    let rooms = rooms(name, space, height, enough, replay);
     let words = if stage_size(height) == usize::MAX { 0 } else { words_size(height) };
-    Ok(Lent { rooms, plan: area(0, if rooms == 0 { 0 } else { plan_size(height, rooms) })?, words: area(0, words)?, counts: area(0, rooms)?, work })
+    let (plan, words, counts) = plan(height, rooms, words)?;
+    Ok(Lent { rooms, plan, words, counts, work })
 }

@@ -5,15 +5,16 @@ use crate::files::Out;
 use crate::job::{self, Job, Read};
 use crate::memory::{self, lend, Lent, Space};
 use crate::placer::{build, list_answer, listing_size, stage_size, Answer, EMPTY};
+use crate::sheet;
 use crate::svg;
 use crate::why;
 use std::path::PathBuf;
 use std::time::Instant;
 
-/// Place the gates of a file, and list the plan
+/// Place the gates of a file, and list the plan; or list a plan sheet
 #[derive(clap::Args)]
 pub struct Args {
-    /// An AIGER file (aag), a job file or a job's text; - is standard input
+    /// An AIGER file (aag), a job file, a job's text or a plan sheet; - is standard input
     #[arg(value_name = "FILE", required = true)]
     files: Vec<PathBuf>,
     #[command(flatten)]
@@ -24,6 +25,9 @@ pub struct Args {
     /// Draw the plan of the only file, stage by stage
     #[arg(long, value_name = "OUT")]
     svg: Option<PathBuf>,
+    /// Write the plan of the only file as a plan sheet
+    #[arg(long, value_name = "OUT")]
+    sheet: Option<PathBuf>,
 }
 
 /// What a build answered and left.
@@ -85,26 +89,38 @@ pub fn refusal_line(number: u32, stage: usize, pin: usize) -> Vec<u8> {
 
 fn one(path: &PathBuf, args: &Args, out: &mut Out) -> Done<()> {
     let from = Instant::now();
-    let job = match job::read(path, args.space.memory)? {
-        Read::Job(job) => job,
+    let (name, job, built) = match job::read(path, args.space.memory)? {
+        Read::Job(job) => {
+            let built = Built::of(&job, &args.space)?;
+            (job.name.clone(), Some(job), built)
+        }
+        Read::Sheet { name, bytes } => match sheet::read(&name, &bytes, &args.space)? {
+            sheet::Read::Plan(built) => (name, None, built),
+            sheet::Read::Refused { number, said } => {
+                out.put(refusal_line(number, 0, 0))?;
+                return Err(End::Refused(said));
+            }
+        },
         Read::Refused { number, pin, said } => {
             out.put(refusal_line(number, 0, pin))?;
             return Err(End::Refused(said));
         }
     };
-    let built = Built::of(&job, &args.space)?;
     if args.quiet && built.answer.number == 0 {
         let Answer { stages, words, .. } = built.answer;
         out.put(format!("stages {stages} words {words} cells {} seconds {:.3}\n", built.cells(), from.elapsed().as_secs_f64()))?;
     } else {
         out.put(built.listing()?)?;
     }
-    if let Some(said) = built.refused(&job) {
+    if let Some(said) = job.as_ref().and_then(|job| built.refused(job)) {
         return Err(End::Refused(said));
+    }
+    if let Some(path) = &args.sheet {
+        sheet::write(&name, &built, path)?;
     }
     if let Some(path) = &args.svg {
         let mut drawn = Out::file(path)?;
-        svg::draw(&job, &built, &mut drawn)?;
+        svg::draw(&name, job.as_ref(), &built, &mut drawn)?;
         drawn.flush()?;
     }
     Ok(())
@@ -114,6 +130,9 @@ fn one(path: &PathBuf, args: &Args, out: &mut Out) -> Done<()> {
 pub fn run(args: &Args) -> Done<()> {
     if args.svg.is_some() && args.files.len() > 1 {
         return Err(End::Stopped("placer: --svg draws one plan: name one file".to_string()));
+    }
+    if args.sheet.is_some() && args.files.len() > 1 {
+        return Err(End::Stopped("placer: --sheet writes one plan: name one file".to_string()));
     }
     let mut out = Out::standard();
     let mut worst = 0;

@@ -107,9 +107,9 @@ fn escaped(text: &str) -> String {
 }
 
 /// What a pin is called: the symbol of its input or latch.
-fn pin_names(job: &Job) -> Vec<(u32, String)> {
+fn pin_names(job: Option<&Job>) -> Vec<(u32, String)> {
     let mut names = Vec::new();
-    if let Form::Aiger(aag) = &job.form {
+    if let Some(Form::Aiger(aag)) = job.map(|job| &job.form) {
         let inputs = aag.inputs.iter().zip(&aag.names.inputs);
         let latches = aag.latches.iter().zip(&aag.names.latches);
         names.extend(inputs.chain(latches).map(|(&pin, name)| (pin, name.clone())));
@@ -143,7 +143,7 @@ fn places(stage: &Stage<'_>, position: usize, left: f64, at: &mut [f64]) -> f64 
 }
 
 /// A small stage, as trees of labelled cells. How wide and high it is.
-fn trees(stage: &Stage<'_>, job: &Job, names: &[(u32, String)], down: f64, text: &mut String) -> Done<(f64, f64)> {
+fn trees(stage: &Stage<'_>, gates: &[u32], names: &[(u32, String)], down: f64, text: &mut String) -> Done<(f64, f64)> {
     let mut at = memory::area(0.0, stage.cells.len())?;
     let mut under = memory::area(false, stage.cells.len())?;
     for position in stage.filled() {
@@ -166,7 +166,7 @@ fn trees(stage: &Stage<'_>, job: &Job, names: &[(u32, String)], down: f64, text:
     }
     for position in stage.filled() {
         let inverted = |k: usize| {
-            let literal = stage.pin(position).and_then(|pin| job.gates.get(2 * pin as usize + k));
+            let literal = stage.pin(position).and_then(|pin| gates.get(2 * pin as usize + k));
             stage.kind(position) == Kind::Gate && literal.map_or(false, |literal| literal % 2 == 1)
         };
         for (k, below) in stage.lower(position) {
@@ -245,8 +245,8 @@ fn map(stage: &Stage<'_>, down: f64, text: &mut String) -> (f64, f64) {
     (EDGE + MAP + 16.0, STEP * (stage.height as f64 + 1.0))
 }
 
-fn legend(down: f64, text: &mut String) {
-    let dot = ("#ffffff", "a dot on a line: inverted there");
+fn legend(down: f64, graph: bool, text: &mut String) {
+    let dot = ("#ffffff", if graph { "a dot on a line: inverted there" } else { "inversions stand in the graph, which a plan sheet has not" });
     for (k, (colour, what)) in [LOAD, COPY, GATE, WORD, dot].iter().enumerate() {
         let y = down + 22.0 * k as f64;
         let _ = writeln!(text, "<rect x=\"8\" y=\"{y}\" width=\"20\" height=\"14\" rx=\"3\" fill=\"{colour}\" stroke=\"#333333\"/>");
@@ -254,12 +254,13 @@ fn legend(down: f64, text: &mut String) {
     }
 }
 
-/// The picture of a plan that was built.
-pub fn draw(job: &Job, built: &Built, out: &mut Out) -> Done<()> {
+/// The picture of a plan that was built of a job, or that a sheet has.
+pub fn draw(name: &str, job: Option<&Job>, built: &Built, out: &mut Out) -> Done<()> {
     let names = pin_names(job);
+    let gates = job.map_or(&[][..], |job| &job.gates);
     let mut text = String::new();
     let (mut wide, mut down) = (560.0f64, 70.0 + 22.0 * 5.0);
-    legend(60.0, &mut text);
+    legend(60.0, job.is_some(), &mut text);
     let mut word = 0usize;
     let mut body = Vec::new();
     for (at, cells) in built.stages().enumerate() {
@@ -276,7 +277,7 @@ pub fn draw(job: &Job, built: &Built, out: &mut Out) -> Done<()> {
             down + 26.0,
             stage.number
         );
-        let (w, h) = if filled <= SMALL { trees(&stage, job, &names, down + 44.0, &mut text)? } else { map(&stage, down + 44.0, &mut text) };
+        let (w, h) = if filled <= SMALL { trees(&stage, gates, &names, down + 44.0, &mut text)? } else { map(&stage, down + 44.0, &mut text) };
         wide = wide.max(w);
         down += 44.0 + h + 26.0;
         memory::more(&mut body, text.len())?;
@@ -288,8 +289,8 @@ pub fn draw(job: &Job, built: &Built, out: &mut Out) -> Done<()> {
         "<svg xmlns=\"http://www.w3.org/2000/svg\" viewBox=\"0 0 {wide:.0} {down:.0}\" font-family=\"sans-serif\" font-size=\"12\">\n\
          <title>{}</title>\n<rect width=\"{wide:.0}\" height=\"{down:.0}\" fill=\"#ffffff\"/>\n\
          <text x=\"8\" y=\"30\" font-size=\"18\">{}: height {}, stages {}, words {}, cells filled {}</text>\n",
-        escaped(&job.name),
-        escaped(&job.name),
+        escaped(name),
+        escaped(name),
         built.height,
         built.answer.stages,
         built.answer.words,

@@ -180,6 +180,59 @@ pub fn job_file(name: &str, bytes: &[u8], number: u32) -> String {
     }
 }
 
+/// Why bytes are no plan sheet of number 1.
+fn sheet_cause(bytes: &[u8]) -> Result<(), String> {
+    let mut bits = Bits { bytes, at: 0 };
+    bits.take(8, || "the sheet number".to_string())?;
+    let height = bits.take(4, || "the height".to_string())?;
+    if height < 6 || height > 13 {
+        return Err(format!("height {height}; a tree's is 6 to 13"));
+    }
+    let stages = bits.take(16, || "the number of stages".to_string())?;
+    let limit = 1 << (height - 5);
+    for stage in 1..=stages {
+        let count = bits.take(16, || format!("the word count of stage {stage} of {stages}"))?;
+        for _ in 0..count {
+            let word = bits.take(8, || format!("the words of stage {stage} of {stages}"))?;
+            if word >= limit {
+                return Err(format!("stage {stage} has word {word}; a tree's words are 0 to {}", limit - 1));
+            }
+        }
+        for position in 1..2u32 << height {
+            let what = || format!("position {position} of stage {stage} of {stages}");
+            if bits.take(1, what)? == 1 && bits.take(16, what)? == 0 {
+                return Err(format!("position {position} of stage {stage} has pin 0"));
+            }
+        }
+    }
+    let left = 8 * bytes.len() - bits.at;
+    if left >= 8 {
+        return Err(format!("{} bytes are left over behind the last stage", left / 8));
+    }
+    if bits.take(left, String::new)? > 0 {
+        return Err("the padding of the last byte is not zero".to_string());
+    }
+    Ok(())
+}
+
+/// Of a plan sheet that is not read, with so many rooms lent.
+pub fn sheet(name: &str, bytes: &[u8], number: u32, rooms: usize) -> String {
+    match (number, bytes) {
+        (15, _) => match sheet_cause(bytes) {
+            Err(what) => line(name, None, number, &what),
+            Ok(()) => numbered(name, number),
+        },
+        (16, &[first, ..]) => line(name, None, number, &format!("a plan sheet of number {first}; only sheet 1 is known")),
+        (17, _) => line(name, None, number, &format!("the sheet has more stages than the {rooms} rooms that are lent")),
+        _ => numbered(name, number),
+    }
+}
+
+/// A number, and what it means.
+pub fn numbered(name: &str, number: u32) -> String {
+    line(name, None, number, described(number))
+}
+
 fn bad_gate(graph: Graph<'_>) -> Option<(usize, String)> {
     let pins = (graph.gates.len() / 2).saturating_sub(1);
     for (pin, gate) in graph.gates.chunks_exact(2).enumerate() {

@@ -6,4 +6,5 @@ pub mod Fold
 pub mod Files
 pub mod Aiger
 pub mod Replay
+pub mod Sheets
 pub mod Unique

@@ -7,3 +7,4 @@ pub mod Listing
 pub mod Jobs
 pub mod Aiger
 pub mod Replay
+pub mod Sheets

@@ -8,4 +8,5 @@ mod list_entry;
 mod merge_entry;
 mod read_entry;
 mod replay_entry;
+mod sheet_entry;
 mod write_entry;

@@ -17,7 +17,7 @@ use Rattle.rules.proofs.Job.Bits.{Bytes}
 use Rattle.rules.proofs.Build.Lengths.{Sized}
 use Rattle.sheet_form.specs.Forms.{Form}
 use Rattle.sheet_form.specs.Sheets.{Sheet, stageFits, stagesFit, writeSheet, Sheet?, refused, sheet, readBody, accept, readSheet}
-use Rattle.sheet_form.specs.Calls.{Areas, stagesIn, stand, sheetOf, sheetIn, unwritten, into, writer, unread, roomy, areasWith, from, reader}
+use Rattle.sheet_form.specs.Calls.{Areas, stagesIn, stand, sheetOf, sheetIn, unwritten, into, writer, Loaded, unread, roomy, areasWith, from, reader}
 use Rattle.sheet_form.proofs.Cells.{Sound}
 use Rattle.sheet_form.proofs.Stages.{stage-fits}
 use Rattle.sheet_form.proofs.Sheets.{no-sheet, wrote, read-written, only-written}
@@ -67,6 +67,19 @@ held-in K (suc n) plan words (c ∷ counts) S =
 no-file : {P : Type 0} {bs : List ℕ} → noFile ≡ file bs → P
 no-file e = absurd (let z : _≡_ {A = ℕ} 0 1 = cc in omega arith)
 
+-- a call of the reader tells the height and the stages, and has the cells, words and counts of n stages of some areas in front
+pub record Same (K n : ℕ) (a : Areas) (l : Loaded) : Type 0 where
+  pub height : l .reply .height ≡ K
+  pub stages : l .reply .stages ≡ n
+  pub words : l .reply .words ≡ sum (take n (a .counts))
+  pub cells-area : take (n * stageSize K) (l .areas .plan) ≡ take (n * stageSize K) (a .plan)
+  pub words-area : take (l .reply .words) (l .areas .words) ≡ take (l .reply .words) (a .words)
+  pub counts-area : take n (l .areas .counts) ≡ take n (a .counts)
+
+front-padded : (m x : ℕ) (xs ys : List ℕ) (k : ℕ) → length xs ≡ k → take k (laidOver (padded m x xs) ys) ≡ xs
+unfolding laidOver padded
+front-padded m x xs ys k e = rw (append-assoc xs (replicate (m - length xs) x) (drop (length (xs ++ replicate (m - length xs) x)) ys)) (take-at xs _ k e)
+
 module _ (F : Form) (S : Sound F) (K n : ℕ) (a : Areas) where
   from-file : (bs : List ℕ) → sheetIn F K n a ≡ file bs → writeSheet F (sheetOf K n a) ≡ file bs
   unfolding sheetIn
@@ -82,6 +95,28 @@ module _ (F : Form) (S : Sound F) (K n : ℕ) (a : Areas) where
       by (file bs) e y = split (leb (length bs) (length xs))
           (λ t. let k = take-at bs (drop (length bs) xs) (length bs) refl in rw (t, into, k, read-written F S (sheetOf K n a) bs (from-file bs e)))
           (λ t. absurd (let q : 17 ≡ 0 = rw (t, into) at y in omega arith))
+
+  stands-written : (xs : List ℕ) → writer F K n a xs .number ≡ 0 → Stand K n (a .plan) (a .words) (a .counts)
+  unfolding writer into unwritten sheetIn
+  stands-written xs z = split (stand K n a) (λ t. stand-is K n a t) (λ t. absurd (let q : 15 ≡ 0 = rw (t, sheetIn) at z in omega arith))
+
+  -- So it gives the same height, stages, plan, words and counts.
+  pub read-same : (xs : List ℕ) → writer F K n a xs .number ≡ 0 → (b : Areas) → from (sheet (sheetOf K n a)) b .reply .number ≡ 0 → Same K n a (from (sheet (sheetOf K n a)) b)
+  unfolding from unread areasWith
+  read-same xs z b y =
+      let S = stands-written xs z in
+      let H = held-in K n (a .plan) (a .words) (a .counts) S in
+      let w : length (wordsOf (stagesIn K n (a .plan) (a .words) (a .counts))) ≡ sum (take n (a .counts)) = ap length (H .words) ∙ length-take-le (sum (take n (a .counts))) (a .words) (S .words) in
+      split (roomy (sheetOf K n a) b)
+      (λ t. rw (t, from) (record {
+        height = refl;
+        stages = H .stages;
+        words = w;
+        cells-area = front-padded _ empty _ (b .plan) (n * stageSize K) (ap length (H .cells) ∙ length-take-le (n * stageSize K) (a .plan) (S .cells)) ∙ H .cells;
+        words-area = front-padded _ empty _ (b .words) _ refl ∙ H .words ∙ ap (λ (k : ℕ). take k (a .words)) (sym w);
+        counts-area = front-padded _ 0 _ (b .counts) n (ap length (H .counts) ∙ length-take-le n (a .counts) (S .counts)) ∙ H .counts;
+      }))
+      (λ t. absurd (let q : 17 ≡ 0 = rw (t, from) at y in omega arith))
 
 -- ---- back and there
 

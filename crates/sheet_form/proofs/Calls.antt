@@ -89,6 +89,10 @@ sheet-in F K ss z ps ws cs = rw (stands K ss z ps ws cs, sheetIn) (ap (λ (xs : 
 abbrev pub three : build.Areas → Areas
 three a = record { plan = a .plan; words = a .words; counts = a .counts }
 
+-- areas of a sheet as those of a build
+abbrev pub four : Areas → build.Areas
+four b = record { plan = b .plan; words = b .words; counts = b .counts; work = [] }
+
 -- what a build leaves is written as its stages
 pub after-in : (F : Form) (K need : ℕ) (ss : List Stage) → Sized (stageSize K) ss → (a : build.Areas) → sheetIn F K (length ss) (three (areasAfter K need ss a)) ≡ writeSheet F (record { height = K; stages = ss })
 unfolding areasAfter padded laidOver
@@ -121,19 +125,13 @@ as-built K need ss a p l =
 
 -- ---- a build's sheet
 
--- areas of a build's sizes
-record SizesRight (K need : ℕ) (a : build.Areas) : Type 0 where
-  plan : planSized K (length (a .plan)) ≡ true
-  words : leb (wordLimit K) (length (a .words)) ≡ true
-  counts : leb (rooms K (length (a .plan))) (length (a .counts)) ≡ true
-
-sizes-right : (K need : ℕ) (a : build.Areas) → areasSized K need (length (a .plan)) (length (a .words)) (length (a .counts)) (length (a .work)) ≡ true → SizesRight K need a
-unfolding areasSized
-sizes-right K need a e =
-    let x = and-true (planSized K (length (a .plan)) && leb (wordLimit K) (length (a .words)) && leb (rooms K (length (a .plan))) (length (a .counts))) (leb need (length (a .work))) e in
-    let y = and-true (planSized K (length (a .plan)) && leb (wordLimit K) (length (a .words))) (leb (rooms K (length (a .plan))) (length (a .counts))) (x .0) in
-    let z = and-true (planSized K (length (a .plan))) (leb (wordLimit K) (length (a .words))) (y .0) in
-    record { plan = z .0; words = z .1; counts = y .1 }
+-- the plan area of a build has whole stages
+plan-sized : (K : ℕ) (gates records : List ℕ) (a : build.Areas) → build.sizesRight K gates records a ≡ true → planSized K (length (a .plan)) ≡ true
+unfolding build.sizesRight areasSized
+plan-sized K gates records a e =
+    let w = planSized K (length (a .plan)) && leb (wordLimit K) (length (a .words)) in
+    let c = leb (rooms K (length (a .plan))) (length (a .counts)) in
+    and-true (planSized K (length (a .plan))) (leb (wordLimit K) (length (a .words))) (and-true w c (and-true (w && c) (leb (workSize gates records) (length (a .work))) e .0) .0) .0
 
 -- a plan area has room for its rooms
 rooms-fit : (K n size cells : ℕ) → n ≤ rooms K size → cells ≡ n * 2 ^ (K + 1) → cells ≤ size
@@ -174,12 +172,17 @@ module _ (rule : WordRule) (K : ℕ) (gates given records : List ℕ) (a : build
   unfolding writeSheet
   built-written = rw (is-held sheetOne built (built-held rule K g (P .valid) above (high .0) small given (groupsOf records) named (high .1) (omega (arith, P .few, P .pins)) (rooms K (length (a .plan))) ss is-whole), writeSheet)
 
-  few-words : length (wordsOf ss) ≤ 2 ^ (K - 5)
-  unfolding wordLimit
+  -- it has no more stages than rooms
+  pub few-stages : length ss ≤ rooms K (length (a .plan))
+  few-stages = whole-sizes rule K g (P .valid) (high .0) small given [] (groupsOf records) named (rooms K (length (a .plan))) ss is-whole .few
+
+  -- no more words than W
+  pub few-words : length (wordsOf ss) ≤ wordLimit K
   few-words = omega (arith, whole-sizes rule K g (P .valid) (high .0) small given [] (groupsOf records) named (rooms K (length (a .plan))) ss is-whole .words)
 
   -- It takes at most 4 + W bytes, and 17 * 2^(K-2) more a stage.
   pub built-short : length (sheetBytes sheetOne built) ≤ 4 + 2 ^ (K - 5) + length ss * (17 * 2 ^ (K - 2))
+  unfolding wordLimit
   built-short =
       let b = sheet-short sheetOne forms.one built (sheetBytes sheetOne built) built-written in
       let d : 3 + (K - 2) ≡ K + 1 = let t = high .0 in omega arith in
@@ -192,18 +195,21 @@ module _ (rule : WordRule) (K : ℕ) (gates given records : List ℕ) (a : build
   unfolding writer
   writer-built bytes = rw (after-in sheetOne K (workSize gates records) ss (whole-sized rule K g (P .valid) (high .0) small given [] (groupsOf records) named (rooms K (length (a .plan))) ss is-whole) a, built-written)
 
-  -- And reading that sheet into areas of the same sizes leaves them as the placer did, with the same height, stages and words.
-  pub reader-built : (b : build.Areas) → length (b .plan) ≡ length (a .plan) → areasSized K (workSize gates records) (length (b .plan)) (length (b .words)) (length (b .counts)) (length (b .work)) ≡ true →
-      reader sheetOne (sheetBytes sheetOne built) (three b)
-      ≡ record { reply = record { number = 0; height = K; stages = length ss; words = length (wordsOf ss) }; areas = three (areasAfter K (workSize gates records) ss b) }
+  -- And reading that sheet into areas with as many rooms, a count each, and W words leaves them as the placer does, with the same height, stages and words.
+  pub reader-built : (b : Areas) → length (b .plan) ≡ length (a .plan) → wordLimit K ≤ length (b .words) → rooms K (length (a .plan)) ≤ length (b .counts) →
+      reader sheetOne (sheetBytes sheetOne built) b
+      ≡ record { reply = record { number = 0; height = K; stages = length ss; words = length (wordsOf ss) }; areas = three (areasAfter K (workSize gates records) ss (four b)) }
   unfolding from roomy
-  reader-built b same s =
-      let n : ℕ = rooms K (length (a .plan)) in
-      let Z = whole-sizes rule K g (P .valid) (high .0) small given [] (groupsOf records) named n ss is-whole in
-      let R = sizes-right K (workSize gates records) b s in
-      let w = leb-true (wordLimit K) (length (b .words)) (R .words) in
-      let few : length ss ≤ rooms K (length (b .plan)) = rw same (Z .few) in
-      let c : length (cellsOf ss) ≤ length (b .plan) = rooms-fit K (length ss) (length (b .plan)) (length (cellsOf ss)) few (Z .cells) in
-      let t : roomy built (three b) ≡ true = rw (le-leb (length ss) (rooms K (length (b .plan))) few, R .counts, R .words, le-leb (length (wordsOf ss)) (length (b .words)) (omega (arith, Z .words))) in
-      reader-written sheetOne forms.one built (sheetBytes sheetOne built) built-written (three b)
-      ∙ rw (t, from, as-built K (workSize gates records) ss b (R .plan) c)
+  reader-built b same w c =
+      let n : length ss ≤ rooms K (length (b .plan)) = rw same few-stages in
+      let l : length (cellsOf ss) ≤ length (b .plan) = rooms-fit K (length ss) (length (b .plan)) (length (cellsOf ss)) n (whole-sizes rule K g (P .valid) (high .0) small given [] (groupsOf records) named (rooms K (length (a .plan))) ss is-whole .cells) in
+      let d : rooms K (length (b .plan)) ≤ length (b .counts) = rw same c in
+      let s : planSized K (length (b .plan)) ≡ true = rw same (plan-sized K gates records a (P .areas)) in
+      let t : roomy built b ≡ true = rw (
+        le-leb (length ss) (rooms K (length (b .plan))) n,
+        le-leb (rooms K (length (b .plan))) (length (b .counts)) d,
+        le-leb (wordLimit K) (length (b .words)) w,
+        le-leb (length (wordsOf ss)) (length (b .words)) (omega (arith, few-words)),
+      ) in
+      reader-written sheetOne forms.one built (sheetBytes sheetOne built) built-written b
+      ∙ rw (t, from, as-built K (workSize gates records) ss (four b) s l)

@@ -7,12 +7,13 @@ use Rattle.placer.specs.Answers.{areas}
 use Rattle.merge_checks.specs.Values as merge
 use Rattle.aiger_form.specs.Aag.{Netlist}
 use Rattle.aiger_read.specs.Answers as aiger
+use Rattle.sheet_form.specs.Calls as sheet
 use Rattle.entries.specs.Entry.{Entry, entry}
 use Rattle.entries.specs.Merge.{Lent, lent}
 use Rattle.entries.specs.Fold as fold
 use Rattle.entries.specs.Jobs.{Lists, lists}
 
--- of any entry, its areas as one value: `placer_depth`, `list_answer`, `write_job` and `write_aiger` lend one area
+-- of any entry, its areas as one value: `placer_depth`, `list_answer`, `write_job`, `write_aiger` and `write_sheet` lend one area
 pub one-outcome : {A : Type 0} (o : Entry A) (n n′ : ℕ) (a a′ : A) (xs xs′ : List ℕ) → entry n a xs ≡ o → entry n′ a′ xs′ ≡ o → (n ≡ n′) × (a ≡ a′) × (xs ≡ xs′)
 unfolding entry
 one-outcome {A} o n n′ a a′ xs xs′ d e =
@@ -51,3 +52,7 @@ one-lists g v c g′ v′ c′ s = (ap (λ (x : Lists). x .gates) s, ap (λ (x :
 pub one-netlist : (g r l g′ r′ l′ : List ℕ) → aiger.areas g r l ≡ aiger.areas g′ r′ l′ → (g ≡ g′) × (r ≡ r′) × (l ≡ l′)
 unfolding aiger.areas
 one-netlist g r l g′ r′ l′ s = (ap (λ (x : Netlist). x .gates) s, ap (λ (x : Netlist). x .records) s, ap (λ (x : Netlist). x .latches) s)
+
+-- the areas of `read_sheet`
+pub one-sheet : (p w c p′ w′ c′ : List ℕ) → sheet.areas p w c ≡ sheet.areas p′ w′ c′ → (p ≡ p′) × (w ≡ w′) × (c ≡ c′)
+one-sheet p w c p′ w′ c′ s = (ap (λ (x : sheet.Areas). x .plan) s, ap (λ (x : sheet.Areas). x .words) s, ap (λ (x : sheet.Areas). x .counts) s)

@@ -1,6 +1,6 @@
 -- What calls of `read` and `write` give, by their contracts. Assumes nothing.
 use Prim.Native.Nat.{ℕ}
-use mathlib.Core.Path.{_≡_, sym, ap, _∙_}
+use mathlib.Core.Path.{_≡_, subst, sym, ap, _∙_}
 use mathlib.Core.List.{List}
 use lib.ListN.{take}
 use Rattle.rules.specs.Job.{file}
@@ -18,6 +18,14 @@ pub read-back : (K n : ℕ) (a : Areas) (bytes : List ℕ) (number size : ℕ) (
     loaded (r .number) (r .height) (r .stages) (r .words) (areas p′ w′ c′) ≡ from (sheet (sheetOf K n a)) b
 read-back K n a bytes number size bytes′ w z b r p′ w′ c′ e =
     e ∙ ap (λ (x : Written). reader sheetOne (take (x .length) (x .bytes)) b) w ∙ form.read-back sheetOne one K n a bytes (sym (ap (λ (x : Written). x .number) w) ∙ z) b
+
+-- So `read` after 0 gives the same height, stages, plan, words and counts.
+pub read-same : (K n : ℕ) (a : Areas) (bytes : List ℕ) (number size : ℕ) (bytes′ : List ℕ) → written number size bytes′ ≡ writer sheetOne K n a bytes → number ≡ 0 →
+    (b : Areas) (r : Answer) (p′ w′ c′ : List ℕ) → loaded (r .number) (r .height) (r .stages) (r .words) (areas p′ w′ c′) ≡ reader sheetOne (take size bytes′) b → r .number ≡ 0 →
+    form.Same K n a (loaded (r .number) (r .height) (r .stages) (r .words) (areas p′ w′ c′))
+read-same K n a bytes number size bytes′ w z b r p′ w′ c′ e y =
+    let d = read-back K n a bytes number size bytes′ w z b r p′ w′ c′ e in
+    subst (λ (l : Loaded). form.Same K n a l) (sym d) (form.read-same sheetOne one K n a bytes (sym (ap (λ (x : Written). x .number) w) ∙ z) b (sym (ap (λ (x : Loaded). x .reply .number) d) ∙ y))
 
 -- Whatever `read` took after 0, `write` makes of the areas that it left: the same bytes, or 17 where they are too few.
 pub write-back : (bs : List ℕ) → Bytes bs → (a : Areas) (r : Answer) (p′ w′ c′ : List ℕ) → loaded (r .number) (r .height) (r .stages) (r .words) (areas p′ w′ c′) ≡ reader sheetOne bs a → r .number ≡ 0 →
