@@ -32,10 +32,9 @@ static void draw(uint32_t filled) {
 
 /* ---- The plain loop */
 
-static void put(uint8_t *to, size_t *at, unsigned width, uint32_t n) {
+static void put(uint8_t *to, size_t *at, unsigned width, uint32_t n) { /* into zeros */
     while (width-- > 0) {
-        uint8_t bit = (uint8_t)(128 >> *at % 8);
-        to[*at / 8] = (uint8_t)(n >> width & 1 ? to[*at / 8] | bit : to[*at / 8] & ~bit);
+        to[*at / 8] |= (uint8_t)((n >> width & 1) << (7 - *at % 8));
         ++*at;
     }
 }
@@ -52,6 +51,7 @@ static uint32_t take(const uint8_t *from, size_t *at, unsigned width) {
 static void plain_write(void) {
     size_t at = 0;
     const uint32_t *word = words;
+    memset(bytes[1], 0, room);
     put(bytes[1], &at, 8, 1), put(bytes[1], &at, 4, HEIGHT), put(bytes[1], &at, 16, STAGES);
     for (size_t s = 0; s < STAGES; s++) {
         put(bytes[1], &at, 16, counts[s]);

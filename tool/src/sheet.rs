@@ -29,7 +29,7 @@ pub fn read(name: &str, bytes: &[u8], space: &Space) -> Done<Read> {
     let judged = read_sheet(bytes, &mut [], &mut [], &mut []);
     let (height, stages) = match (judged.number, bytes) {
         (17, &[_, high, middle, low, ..]) => (u32::from(high >> 4), usize::from(high & 15) << 12 | usize::from(middle) << 4 | usize::from(low >> 4)),
-        _ => return Ok(Read::Refused { number: judged.number, said: why::sheet(name, bytes, judged.number, 0) }),
+        _ => return Ok(Read::Refused { number: judged.number, said: why::sheet(name, bytes, judged.number, 0, 0) }),
     };
     // each word takes a byte of the sheet
     let rooms = memory::rooms(name, space, height, stages, false);
@@ -37,7 +37,7 @@ pub fn read(name: &str, bytes: &[u8], space: &Space) -> Done<Read> {
     let mut lent = Lent { rooms, plan, words, counts, work: Vec::new() };
     let read = read_sheet(bytes, &mut lent.plan, &mut lent.words, &mut lent.counts);
     if read.number != 0 {
-        return Ok(Read::Refused { number: read.number, said: why::sheet(name, bytes, read.number, rooms) });
+        return Ok(Read::Refused { number: read.number, said: why::sheet(name, bytes, read.number, stages, rooms) });
     }
     let answer = Answer { stages: read.stages, words: read.words, ..Answer::default() };
     Ok(Read::Plan(Built { height: read.height, answer, lent }))

@@ -215,15 +215,15 @@ fn sheet_cause(bytes: &[u8]) -> Result<(), String> {
     Ok(())
 }
 
-/// Of a plan sheet that is not read, with so many rooms lent.
-pub fn sheet(name: &str, bytes: &[u8], number: u32, rooms: usize) -> String {
+/// Of a plan sheet that is not read, of so many stages with so many rooms lent.
+pub fn sheet(name: &str, bytes: &[u8], number: u32, stages: usize, rooms: usize) -> String {
     match (number, bytes) {
         (15, _) => match sheet_cause(bytes) {
             Err(what) => line(name, None, number, &what),
             Ok(()) => numbered(name, number),
         },
         (16, &[first, ..]) => line(name, None, number, &format!("a plan sheet of number {first}; only sheet 1 is known")),
-        (17, _) => line(name, None, number, &format!("the sheet has more stages than the {rooms} rooms that are lent")),
+        (17, _) => line(name, None, number, &format!("the sheet has {stages} stages, and {rooms} rooms are lent")),
         _ => numbered(name, number),
     }
 }
