@@ -13,7 +13,7 @@ refuse-requires : tie.Need-refuse-requires
 refuse-requires c κs = search needs
 
 returns : tie.Need-returns
-returns c = refuses (c .refuse .ensures) _ ∙ none-read _ (c .before .if1 .taken) _
+returns c = refuses (c .refuse .ensures) _ ∙ none-read _ (omega (arith, c .before .if1 .taken)) _
 
 shared-slice-read-if2 : tie.Need-shared-slice-read-if2
 shared-slice-read-if2 c = search needs
@@ -22,7 +22,7 @@ refuse-requires-2 : tie.Need-refuse-requires-2
 refuse-requires-2 c κs = search needs
 
 returns-2 : tie.Need-returns-2
-returns-2 c = refuses (c .refuse2 .ensures) _ ∙ other-read _ (c .before .before .before .if1 .left) (eqb-false _ _ (no refl (c .before .if2 .taken))) _
+returns-2 c = refuses (c .refuse2 .ensures) _ ∙ other-read _ (λ z. omega (arith, c .before .before .before .if1 .left)) (eqb-false _ _ (no refl (c .before .if2 .taken))) _
 
 judge-requires : tie.Need-judge-requires
 judge-requires c κs = record { some = omega (arith, c .before .before .before .before .before .if1 .left); one = eqb-true _ _ (yes refl (c .before .before .before .if2 .left)) }

@@ -1,5 +1,5 @@
-use denote.Ref.{now}
 -- `sheet_read::stages::read_stage` meets its contract. Assumes nothing.
+use denote.Ref.{now}
 use mathlib.Core.List.{[]}
 use native.Mathlib.Omega.{arith}
 use Rattle.rules.specs.Cells.{empty}

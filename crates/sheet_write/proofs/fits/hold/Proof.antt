@@ -1,5 +1,5 @@
-use mathlib.Core.List.{[]}
 -- `sheet_write::fits::hold` meets its contract. Assumes nothing.
+use mathlib.Core.List.{[]}
 use native.Mathlib.Omega.{arith}
 use denote.Ref.{now}
 use Rattle.sheet_write.proofs.Laws.Fits.{hold-cells, hold-counts, hold-words, no-wrap}

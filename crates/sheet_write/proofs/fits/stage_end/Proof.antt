@@ -1,6 +1,6 @@
+-- `sheet_write::fits::stage_end` meets its contract. Assumes nothing.
 use mathlib.Core.Path.{refl}
 use Rattle.rules.proofs.Lists.Members.{eqb-true, eqb-false}
--- `sheet_write::fits::stage_end` meets its contract. Assumes nothing.
 use native.Mathlib.Omega.{arith}
 use denote.Ref.{now}
 use Rattle.rules.proofs.Bools.{no, yes}

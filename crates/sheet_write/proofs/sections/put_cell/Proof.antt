@@ -1,5 +1,5 @@
-use Rattle.rules.proofs.Job.Bits.{width}
 -- `sheet_write::sections::put_cell` meets its contract. Assumes nothing.
+use Rattle.rules.proofs.Job.Bits.{width}
 use mathlib.Core.Path.{_∙_}
 use native.Mathlib.Omega.{arith}
 use Rattle.sheet_write.proofs.Laws.Sections.{cell-blank, cell-full}
