@@ -13,6 +13,9 @@ use Rattle.columns.specs.Area.{Frame}
 use Rattle.columns.specs.Fields.{CELLS, NEEDED, MARK, TAIL, ONES, PINS}
 use Rattle.columns.specs.Lists.{Marks}
 use Rattle.stage_walk.specs.Stands.{Context, Set, Tally, ranked}
+use Rattle.stage_tree.specs.Search.{Cursor}
+use Rattle.stage_loop.specs.declared.lean.Step.{Step}
+use Rattle.stage_loop.specs.declared.lean.Step.the-variants.{On, Stop}
 
 -- only the counts and the needed pins changed
 pub record Kept (m : ℕ) (w w′ : List ℕ) : Type 0 where
@@ -85,9 +88,11 @@ pub record At (C : Context) (m n k l wd half : ℕ) (gates pl w : List ℕ) (i e
   pub inside : e ≤ m
   pub few : b ≤ m
 
-pub record Next (C : Context) (m n k l wd half : ℕ) (gates pl w : List ℕ) (i e b : ℕ) : Type 0 where
+-- the next turn's search starts at `from`
+pub record Next (C : Context) (m n k l wd half : ℕ) (gates pl w : List ℕ) (i e b from : ℕ) : Type 0 where
   pub at : At C m n k l wd half gates pl w i e b
   pub more : i < e
+  pub cursor : Cursor (C .X) (suc l) wd from pl
 
 pub record Ended (C : Context) (m l : ℕ) (pl w : List ℕ) (i e b : ℕ) (pl′ w′ : List ℕ) (b′ : ℕ) : Type 0 where
   pub same : onward (C .X) l (ranked m w i e) b pl ≡ lean (C .X) l b′ pl′
@@ -97,14 +102,15 @@ pub record Ended (C : Context) (m l : ℕ) (pl w : List ℕ) (i e b : ℕ) (pl�
   pub kept : Kept m w w′
   pub tally : Tally C m pl′ w′
 
-pub record Gone (C : Context) (m n k l wd half : ℕ) (gates pl w : List ℕ) (i e b : ℕ) (pl′ w′ : List ℕ) (j b′ : ℕ) : Type 0 where
+pub record Gone (C : Context) (m n k l wd half : ℕ) (gates pl w : List ℕ) (i e b : ℕ) (pl′ w′ : List ℕ) (j b′ from : ℕ) : Type 0 where
   pub same : onward (C .X) l (ranked m w i e) b pl ≡ onward (C .X) l (ranked m w′ j e) b′ pl′
   pub kept : Kept m w w′
   pub at : At C m n k l wd half gates pl′ w′ j e b′
+  pub cursor : Cursor (C .X) (suc l) wd from pl′
 
-pub record Turned (C : Context) (m n k l wd half : ℕ) (gates pl w : List ℕ) (i e b : ℕ) (pl′ w′ : List ℕ) (c : Found) : Type 0 where
-  pub stop : c ≡ nothing → Ended C m l pl w i e b pl′ w′ b
-  pub on : (d : ℕ) → c ≡ found d → Gone C m n k l wd half gates pl w i e b pl′ w′ (i + 1) d
+pub record Turned (C : Context) (m n k l wd half : ℕ) (gates pl w : List ℕ) (i e b : ℕ) (pl′ w′ : List ℕ) (s : Step) : Type 0 where
+  pub stop : s ≡ Stop → Ended C m l pl w i e b pl′ w′ b
+  pub on : (d from : ℕ) → s ≡ On d from → Gone C m n k l wd half gates pl w i e b pl′ w′ (i + 1) d from
 
 -- ---- all levels from l + 1 down
 

@@ -24,6 +24,12 @@ enum Bound {
     NoRoom,
 }
 
+// What a turn leaves: a bound, and where the level's next search starts; or the level has ended.
+enum Step {
+    On(usize, usize),
+    Stop,
+}
+
 // Rule 7.
 fn settle(
     gates: &[u32],
@@ -77,7 +83,7 @@ fn attempt(
     }
 }
 
-// One turn at level l + 1: the candidate at i of e.
+// One turn at level l + 1: the candidate at i of e. The row's cells before `from` are filled.
 fn turn(
     gates: &[u32],
     stage: &mut [u32],
@@ -91,20 +97,28 @@ fn turn(
     i: usize,
     e: usize,
     most: usize,
-) -> Bound
-    requires { ⌜ Some (λ C. Next C m n k l w half (now gates) (now stage) (now work) i e most) ⌝ }
-    ensures { λ r. ⌜ Every (λ C. Next C m n k l w half (now (gates .entry)) (now (stage .entry)) (now (work .entry)) i e most) (λ C. Turned C m n k l w half (now (gates .entry)) (now (stage .entry)) (now (work .entry)) i e most (now (stage .exit)) (now (work .exit)) (asFound r)) ⌝ }
+    from: usize,
+) -> Step
+    requires { ⌜ Some (λ C. Next C m n k l w half (now gates) (now stage) (now work) i e most from) ⌝ }
+    ensures { λ r. ⌜ Every (λ C. Next C m n k l w half (now (gates .entry)) (now (stage .entry)) (now (work .entry)) i e most from) (λ C. Turned C m n k l w half (now (gates .entry)) (now (stage .entry)) (now (work .entry)) i e most (now (stage .exit)) (now (work .exit)) r) ⌝ }
 {
     let p = pin_at(work, m, i, RANKED);
     if is_in(work, m, p, CELLS) {
-        return Bound::AtMost(most);
+        return Step::On(most, from);
     }
     let end = 2 * w;
-    let c = first_empty(stage, w, end);
+    let c = first_empty(stage, from, end);
     if c >= end {
-        return Bound::NoRoom;
+        return Step::Stop;
     }
-    attempt(gates, stage, work, m, n, k, l + 1, w, half, c, p, most)
+    let bound = attempt(gates, stage, work, m, n, k, l + 1, w, half, c, p, most);
+    match bound {
+        Bound::NoRoom => Step::Stop,
+        Bound::AtMost(b) => {
+            let next = c + 1;
+            Step::On(b, next)
+        }
+    }
 }
 
 // The candidates of level l + 1 from `start` to e, one after the other; the last bound.
@@ -127,14 +141,16 @@ fn sweep(
 {
     let mut i = start;
     let mut b = most;
+    let mut from = w;
     while i < e {
-        let bound = turn(gates, stage, work, m, n, k, l, w, half, i, e, b);
-        match bound {
-            Bound::NoRoom => {
+        let step = turn(gates, stage, work, m, n, k, l, w, half, i, e, b, from);
+        match step {
+            Step::Stop => {
                 return b;
             }
-            Bound::AtMost(count) => {
-                b = count;
+            Step::On(bound, next) => {
+                b = bound;
+                from = next;
             }
         }
         i += 1;

@@ -6,13 +6,11 @@ use Prim.Native.Nat.{ℕ, zero, suc, _+_, _-_, _*_, _<_, _≤_}
 use native.Mathlib.Omega.{arith}
 use native.Mathlib.Numerals.{add-one}
 use lib.Dec.{eqb}
-use lib.ListN.{length, getD, drop}
-use lib.Seq.{getD-take, getD-drop}
+use lib.ListN.{length, getD}
 use Rattle.rules.specs.Lists.{found, mem}
 use Rattle.rules.specs.Cells.{empty, filled, rowAt, row, firstEmpty}
 use Rattle.rules.specs.Placing.{tree, cellAt, placed}
 use Rattle.rules.specs.Ending.{plan, putRest}
-use Rattle.rules.proofs.Lists.Members.{split, true-false}
 use Rattle.rules.proofs.Stage.Staged.{two-step, half-height}
 use Rattle.rules.proofs.Stage.Branches.{rest-skip, rest-full, rest-put}
 use Rattle.rules.specs.Inside.Plans.{Placeable, Behind}
@@ -28,27 +26,13 @@ use Rattle.columns.proofs.Lists.Marks.{marks-test, marks-frame}
 use Rattle.stage_walk.specs.Stands.{Context}
 use Rattle.stage_walk.proofs.Contexts.{work}
 use Rattle.stage_tree.specs.Bits.{PlaceAt, Placed}
-use Rattle.stage_tree.specs.Search.{part, SearchAt, First}
+use Rattle.stage_tree.specs.Search.{SearchAt, First, Cursor}
 use Rattle.stage_tree.proofs.Counts.Kept.{kept-none, kept-then}
-use Rattle.stage_tree.proofs.Bits.Cells.{getD-any}
 use Rattle.stage_tree.proofs.Bits.Standing.{may-place, placed-stands, placed-plan}
-use Rattle.stage_tree.proofs.Search.{Left, first-on, cell-found, cell-none}
+use Rattle.stage_tree.proofs.Search.{cell-found, cell-none, cursor-search, cursor-first, cursor-behind}
 use Rattle.stage_runs.proofs.Laws.Plain.{not-zero, row-high}
 use Rattle.stage_runs.proofs.Laws.Classes.{or-some}
 use Rattle.stage_ending.specs.Rest.{PinAt, Pinned, RestAt, Resting, answer, Rested}
-
-not-there : (pl : List ℕ) (q : ℕ) → q < length pl → getD pl q 0 ≡ 4294967295 → filled (getD pl q empty) ≡ false
-unfolding filled empty
-not-there pl q b e = rw (getD-any pl q empty 0 b, e) refl
-
--- cells before the first empty one are filled
-first-before : (i : ℕ) (cs : List ℕ) (c : ℕ) → firstEmpty i cs ≡ found c → (j : ℕ) → i + j < c → filled (getD cs j empty) ≡ true
-unfolding firstEmpty
-first-before i [] c e j h = absurd (let z : _≡_ {A = ℕ} 0 1 = cc in omega arith)
-first-before i (x ∷ cs) c e zero h = split (filled x) (λ f. f) (λ f. let d : found i ≡ found c = rw (f, firstEmpty) at e in let z : i ≡ c = cc in absurd (omega arith))
-first-before i (x ∷ cs) c e (suc j) h = split (filled x)
-    (λ f. first-before (suc i) cs c (rw (f, firstEmpty) at e) j (omega arith))
-    (λ f. let d : found i ≡ found c = rw (f, firstEmpty) at e in let z : i ≡ c = cc in absurd (omega arith))
 
 module _ {C : Context} {m half from p : ℕ} {gates pl w : List ℕ} (A : PinAt C m half from p gates pl w) where
   low-height : 1 ≤ C .X .K
@@ -92,9 +76,12 @@ module _ {C : Context} {m half from p : ℕ} {gates pl w : List ℕ} (A : PinAt 
       pub skip-tree : d ≡ true → Pinned C m half p gates pl w from pl w
       skip-tree t = skips (λ real M. let e : mem p (tree (C .X .K) pl) ≡ true = sym tree-test ∙ t in rw e (or-some (mem p real)))
 
+      cursor : Cursor (C .X) 1 half from pl
+      cursor = record { row = A .row; low = A .low; high = A .high; inside = inside; behind = A .behind }
+
       -- any other looks for a cell, from where the last search ended
       pub pin-search : SearchAt pl from (2 * half)
-      pin-search = record { upto = A .high; inside = inside }
+      pin-search = cursor-search cursor
 
       module _ (nr : b ≡ false) (nt : d ≡ false) where
         unplaced : (real : List ℕ) → Marks MARK m real w → mem p real || mem p (tree (C .X .K) pl) ≡ false
@@ -104,21 +91,8 @@ module _ {C : Context} {m half from p : ℕ} {gates pl w : List ℕ} (A : PinAt 
             rw (e, f) refl
 
         module _ {c : ℕ} (F : First pl from (2 * half) c) where
-          whole : SearchAt pl half (2 * half)
-          whole = record { upto = omega arith; inside = inside }
-
-          -- the cells before `from` are filled
-          left-from : (n : ℕ) → half + n ≤ from → Left pl half (2 * half) whole (half + n)
-          left-from zero h = let z : half + 0 ≡ half = omega arith in rw z refl
-          left-from (suc n) h =
-              let z : half + suc n ≡ half + n + 1 = omega arith in
-              rw z (first-on pl half (2 * half) whole (half + n) (omega (arith, A .high)) (left-from n (omega arith)) (λ e. true-false (A .behind (half + n) (omega (arith, A .row)) (omega arith)) (not-there pl (half + n) (omega (arith, A .high, inside)) e)))
-
           first : First pl half (2 * half) c
-          first =
-              let z : half + (from - half) ≡ from = omega (arith, A .low) in
-              let l : Left pl half (2 * half) whole from = rw z at (left-from (from - half) (omega (arith, A .low))) in
-              record { from = omega (arith, F .from, A .low); to = F .to; at = λ b. l ∙ F .at b; none = λ b. l ∙ F .none b }
+          first = cursor-first cursor F
 
           -- no cell left: rule 9 fails
           pub pin-full : 2 * half ≤ c → Pinned C m half p gates pl w (c + 1) pl w
@@ -145,14 +119,6 @@ module _ {C : Context} {m half from p : ℕ} {gates pl w : List ℕ} (A : PinAt 
             pub pin-place : PlaceAt C m 1 half c p gates pl w
             pin-place = may-place (A .stands) (A .row) may
 
-            -- and those before c
-            before : Behind (C .X) 1 c pl
-            unfolding part
-            before q a b =
-                let z : half + (q - half) ≡ q = omega (arith, A .row) in
-                let e : getD (part pl half (2 * half)) (q - half) empty ≡ getD pl q empty = getD-take (2 * half - half) (drop half pl) (q - half) empty (omega (arith, A .row)) ∙ getD-drop half pl (q - half) empty ∙ rw z refl in
-                rw (← e) (first-before half (part pl half (2 * half)) c (first .at h) (q - half) (omega (arith, A .row)))
-
             -- the lowest empty cell takes the pin
             pub pin-placed : {pl1 w1 : List ℕ} → Placed C m 1 half c p pl w pl1 w1 → Pinned C m half p gates pl w (c + 1) pl1 w1
             unfolding placed
@@ -163,7 +129,7 @@ module _ {C : Context} {m half from p : ℕ} {gates pl w : List ℕ} (A : PinAt 
               low = omega (arith, first .from);
               none = λ b. absurd (omega arith);
               some = λ b real M ps. rest-put (C .X) p ps real pl c (unplaced real M) is-first ∙ rw (placed-plan (A .stands) (A .row) may B) refl;
-              behind = λ b. rw (placed-plan (A .stands) (A .row) may B, add-one c) (behind-placed (work C) 1 low-height pl c p (A .stands .fair) may before (omega (arith, inside)));
+              behind = λ b. rw (placed-plan (A .stands) (A .row) may B, add-one c) (behind-placed (work C) 1 low-height pl c p (A .stands .fair) may (cursor-behind cursor F h) (omega (arith, inside)));
             }
 
 -- ---- all of them

@@ -1,6 +1,6 @@
 -- One turn at a level, and a sweep of turns down its candidates. Assumes nothing.
 use Prim.Native.Nat.{ℕ, zero, suc, _+_, _-_, _*_, _≤_, _<_}
-use mathlib.Core.Path.{_≡_, refl, sym, _∙_}
+use mathlib.Core.Path.{_≡_, refl, sym, ap, _∙_}
 use mathlib.Core.Bool.{true, false, not, true≢false}
 use mathlib.Core.List.{List, _∷_}
 use native.Mathlib.Omega.{arith}
@@ -8,16 +8,17 @@ use native.Mathlib.Numerals.{add-one}
 use lib.Dec.{ltb, eqb}
 use lib.ListN.{length, getD}
 use borrow.Author.Tests.{lt-ltb, le-ltb, ne-eqb}
-use Rattle.rules.specs.Lists.{Found, nothing, found, mem, In, Out}
-use Rattle.rules.specs.Cells.{row, rowAt, firstEmpty}
+use Rattle.rules.specs.Lists.{nothing, found, mem, In, Out}
+use Rattle.rules.specs.Cells.{rowAt}
 use Rattle.rules.specs.Traversal.{levelAt}
 use Rattle.rules.specs.Placing.{treeOf, cellAt, placed}
-use Rattle.rules.specs.Inside.Lean.{wanted}
+use Rattle.rules.specs.Inside.Lean.{wanted, recount}
 use Rattle.rules.proofs.Lists.Members.{in-here, in-append-right}
-use Rattle.rules.specs.Inside.Plans.{Fair, Placeable, Going}
+use Rattle.rules.specs.Inside.Plans.{Placeable, Going}
 use Rattle.rules.proofs.Tree.Fair.{fair-kept, fair-down, listed-filled}
 use Rattle.rules.proofs.Tree.Invariant.{row-empty}
 use Rattle.rules.proofs.Tree.Loads.{rows, wide}
+use Rattle.rules.proofs.Tree.Cursor.{behind-first, behind-placed}
 use Rattle.rules.proofs.Tree.Tally.{tree-cells}
 use Rattle.rules.proofs.Stage.Staged.{two-step}
 use Rattle.rules.proofs.Lean.Pick.{candidate}
@@ -27,12 +28,23 @@ use Rattle.columns.specs.Fields.{CELLS, RANKED}
 use Rattle.stage_walk.specs.Stands.{Context, Set, ranked}
 use Rattle.stage_walk.proofs.Contexts.{work}
 use Rattle.stage_walk.proofs.Ranked.{ranked-cons, ranked-end}
-use Rattle.stage_tree.specs.Search.{First, part}
+use Rattle.stage_tree.specs.Search.{First}
+use Rattle.stage_tree.proofs.Search.{cell-found, cell-none, cursor-first, cursor-behind}
 use Rattle.stage_loop.specs.Loop.{TryAt, Tried, At, Next, Ended, Gone, Turned}
-use Rattle.stage_loop.proofs.Laws.Tries.{found-is, not-found, kept-none, kept-then, ranked-kept, set-kept, clear-kept}
+use Rattle.stage_loop.specs.declared.lean.Step.{Step}
+use Rattle.stage_loop.specs.declared.lean.Step.the-variants.{On, Stop}
+use Rattle.stage_loop.proofs.Laws.Tries.{kept-none, kept-then, ranked-kept, set-kept, clear-kept}
+
+-- a step on is that step
+on-is : {a b f g : ℕ} → On a f ≡ On b g → (a ≡ b) × (f ≡ g)
+on-is e = (cc, cc)
+
+-- a step on does not end the level
+not-on : {a f : ℕ} {P : Type 0} → Stop ≡ On a f → P
+not-on e = absurd (let z : _≡_ {A = ℕ} 0 1 = cc in omega arith)
 
 -- ---- one turn
-module _ {C : Context} {m n k l wd half : ℕ} {gates pl w : List ℕ} {i e b : ℕ} (N : Next C m n k l wd half gates pl w i e b) (q : ℕ) (pin : q ≡ getD w (RANKED * m + i) 0) where
+module _ {C : Context} {m n k l wd half : ℕ} {gates pl w : List ℕ} {i e b from : ℕ} (N : Next C m n k l wd half gates pl w i e b from) (q : ℕ) (pin : q ≡ getD w (RANKED * m + i) 0) where
   R : Set C m n k gates w
   R = N .at .set
 
@@ -54,57 +66,53 @@ module _ {C : Context} {m n k l wd half : ℕ} {gates pl w : List ℕ} {i e b : 
   in-tree = rw (N .at .tally .cells q pin-small) (tree-cells (C .X .K) pl q (listed-filled (work C) q (head-in .0)))
 
   -- a candidate that is in the tree already is passed over
-  pub turned-skip : 0 < getD w (CELLS * m + q) 0 → Turned C m n k l wd half gates pl w i e b pl w (found b)
+  pub turned-skip : 0 < getD w (CELLS * m + q) 0 → Turned C m n k l wd half gates pl w i e b pl w (On b from)
   turned-skip pos =
       let t : In q (treeOf (C .X) pl) = in-tree ∙ lt-ltb 0 (getD w (CELLS * m + q) 0) pos in
       record {
-        stop = λ x. not-found x;
-        on = λ d x. record {
-          same = rw (now-list, ← found-is x) (onward-skip (C .X) l b pl q (ranked m w (i + 1) e) t);
+        stop = λ x. not-on (sym x);
+        on = λ d f x. record {
+          same = rw (now-list, ← on-is x .0) (onward-skip (C .X) l b pl q (ranked m w (i + 1) e) t);
           kept = kept-none m w;
           at = record {
             set = R;
             clear = N .at .clear;
             tally = N .at .tally;
-            going = rw (← found-is x) (going-skip (work C) G t);
+            going = rw (← on-is x .0) (going-skip (work C) G t);
             wide = N .at .wide;
             cap = N .at .cap;
             before = omega (arith, N .more);
             inside = N .at .inside;
-            few = omega (arith, found-is x, N .at .few);
+            few = omega (arith, on-is x .0, N .at .few);
           };
+          cursor = rw (← on-is x .1) (N .cursor);
         };
       }
 
-  -- the row stands in the stage
-  pub width : wd + wd ≤ length pl
-  width = omega (arith, N .at .wide .row, rows (C .X .K) (suc l) (N .at .wide .high), two-step (C .X .K), N .at .going .fair .len, wide (rowAt (C .X .K) (suc l)) (suc l))
+  module _ (out : getD w (CELLS * m + q) 0 ≡ 0) (p : ℕ) (F₀ : First pl from (2 * wd) p) where
+    F : First pl wd (2 * wd) p
+    F = cursor-first (N .cursor) F₀
 
-  module _ (out : getD w (CELLS * m + q) 0 ≡ 0) (p : ℕ) (F : First pl wd (2 * wd) p) where
     not-in : Out q (treeOf (C .X) pl)
     not-in = in-tree ∙ le-ltb 0 (getD w (CELLS * m + q) 0) (omega arith)
 
-    cell-is : cellAt (C .X) (suc l) pl ≡ firstEmpty wd (part pl wd (2 * wd))
-    unfolding cellAt row part
-    cell-is = let z : 2 * wd - wd ≡ wd = omega arith in rw (z, N .at .wide .row)
-
     -- no empty cell: the level ends
-    pub turned-no-cell : 2 * wd ≤ p → Turned C m n k l wd half gates pl w i e b pl w nothing
+    pub turned-no-cell : 2 * wd ≤ p → Turned C m n k l wd half gates pl w i e b pl w Stop
     turned-no-cell none = record {
       stop = λ x. record {
-        same = rw now-list (onward-no-cell (C .X) l b pl q (ranked m w (i + 1) e) not-in (cell-is ∙ F .none none));
+        same = rw now-list (onward-no-cell (C .X) l b pl q (ranked m w (i + 1) e) not-in (cell-none (C .X) (suc l) wd (N .at .wide .row) pl p F none));
         fair = fair-down (work C) l (N .at .going .fair);
         enough = N .at .going .enough;
         few = N .at .few;
         kept = kept-none m w;
         tally = N .at .tally;
       };
-      on = λ d x. not-found (sym x);
+      on = λ d f x. not-on x;
     }
 
     module _ (some : p < 2 * wd) where
       at-cell : cellAt (C .X) (suc l) pl ≡ found p
-      at-cell = cell-is ∙ F .at some
+      at-cell = cell-found (C .X) (suc l) wd (N .at .wide .row) pl p F some
 
       able : Placeable (C .X) pl (suc l) p q
       unfolding cellAt
@@ -117,66 +125,91 @@ module _ {C : Context} {m n k l wd half : ℕ} {gates pl w : List ℕ} {i e b : 
       pub try-at : TryAt C m n k (l + 1) wd half p q b gates pl w
       try-at = rw (add-one l) try
 
-      -- the candidate stays, or the level ends
-      pub turned-try : {pl′ w′ : List ℕ} {c : Found} → Tried C m (l + 1) p q b pl w pl′ w′ c → Turned C m n k l wd half gates pl w i e b pl′ w′ c
-      turned-try {pl′} {w′} {c} T₀ = record { stop = stop; on = on }
-        where
-          T : Tried C m (suc l) p q b pl w pl′ w′ c
-          T = rw (add-one l) at T₀
-
-          pl1 : List ℕ
-          pl1 = placed (C .X) (suc l) p q pl
-
-          F2 : Fair (C .X) (suc l) pl1
-          F2 = fair-kept (work C) (suc l) p q (N .at .going .fair) able
-
-          few-one : length (wanted (C .X) pl1) ≤ b
-          few-one = omega (arith, fewer-needed (work C) (N .at .going .fair) able, N .at .going .enough)
-
-          stop : c ≡ nothing → Ended C m l pl w i e b pl′ w′ b
-          stop z = record {
-            same = rw (now-list, T .none z) (onward-no-room (C .X) l b pl q (ranked m w (i + 1) e) p not-in at-cell (sym (T .is) ∙ z));
-            fair = rw (T .none z) (fair-down (work C) l (N .at .going .fair));
-            enough = rw (T .none z) (N .at .going .enough);
+      module _ {pl′ w′ : List ℕ} where
+        -- a candidate that is taken back ends the level
+        pub turned-full : Tried C m (l + 1) p q b pl w pl′ w′ nothing → Turned C m n k l wd half gates pl w i e b pl′ w′ Stop
+        turned-full T = record {
+          stop = λ x. record {
+            same = rw (now-list, T .none refl) (onward-no-room (C .X) l b pl q (ranked m w (i + 1) e) p not-in at-cell (rw (add-one l) at (sym (T .is))));
+            fair = rw (T .none refl) (fair-down (work C) l (N .at .going .fair));
+            enough = rw (T .none refl) (N .at .going .enough);
             few = N .at .few;
             kept = T .kept;
             tally = T .tally;
-          }
+          };
+          on = λ d f x. not-on x;
+        }
 
-          on : (d : ℕ) → c ≡ found d → Gone C m n k l wd half gates pl w i e b pl′ w′ (i + 1) d
-          on f z =
-              let enough = recount-found (work C) F2 b f few-one (sym (T .is) ∙ z) in
-              let d : ranked m w′ (i + 1) e ≡ ranked m w (i + 1) e = ranked-kept (T .kept) (i + 1) e (omega (arith, N .more)) (N .at .inside) in
-              record {
-                same = rw (now-list, d, T .some f z) (onward-placed (C .X) l b pl q (ranked m w (i + 1) e) p f not-in at-cell (sym (T .is) ∙ z));
-                kept = T .kept;
-                at = record {
-                  set = set-kept (T .kept) R;
-                  clear = clear-kept (T .kept) (N .at .clear);
-                  tally = T .tally;
-                  going = rw (d, T .some f z) (going-placed (work C) G p f able (enough .1));
-                  wide = N .at .wide;
-                  cap = N .at .cap;
-                  before = omega (arith, N .more);
-                  inside = N .at .inside;
-                  few = T .few f z;
-                };
-              }
+        -- one that stays moves the cursor past its cell
+        pub turned-on : {d : ℕ} → Tried C m (l + 1) p q b pl w pl′ w′ (found d) → Turned C m n k l wd half gates pl w i e b pl′ w′ (On d (p + 1))
+        turned-on {d} T = record { stop = λ x. not-on (sym x); on = λ d₂ f x. rw (← on-is x .0, ← on-is x .1) gone }
+          where
+            pl1 : List ℕ
+            pl1 = placed (C .X) (suc l) p q pl
+
+            plan : pl′ ≡ pl1
+            plan = rw (add-one l) at (T .some d refl)
+
+            bound : recount (C .X) b pl1 ≡ found d
+            bound = rw (add-one l) at (sym (T .is))
+
+            few-one : length (wanted (C .X) pl1) ≤ b
+            few-one = omega (arith, fewer-needed (work C) (N .at .going .fair) able, N .at .going .enough)
+
+            same-list : ranked m w′ (i + 1) e ≡ ranked m w (i + 1) e
+            same-list = ranked-kept (T .kept) (i + 1) e (omega (arith, N .more)) (N .at .inside)
+
+            gone : Gone C m n k l wd half gates pl w i e b pl′ w′ (i + 1) d (p + 1)
+            gone =
+                let enough = recount-found (work C) (fair-kept (work C) (suc l) p q (N .at .going .fair) able) b d few-one bound in
+                record {
+                  same = rw (now-list, same-list, plan) (onward-placed (C .X) l b pl q (ranked m w (i + 1) e) p d not-in at-cell bound);
+                  kept = T .kept;
+                  at = record {
+                    set = set-kept (T .kept) R;
+                    clear = clear-kept (T .kept) (N .at .clear);
+                    tally = T .tally;
+                    going = rw (same-list, plan) (going-placed (work C) G p d able (enough .1));
+                    wide = N .at .wide;
+                    cap = N .at .cap;
+                    before = omega (arith, N .more);
+                    inside = N .at .inside;
+                    few = T .few d refl;
+                  };
+                  cursor = record {
+                    row = N .at .wide .row;
+                    low = omega (arith, F .from);
+                    high = omega arith;
+                    inside = omega (arith, N .cursor .inside, fair-kept (work C) (suc l) p q (N .at .going .fair) able .len, N .at .going .fair .len, ap length plan);
+                    behind = rw (plan, add-one p) (behind-placed (work C) (suc l) (N .at .wide .high) pl p q (N .at .going .fair) able (cursor-behind (N .cursor) F₀ some) (omega (arith, N .cursor .inside)));
+                  };
+                }
 
 -- ---- a sweep: what stands at the start, and after some turns
 module _ {C : Context} {m n k l wd half : ℕ} {gates pl w : List ℕ} {i e b : ℕ} where
-  -- before the first turn nothing is gone through
-  pub gone-none : At C m n k l wd half gates pl w i e b → Gone C m n k l wd half gates pl w i e b pl w i b
-  gone-none A = record { same = refl; kept = kept-none m w; at = A }
+  -- before the first turn nothing is gone through, and the cursor stands at the row's start
+  pub gone-none : At C m n k l wd half gates pl w i e b → Gone C m n k l wd half gates pl w i e b pl w i b wd
+  gone-none A = record {
+    same = refl;
+    kept = kept-none m w;
+    at = A;
+    cursor = record {
+      row = A .wide .row;
+      low = omega arith;
+      high = omega arith;
+      inside = omega (arith, A .wide .row, rows (C .X .K) (suc l) (A .wide .high), two-step (C .X .K), A .going .fair .len, wide (rowAt (C .X .K) (suc l)) (suc l));
+      behind = rw (A .wide .row) (behind-first (C .X) (suc l) pl);
+    };
+  }
 
-  module _ {pl′ w′ : List ℕ} {j b′ : ℕ} (A : Gone C m n k l wd half gates pl w i e b pl′ w′ j b′) where
+  module _ {pl′ w′ : List ℕ} {j b′ from : ℕ} (A : Gone C m n k l wd half gates pl w i e b pl′ w′ j b′ from) where
     -- while candidates are left there is a next turn
-    pub gone-next : j < e → Next C m n k l wd half gates pl′ w′ j e b′
-    gone-next t = record { at = A .at; more = t }
+    pub gone-next : j < e → Next C m n k l wd half gates pl′ w′ j e b′ from
+    gone-next t = record { at = A .at; more = t; cursor = A .cursor }
 
     -- some turns and some more
-    pub gone-then : {pl2 w2 : List ℕ} {d b2 : ℕ} → Gone C m n k l wd half gates pl′ w′ j e b′ pl2 w2 d b2 → Gone C m n k l wd half gates pl w i e b pl2 w2 d b2
-    gone-then B = record { same = A .same ∙ B .same; kept = kept-then (A .kept) (B .kept); at = B .at }
+    pub gone-then : {pl2 w2 : List ℕ} {d b2 f2 : ℕ} → Gone C m n k l wd half gates pl′ w′ j e b′ pl2 w2 d b2 f2 → Gone C m n k l wd half gates pl w i e b pl2 w2 d b2 f2
+    gone-then B = record { same = A .same ∙ B .same; kept = kept-then (A .kept) (B .kept); at = B .at; cursor = B .cursor }
 
     -- a turn that ends the level ends the sweep
     pub gone-stop : {pl2 w2 : List ℕ} → Ended C m l pl′ w′ j e b′ pl2 w2 b′ → Ended C m l pl w i e b pl2 w2 b′

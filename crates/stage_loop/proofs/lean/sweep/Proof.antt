@@ -10,10 +10,10 @@ use Rattle.stage_loop.proofs.lean.sweep.Statement.{statement}
 use Rattle.stage_loop.proofs.lean.sweep.Tie as tie
 
 abbrev Inv-loop : tie.InvT-loop
-Inv-loop gates stage₀ work₀ m n k l w half start e most i₀ b₀ stage work i b = Every (λ C. At C m n k l w half gates stage₀ work₀ start e most) (λ C. Gone C m n k l w half gates stage₀ work₀ start e most stage work i b) × (length stage ≡ length stage₀) × (length work ≡ length work₀)
+Inv-loop gates stage₀ work₀ m n k l w half start e most i₀ b₀ from₀ stage work i b from = Every (λ C. At C m n k l w half gates stage₀ work₀ start e most) (λ C. Gone C m n k l w half gates stage₀ work₀ start e most stage work i b from) × (length stage ≡ length stage₀) × (length work ≡ length work₀)
 
 abbrev μ-loop : tie.MeasureT-loop
-μ-loop gates stage₀ work₀ m n k l w half start e most i₀ b₀ stage work i b = e - i
+μ-loop gates stage₀ work₀ m n k l w half start e most i₀ b₀ from₀ stage work i b from = e - i
 
 loop-holds : tie.Need-loop-holds Inv-loop μ-loop
 loop-holds c = (record { all = λ C A. gone-none A }, refl, refl)
@@ -33,8 +33,8 @@ same-length-2 c = search needs
 returns : tie.Need-returns Inv-loop μ-loop
 returns c = record { all = λ C A. let G = c .before .before .before .before .before .before .before .before .before .before .loop .inv .0 .all C A in gone-stop G ((rw (c .enum-told .given .1) at (c .before .before .before .before .before .before .turn .ensures .all C (gone-next G (c .before .before .before .before .before .before .before .before .before .loop-test .taken)))) .stop refl) }
 
-enum-known-bound : tie.Need-enum-known-bound Inv-loop μ-loop
-enum-known-bound c = search needs
+enum-known-step : tie.Need-enum-known-step Inv-loop μ-loop
+enum-known-step c = search needs
 
 add-i : tie.Need-add-i Inv-loop μ-loop
 add-i c = search needs
@@ -43,7 +43,7 @@ loop-less : tie.Need-loop-less Inv-loop μ-loop
 loop-less c = search needs
 
 loop-again : tie.Need-loop-again Inv-loop μ-loop
-loop-again c = (record { all = λ C A. let G = c .before .before .before .before .before .before .before .before .before .before .before .loop .inv .0 .all C A in gone-then G ((rw (c .before .bound .given .1) at (c .before .before .before .before .before .before .before .turn .ensures .all C (gone-next G (c .before .before .before .before .before .before .before .before .before .before .loop-test .taken)))) .on _ refl) }, search needs, search needs)
+loop-again c = (record { all = λ C A. let G = c .before .before .before .before .before .before .before .before .before .before .before .loop .inv .0 .all C A in gone-then G ((rw (c .before .step .given .1) at (c .before .before .before .before .before .before .before .turn .ensures .all C (gone-next G (c .before .before .before .before .before .before .before .before .before .before .loop-test .taken)))) .on _ _ refl) }, search needs, search needs)
 
 same-length-3 : tie.Need-same-length-3 Inv-loop μ-loop
 same-length-3 c = search needs
@@ -66,7 +66,7 @@ sweep-spec =
     same-length
     same-length-2
     returns
-    enum-known-bound
+    enum-known-step
     add-i
     loop-less
     loop-again
