@@ -1,57 +1,112 @@
 // What merging into one slot does again and again: the later slots ranked for it, and the trial of one union.
 use cells::Height;
 use columns::RECORDS;
+use columns::wide;
 use merge_slots::BAR;
 use merge_slots::key_slot;
 use merge_slots::start_of;
 use merge_slots::store_union;
 use merge_slots::take_in;
 use merge_unions::build_union;
-use merge_unions::sizing::size_union;
+use merge_unions::sizing::Cone;
+use merge_unions::sizing::close_cone;
+use merge_unions::sizing::measure;
+use merge_unions::sizing::open_cone;
 use placer::Answer;
 use stage_runs::WordRule;
 ghost use mathlib.Core.Path.{_≡_};
 ghost use mathlib.Core.Bool.{_&&_};
+ghost use Prim.Native.Nat.{_+_, _*_, _≤_};
 ghost use lib.Dec.{eqb, leb};
+ghost use lib.ListN.{length};
 ghost use Rattle.stage_runs.specs.Rule.{ruleOf};
-ghost use Rattle.merge_unions.specs.Unions.{Measured, Built};
-ghost use Rattle.merge_trials.specs.Ranks.{groupsAt, PairAt, RankAt, SlotRanked, AllAt, AllRanked};
+ghost use Rattle.rules.specs.Inside.Some.{Some, Every};
+ghost use Rattle.merge_unions.specs.Unions.{Built};
+ghost use Rattle.merge_trials.specs.Ranks.{groupsAt, Looked, RankAt, SlotRanked, LaterAt, Keyed, AllAt, AllRanked};
 ghost use Rattle.merge_trials.specs.Trials.{BuildAt, JoinAt, Joins, TryAt, Tried};
 
-// The size of the union of slots i and s.
-fn size_pair(
+// Is a slot from `from` on open?
+fn any_open(work: &[u32], base: usize, n: usize, from: usize) -> bool
+    requires { ⌜ base + 8 * n ≤ length (now work) ⌝ }
+    ensures { λ r. ⌜ Looked base n from (now (work .entry)) r ⌝ }
+{
+    let mut s = from;
+    while s < n {
+        if work[base + (BAR * n + s)] == 0 {
+            return true;
+        }
+        s += 1;
+    }
+    false
+}
+
+// The keys of slot s, which has the named groups, for its union with slot i, whose cone stands; if slot s is open.
+fn rank_slot(
     gates: &[u32],
-    given: &[u32],
+    records: &[u32],
+    names: &[u32],
+    work: &mut [u32],
+    m: usize,
+    table: usize,
+    base: usize,
+    n: usize,
+    i: usize,
+    s: usize,
+    cone: Cone,
+)
+    requires { ⌜ Some (λ x. RankAt x m table base n i s (cone .waiting) (cone .listed) (now gates) (now records) (now names) (now work)) ⌝ }
+    ensures { λ _. ⌜ Every (λ x. RankAt x m table base n i s (cone .waiting) (cone .listed) (now (gates .entry)) (now (records .entry)) (now (names .entry)) (now (work .entry))) (λ x. SlotRanked x m table base n i s (cone .waiting) (cone .listed) (now (gates .entry)) (now (records .entry)) (now (names .entry)) (now (work .entry)) (now (work .exit))) ⌝ }
+{
+    if work[base + (BAR * n + s)] != 0 {
+        return;
+    }
+    let union = measure(gates, records, names, work, m, table, cone);
+    let end = base + 8 * n;
+    key_slot(&mut work[base..end], n, i, s, union);
+}
+
+// The keys of every open slot after slot i, whose groups end at `from` and whose cone stands.
+fn rank_later(
+    gates: &[u32],
     records: &[u32],
     indices: &[u32],
     lengths: &[u32],
     work: &mut [u32],
     m: usize,
     table: usize,
+    base: usize,
     i: usize,
-    s: usize,
-) -> usize
-    requires { ⌜ PairAt m table i s (now gates) (now given) (now records) (now indices) (now lengths) (now work) ⌝ }
-    ensures { λ r. ⌜ Measured m table (now (gates .entry)) (now (given .entry)) (now (records .entry)) (groupsAt (now (lengths .entry)) (now (indices .entry)) i) (groupsAt (now (lengths .entry)) (now (indices .entry)) s) (now (work .entry)) r (now (work .exit)) ⌝ }
+    from: usize,
+    cone: Cone,
+)
+    requires { ⌜ Some (λ given. LaterAt given m table base i from (cone .waiting) (cone .listed) (now gates) (now records) (now indices) (now lengths) (now work)) ⌝ }
+    ensures { λ _. ⌜ Every (λ given. LaterAt given m table base i from (cone .waiting) (cone .listed) (now (gates .entry)) (now (records .entry)) (now (indices .entry)) (now (lengths .entry)) (now (work .entry))) (λ given. Keyed given m table base i (length (now (lengths .entry))) (cone .waiting) (cone .listed) (now (gates .entry)) (now (records .entry)) (now (indices .entry)) (now (lengths .entry)) (now (work .entry)) (now (work .exit))) ⌝ }
 {
-    let a = start_of(lengths, i);
-    let b = start_of(lengths, i + 1);
-    let c = start_of(lengths, s);
-    let d = start_of(lengths, s + 1);
-    size_union(
-        gates,
-        given,
-        records,
-        &indices[a..b],
-        &indices[c..d],
-        work,
-        m,
-        table,
-    )
+    let n = lengths.len();
+    let mut at = from;
+    let mut s = i + 1;
+    while s < n {
+        let next = at + wide(lengths[s]);
+        rank_slot(
+            gates,
+            records,
+            &indices[at..next],
+            work,
+            m,
+            table,
+            base,
+            n,
+            i,
+            s,
+            cone,
+        );
+        at = next;
+        s += 1;
+    }
 }
 
-// The keys of slot s for its union with slot i, if it is open.
-fn rank_slot(
+// The same, with the cone of slot i opened before and closed after.
+fn rank_open(
     gates: &[u32],
     given: &[u32],
     records: &[u32],
@@ -62,32 +117,30 @@ fn rank_slot(
     table: usize,
     base: usize,
     i: usize,
-    s: usize,
 )
-    requires { ⌜ RankAt m table base i s (now gates) (now given) (now records) (now indices) (now lengths) (now work) ⌝ }
-    ensures { λ _. ⌜ SlotRanked m table base i s (now (gates .entry)) (now (given .entry)) (now (records .entry)) (now (indices .entry)) (now (lengths .entry)) (now (work .entry)) (now (work .exit)) ⌝ }
+    requires { ⌜ AllAt m table base i (now gates) (now given) (now records) (now indices) (now lengths) (now work) ⌝ }
+    ensures { λ _. ⌜ AllRanked m table base i (now (gates .entry)) (now (given .entry)) (now (records .entry)) (now (indices .entry)) (now (lengths .entry)) (now (work .entry)) (now (work .exit)) ⌝ }
 {
-    let n = lengths.len();
-    if work[base + (BAR * n + s)] != 0 {
-        return;
-    }
-    let union = size_pair(
+    let a = start_of(lengths, i);
+    let b = start_of(lengths, i + 1);
+    let cone = open_cone(gates, given, records, &indices[a..b], work, m, table);
+    rank_later(
         gates,
-        given,
         records,
         indices,
         lengths,
         work,
         m,
         table,
+        base,
         i,
-        s,
+        b,
+        cone,
     );
-    let end = base + 8 * n;
-    key_slot(&mut work[base..end], n, i, s, union);
+    close_cone(given, work, m, cone);
 }
 
-// The keys of every open slot after slot i.
+// The keys of every open slot after slot i. Where none is open nothing is walked.
 pub fn rank_all(
     gates: &[u32],
     given: &[u32],
@@ -103,23 +156,21 @@ pub fn rank_all(
     requires { ⌜ AllAt m table base i (now gates) (now given) (now records) (now indices) (now lengths) (now work) ⌝ }
     ensures { λ _. ⌜ AllRanked m table base i (now (gates .entry)) (now (given .entry)) (now (records .entry)) (now (indices .entry)) (now (lengths .entry)) (now (work .entry)) (now (work .exit)) ⌝ }
 {
-    let mut s = i + 1;
-    while s < lengths.len() {
-        rank_slot(
-            gates,
-            given,
-            records,
-            indices,
-            lengths,
-            work,
-            m,
-            table,
-            base,
-            i,
-            s,
-        );
-        s += 1;
+    if !any_open(work, base, lengths.len(), i + 1) {
+        return;
     }
+    rank_open(
+        gates,
+        given,
+        records,
+        indices,
+        lengths,
+        work,
+        m,
+        table,
+        base,
+        i,
+    );
 }
 
 // The build of the union of slots i and j.

@@ -4,5 +4,6 @@ pub mod Reserving
 pub mod Waiting
 pub mod Opening
 pub mod Sizing
+pub mod Cones
 pub mod Parts
 pub mod Building

@@ -4,3 +4,4 @@ pub mod Reserving
 pub mod Waiting
 pub mod Sizing
 pub mod Unions
+pub mod Cones

@@ -8,7 +8,7 @@ ghost use Rattle.merge_unions.specs.Names.{picked};
 ghost use Rattle.merge_unions.specs.Waiting.{PartAt, PartWaits, BothAt};
 
 // The pins of the groups that `names` names, behind the n waiting pins. Returns how many wait.
-fn wait_part(
+pub fn wait_part(
     records: &[u32],
     names: &[u32],
     work: &mut [u32],

@@ -103,6 +103,13 @@ pub record TraverseAt (C : Context) (m n : ℕ) (gates w : List ℕ) : Type 0 wh
   pub begun : Begun C m n gates w
   pub clear : Clear LISTED m w
 
+-- the waiting pins before `from` are visited, and the k pins that they list are marked
+pub record GoOnAt (C : Context) (m n from k : ℕ) (gates w : List ℕ) : Type 0 where
+  pub begun : Begun C m n gates w
+  pub upto : from ≤ n
+  pub listed : Marked ORDER LISTED m k (list ORDER m k w) w
+  pub same : thread (visit (length (C .X .g)) (C .X .g) (C .X .done)) (drop from (C .X .waiting)) (seenIn m k w) ≡ C .X .seen
+
 -- the waiting pins from i on are still to be visited
 pub record Swept (C : Context) (m n : ℕ) (gates w : List ℕ) (i : ℕ) (w′ : List ℕ) (k : ℕ) : Type 0 where
   pub frame : Frame walked m w w′
@@ -110,7 +117,12 @@ pub record Swept (C : Context) (m n : ℕ) (gates w : List ℕ) (i : ℕ) (w′ 
   pub going : Going C m gates w′ 0 k
   pub same : thread (visit (length (C .X .g)) (C .X .g) (C .X .done)) (drop i (C .X .waiting)) (seenIn m k w′) ≡ C .X .seen
 
--- the contract: the order, its length, and marks at exactly its pins
+-- the contract: the order, its length, each pin once, and marks at exactly its pins
+pub record WentOn (C : Context) (m : ℕ) (w w′ : List ℕ) (k : ℕ) : Type 0 where
+  pub frame : Frame walked m w w′
+  pub listed : Marked ORDER LISTED m k (C .X .order) w′
+
+-- what others ask of it
 pub record Traversed (C : Context) (m : ℕ) (w w′ : List ℕ) (k : ℕ) : Type 0 where
   pub frame : Frame walked m w w′
   pub order : Holds ORDER m k (C .X .order) w′

@@ -20,7 +20,7 @@ ghost use lib.Dec.{eqb};
 ghost use lib.ListN.{length, getD, set};
 ghost use Rattle.columns.specs.Fields.{ORDER, LISTED, STACK, PHASE};
 ghost use Rattle.rules.specs.Inside.Some.{Some, Every};
-ghost use Rattle.stage_walk.specs.Machine.{Going, Went, Stepped, VisitAt, Visited, TraverseAt, Traversed};
+ghost use Rattle.stage_walk.specs.Machine.{Going, Went, Stepped, VisitAt, Visited, TraverseAt, GoOnAt, WentOn, Traversed};
 
 // How many items the stack has, and how many pins are listed.
 pub struct At {
@@ -124,17 +124,32 @@ fn visit(gates: &[u32], work: &mut [u32], m: usize, n: usize, p: Pin) -> usize
     run(gates, work, m, 1, n)
 }
 
-// The traversal from the n waiting pins, with no pin listed before. Returns how many pins the order has.
-pub fn traverse(gates: &[u32], work: &mut [u32], m: usize, n: usize) -> usize
-    requires { ⌜ Some (λ C. TraverseAt C m n (now gates) (now work)) ⌝ }
-    ensures { λ k. ⌜ Every (λ C. TraverseAt C m n (now (gates .entry)) (now (work .entry))) (λ C. Traversed C m (now (work .entry)) (now (work .exit)) k) ⌝ }
+// The traversal goes on: the waiting pins from `from` to n, behind the pins that those before `from` list. Returns how many pins the order has.
+pub fn traverse_on(
+    gates: &[u32],
+    work: &mut [u32],
+    m: usize,
+    n: usize,
+    from: usize,
+    before: usize,
+) -> usize
+    requires { ⌜ Some (λ C. GoOnAt C m n from before (now gates) (now work)) ⌝ }
+    ensures { λ k. ⌜ Every (λ C. GoOnAt C m n from before (now (gates .entry)) (now (work .entry))) (λ C. WentOn C m (now (work .entry)) (now (work .exit)) k) ⌝ }
 {
-    let mut listed = 0;
-    let mut i = 0;
+    let mut listed = before;
+    let mut i = from;
     while i < n {
         let p = pin_at(work, m, i, WAITING);
         listed = visit(gates, work, m, listed, p);
         i += 1;
     }
     listed
+}
+
+// The traversal from the n waiting pins, with no pin listed before. Returns how many pins the order has.
+pub fn traverse(gates: &[u32], work: &mut [u32], m: usize, n: usize) -> usize
+    requires { ⌜ Some (λ C. TraverseAt C m n (now gates) (now work)) ⌝ }
+    ensures { λ k. ⌜ Every (λ C. TraverseAt C m n (now (gates .entry)) (now (work .entry))) (λ C. Traversed C m (now (work .entry)) (now (work .exit)) k) ⌝ }
+{
+    traverse_on(gates, work, m, n, 0, 0)
 }

@@ -15,7 +15,7 @@ use Rattle.rules.proofs.Lists.Members.{every-in, in-nil, in-append-left, in-app
 use Rattle.placer_start.specs.Opening.{Idle}
 use Rattle.rules.specs.Traversal.{WordRule}
 use Rattle.placer.specs.declared.Answer.{Answer}
-use Rattle.merge_unions.specs.Unions.{UnionAt, Leaves, Measured, Built}
+use Rattle.merge_unions.specs.Unions.{UnionAt, Leaves, Built}
 use Rattle.merge_unions.proofs.Laws.Table.{located-same}
 use Rattle.merge_unions.proofs.Laws.Parts.{idle-part}
 use Rattle.merge_slots.specs.Moves.{StartAt}
@@ -26,7 +26,8 @@ use Rattle.merge_layout.proofs.Laws.Owned.{part-length, part-below, part-above,
 
 -- ---- a slot's groups
 
-slot-part : (ls xs : List ℕ) (s : ℕ) → sum ls ≡ length xs → s < length ls → take (sum (take (s + 1) ls) - sum (take s ls)) (drop (sum (take s ls)) xs) ≡ groupsAt ls xs s
+-- slot s's part of the indices is its groups
+pub slot-part : (ls xs : List ℕ) (s : ℕ) → sum ls ≡ length xs → s < length ls → take (sum (take (s + 1) ls) - sum (take s ls)) (drop (sum (take s ls)) xs) ≡ groupsAt ls xs s
 unfolding splitBy sum
 slot-part [] xs s e h = absurd (omega arith)
 slot-part (l ∷ ls) xs zero e h = let z : l + 0 - 0 ≡ l = omega arith in rw z refl
@@ -35,13 +36,15 @@ slot-part (l ∷ ls) xs (suc s) e h =
     let z : l + sum (take (s + 1) ls) - (l + sum (take s ls)) ≡ sum (take (s + 1) ls) - sum (take s ls) = omega arith in
     rw (y, z, ← drop-drop (sum (take s ls)) l xs) (slot-part ls (drop l xs) s (rw length-drop (omega arith)) (omega arith))
 
-slot-in : (q : ℕ) (ls xs : List ℕ) (s : ℕ) → In q (groupsAt ls xs s) → In q xs
+-- they are among the indices
+pub slot-in : (q : ℕ) (ls xs : List ℕ) (s : ℕ) → In q (groupsAt ls xs s) → In q xs
 unfolding splitBy
 slot-in q [] xs s i = in-nil q i
 slot-in q (l ∷ ls) xs zero i = let z = take-append-drop l xs in rw z at (in-append-left q (take l xs) (drop l xs) i)
 slot-in q (l ∷ ls) xs (suc s) i = let z = take-append-drop l xs in rw z at (in-append-right q (take l xs) (drop l xs) (slot-in q ls (drop l xs) s i))
 
-sum-below : (ls : List ℕ) (a b : ℕ) → a ≤ b → sum (take a ls) ≤ sum (take b ls)
+-- a later slot starts no earlier
+pub sum-below : (ls : List ℕ) (a b : ℕ) → a ≤ b → sum (take a ls) ≤ sum (take b ls)
 sum-below ls a b h = rw (take-take a b ls h) at (sum-part (take b ls) a)
 
 -- ---- what is kept
@@ -134,10 +137,6 @@ module _ {K m table base i s : ℕ} {gates given records xs ls w : List ℕ} (S 
         room = omega (arith, S .spare);
         few = omega (arith, S .short);
       }
-
-  -- what is measured is the two slots' union
-  pub pair-measured : {r : ℕ} {w′ : List ℕ} → Measured m table gates given records (take (b - a) (drop a xs)) (take (d - c) (drop c xs)) w r w′ → Measured m table gates given records (groupsAt ls xs i) (groupsAt ls xs s) w r w′
-  pair-measured M = rw (first-is, second-is) at M
 
   -- what is built is the two slots' union
   pub pair-built : {rule : WordRule} {pl ws cs : List ℕ} {r : Answer} {pl′ ws′ cs′ w′ : List ℕ} → Built rule K m table gates given records (take (b - a) (drop a xs)) (take (d - c) (drop c xs)) pl ws cs w r pl′ ws′ cs′ w′ → Built rule K m table gates given records (groupsAt ls xs i) (groupsAt ls xs s) pl ws cs w r pl′ ws′ cs′ w′

@@ -1,13 +1,9 @@
 -- `merge_trials::rank_slot` meets its contract: the keys of an open slot. Assumes nothing.
-use Rattle.merge_trials.proofs.Laws.Keys.{rank-barred, rank-room, key-at, slot-ranked}
 use native.Mathlib.Omega.{arith}
+use Rattle.merge_trials.proofs.Laws.Keys.{rank-barred, rank-room, key-at, slot-ranked}
 use borrow.Author.Needs.{needs}
 use Rattle.merge_trials.proofs.rank_slot.Statement.{statement}
 use Rattle.merge_trials.proofs.rank_slot.Tie as tie
-use Rattle.merge_trials.proofs.rank_slot.Reads as reads
-use Rattle.merge_trials.proofs.rank_slot.Lts as lts
-use Rattle.merge_trials.proofs.size_pair.Reads as size-pair-reads
-use Rattle.merge_slots.proofs.key_slot.Reads as key-slot-reads
 
 mul-if1 : tie.Need-mul-if1
 mul-if1 c = search needs
@@ -25,10 +21,10 @@ slice-read-if1 : tie.Need-slice-read-if1
 slice-read-if1 c = search needs
 
 returns : tie.Need-returns
-returns c = rank-barred (c .before .before .before .before .before .before .before .before .pre) (c .if1 .taken)
+returns c = record { all = λ x A. rank-barred A (c .if1 .taken) }
 
-size-pair-requires : tie.Need-size-pair-requires
-size-pair-requires c κs = search needs
+measure-requires : tie.Need-measure-requires
+measure-requires c κs = let s = c .before .before .before .before .before .before .before .pre in record { it = s .it; at = s .at .extend }
 
 mul-end : tie.Need-mul-end
 mul-end c = search needs
@@ -46,16 +42,16 @@ part-key-slot-start : tie.Need-part-key-slot-start
 part-key-slot-start c = search needs
 
 part-key-slot-end : tie.Need-part-key-slot-end
-part-key-slot-end c = omega (arith, rank-room (c .before .before .before .before .before .before .before .before .before .before .before .before .pre) (c .before .before .size-pair .ensures))
+part-key-slot-end c = let s = c .before .before .before .before .before .before .before .before .before .before .pre in omega (arith, rank-room (s .at) (c .before .before .measure .ensures .all (s .it) (s .at .extend)))
 
 key-slot-requires : tie.Need-key-slot-requires
-key-slot-requires c κs = key-at (c .before .before .before .before .before .before .before .before .before .before .before .before .before .pre) (c .before .before .before .size-pair .ensures)
+key-slot-requires c κs = let s = c .before .before .before .before .before .before .before .before .before .before .before .pre in key-at (s .at) (c .before .before .before .measure .ensures .all (s .it) (s .at .extend))
 
 same-length : tie.Need-same-length
 same-length c = search needs
 
 returns-2 : tie.Need-returns-2
-returns-2 c = slot-ranked (c .before .before .before .before .before .before .before .before .before .before .before .before .before .before .before .before .pre) (c .before .before .before .before .before .before .size-pair .ensures) (c .before .before .key-slot .ensures)
+returns-2 c = record { all = λ x A. slot-ranked A (c .before .before .before .before .before .before .measure .ensures .all x (A .extend)) (c .before .before .key-slot .ensures) }
 
 pub rank-slot-spec : {M : Type 1} → statement M
 rank-slot-spec =
@@ -67,7 +63,7 @@ rank-slot-spec =
     mul-if1-2
     slice-read-if1
     returns
-    size-pair-requires
+    measure-requires
     mul-end
     add-end
     mul-key-slot

@@ -24,15 +24,15 @@ named-picked J is e = rw e
 
 module _ {K m table : ℕ} {gates given records first second w : List ℕ} (A : UnionAt K m table gates given records first second w) where
   -- a build of the union may begin
-  pub union-opens : Opens m given w
+  union-opens : Opens m given w
   union-opens = record { idle = A .idle; given-named = λ q i. rw (A .pins) (A .passed .given-named q i) }
 
   -- the first partition's names are good
-  pub union-first : Names m table records first w
+  union-first : Names m table records first w
   union-first = record { located = A .located; behind = omega (arith, A .room); inside = A .first-inside; pins = λ q e. rw (A .pins) (A .passed .named q e) }
 
   -- the second partition's names are good
-  pub union-second : Names m table records second w
+  union-second : Names m table records second w
   union-second = record { located = A .located; behind = omega (arith, A .room); inside = A .second-inside; pins = λ q e. rw (A .pins) (A .passed .named q e) }
 
   -- the union may be opened

@@ -5,12 +5,13 @@ use Prim.Native.Nat.{ℕ, _+_, _*_, _<_}
 use native.Mathlib.Omega.{arith}
 use lib.ListN.{getD, take}
 use Rattle.rules.specs.Records.{Group}
-use Rattle.columns.specs.Fields.{DONE, LEVEL, WAITING, CELLS, RANKED, STARTS, ENDS, REVERSE, LISTED, PLACE, MARK, SPARE, RECORDS}
+use Rattle.columns.specs.Fields.{ORDER, DONE, LEVEL, WAITING, CELLS, RANKED, STARTS, ENDS, REVERSE, LISTED, PLACE, MARK, SPARE, RECORDS}
 use Rattle.columns.specs.Area.{Room}
-use Rattle.columns.specs.Lists.{list, Holds, Marks, Clear, Placed}
+use Rattle.columns.specs.Lists.{list, Holds, Marks, Clear, Marked, Placed}
 use Rattle.columns.proofs.Area.Columns.{inside, same-col}
 use Rattle.stage_walk.specs.Stands.{Fresh}
 use Rattle.placer_start.specs.Opening.{Idle, First}
+use Rattle.merge_unions.specs.Cones.{Ground, Cone}
 
 module _ {m : ℕ} (w v : List ℕ) (same : (j : ℕ) → j < 16 * m + RECORDS → getD v j 0 ≡ getD w j 0) where
   cell : (f : ℕ) → f < 16 → (p : ℕ) → p < m → getD v (f * m + p) 0 ≡ getD w (f * m + p) 0
@@ -33,6 +34,9 @@ module _ {m : ℕ} (w v : List ℕ) (same : (j : ℕ) → j < 16 * m + RECORDS �
     place = λ i b. cell g k _ (P .held .pins i b) ∙ P .place i b;
     none = λ p b o. cell g k p b ∙ P .none p b o;
   }
+
+  marked-part : (f g : ℕ) → f < 16 → g < 16 → {n : ℕ} {xs : List ℕ} → Marked f g m n xs w → Marked f g m n xs v
+  marked-part f g h k M = record { held = holds-part f h (M .held); once = M .once; marks = marks-part g k (M .marks) }
 
   fresh-part : Fresh m w → Fresh m v
   fresh-part F = record {
@@ -67,4 +71,15 @@ module _ {m : ℕ} (w v : List ℕ) (same : (j : ℕ) → j < 16 * m + RECORDS �
     cells = clear-part CELLS (omega arith) (I .cells);
     marks = clear-part MARK (omega arith) (I .marks);
     zeros = λ j h. same (16 * m + j) (omega arith) ∙ I .zeros j h;
+  }
+
+  -- and a cone as it is
+  pub cone-part : {table n k : ℕ} {gates given records names : List ℕ} → Room m v → Ground m table gates given records v → Cone m table n k gates given records names w → Cone m table n k gates given records names v
+  cone-part room G C = record {
+    ground = G;
+    area = room;
+    done = marks-part DONE (omega arith) (C .done);
+    waiting = placed-part WAITING PLACE (omega arith) (omega arith) (C .waiting);
+    listed = marked-part ORDER LISTED (omega arith) (omega arith) (C .listed);
+    apart = record { before = C .apart .before; idle = C .apart .idle; cells = λ f a h p b. cell f h p b ∙ C .apart .cells f a h p b; tail = λ j h. same (16 * m + j) (omega arith) ∙ C .apart .tail j h };
   }

@@ -1,76 +1,43 @@
--- Marks taken back along a list, and a traversal between them. Assumes nothing.
+-- Marks taken back along a list. Assumes nothing.
 use mathlib.Core.Path.{_≡_, refl, sym, ap, _∙_}
 use mathlib.Core.Logic.{_≢_}
 use mathlib.Core.Bool.{true, false}
 use mathlib.Core.List.{List, [], _∷_, _++_}
-use Prim.Native.Nat.{ℕ, _+_, _*_, _<_, _≤_}
+use Prim.Native.Nat.{ℕ, _+_, _-_, _*_, _<_, _≤_}
 use native.Mathlib.Decide.{ℕ-discrete}
 use native.Mathlib.Numerals.{add-one}
 use native.Mathlib.Omega.{arith}
 use borrow.Author.Tests.{ne-eqb}
-use lib.ListN.{length, getD, set, drop, length-reverse, drop-of-length-le}
-use lib.Seq.{drop-cons}
-use Rattle.rules.specs.Lists.{mem, Out}
-use Rattle.rules.specs.Graph.{graphOf, pinCount}
-use Rattle.rules.specs.Records.{Group, groupsOf, waitingOf}
-use Rattle.rules.specs.Traversal.{neededRuns, Setting, setting, traverse}
-use Rattle.rules.specs.Merge.{Common, sizeFor}
-use Rattle.rules.proofs.Lists.Members.{eqb-same, in-getD}
-use Rattle.columns.specs.Fields.{ORDER, DONE, WAITING, LISTED, STACK, PHASE, PLACE}
+use lib.ListN.{length, getD, set, take, drop, length-drop, take-append-drop, drop-of-length-le}
+use lib.Seq.{drop-cons, getD-drop, getD-take, length-take-le}
+use Rattle.rules.specs.Lists.{mem, In, Out, Once, nobody, one}
+use Rattle.rules.proofs.Lists.Members.{split, true-false, eqb-same, in-getD, in-append-left, in-append-right, out-append, in-out}
+use Rattle.columns.specs.Fields.{ORDER, DONE, WAITING, LISTED, PLACE}
 use Rattle.columns.specs.Area.{Room, Frame, among}
-use Rattle.columns.specs.Lists.{list, bit, Holds, Marks, Clear}
-use Rattle.columns.proofs.Area.Columns.{inside, at-set}
+use Rattle.columns.specs.Lists.{list, bit, Holds, Marks, Marked, Placed}
+use Rattle.columns.proofs.Area.Columns.{inside, at-set, at-set-past}
 use Rattle.columns.proofs.Area.Frames.{frame-none, frame-then, frame-more, frame-room, frame-set}
 use Rattle.columns.proofs.Lists.Clears.{zero-stays, clear-frame}
-use Rattle.columns.proofs.Lists.Entries.{holds-at, holds-pin, holds-self, holds-frame}
-use Rattle.stage_walk.specs.Stands.{Context}
-use Rattle.stage_walk.specs.Machine.{TraverseAt, Traversed}
-use Rattle.placer_start.specs.Given.{GivenAt, Given}
-use Rattle.placer_start.specs.Waiting.{AllWait}
-use Rattle.placer_start.specs.Opening.{Opens, First}
-use Rattle.placer_start.proofs.Laws.Chains.{touched-none}
-use Rattle.placer_start.proofs.Laws.Opening.{given-at, opened-room, opened-places, first-stage}
-use Rattle.placer_start.proofs.Laws.First.{firstContext, first-setting, first-begun}
-use Rattle.merge_unions.specs.Names.{picked, Names}
-use Rattle.merge_unions.specs.Waiting.{BothAt}
-use Rattle.merge_unions.specs.Sizing.{Only, AlongAt, Along, UnmarkAt}
-use Rattle.merge_unions.specs.Unions.{Leaves, Shares, SizeAt, Measured}
-use Rattle.merge_unions.proofs.Laws.Names.{names-kept}
-use Rattle.merge_unions.proofs.Laws.Opening.{union-opens, union-first, union-second, named-picked}
-
--- ---- column g is 0 but at pins of xs
+use Rattle.columns.proofs.Lists.Entries.{list-take, holds-at, holds-pin, holds-take, holds-frame}
+use Rattle.columns.proofs.Lists.Marks.{marks-frame, marked-frame}
+use Rattle.columns.proofs.Lists.Places.{placed-frame}
+use Rattle.merge_unions.specs.Sizing.{AlongAt, Along, UnmarkAt, BackAt, Back, CloseAt, Closed}
 
 out-cons : (q p : ℕ) (xs : List ℕ) → q ≢ p → Out q xs → Out q (p ∷ xs)
 unfolding mem
 out-cons q p xs ne o = rw (ne-eqb q p ne, mem) o
 
-module _ {g m : ℕ} {w : List ℕ} where
-  -- a column that is 0 but at no pin is clear
-  pub only-none : Only g m [] w → Clear g m w
-  unfolding mem
-  only-none O = record { zero = λ p h. O .zero p h refl }
+out-nil : (q : ℕ) → Out q []
+unfolding mem
+out-nil q = refl
 
-  -- a 0 stored at one pin leaves the others
-  pub only-set : (p : ℕ) {xs : List ℕ} → Only g m (p ∷ xs) w → p < m → g * m + m ≤ length w → Only g m xs (set w (g * m + p) 0)
-  only-set p {xs} O b room = record { zero = λ q h o. one q h o (ℕ-discrete q p) }
-    where
-      one : (q : ℕ) → q < m → Out q xs → Dec (q ≡ p) → getD (set w (g * m + p) 0) (g * m + q) 0 ≡ 0
-      one q h o (yes e) = rw e (at-set g m w p 0 b room)
-      one q h o (no ne) = zero-stays w _ _ (O .zero q h (out-cons q p xs ne o))
-
-  -- a column that is 0 but at some pins stays so where it is not named
-  pub only-frame : {xs : List ℕ} → Only g m xs w → {fs : List ℕ} {w′ : List ℕ} → Frame fs m w w′ → among fs g ≡ false → g < 16 → Only g m xs w′
-  only-frame O F e h = record { zero = λ p b o. F .cell g e h p b ∙ O .zero p b o }
-
-  -- marks of some pins are 0 elsewhere
-  pub marks-only : {xs : List ℕ} → Marks g m xs w → Only g m xs w
-  marks-only M = record { zero = λ p h o. M .mark p h ∙ ap bit o }
-
--- the entries from i on are still to be cleared
-pub record Clearing (g m i : ℕ) (xs w w′ : List ℕ) : Type 0 where
+-- the entries from a to i are cleared
+pub record Clearing (g m a i : ℕ) (xs w w′ : List ℕ) : Type 0 where
+  pub from : a ≤ i
   pub upto : i ≤ length xs
   pub frame : Frame (g ∷ []) m w w′
-  pub only : Only g m (drop i xs) w′
+  pub zero : (p : ℕ) → p < m → In p (drop a xs) → Out p (drop i xs) → getD w′ (g * m + p) 0 ≡ 0
+  pub kept : (p : ℕ) → p < m → Out p (drop a xs) → getD w′ (g * m + p) 0 ≡ getD w (g * m + p) 0
 
 among-own : (g : ℕ) → among (g ∷ []) g ≡ true
 among-own g = rw (eqb-same g)
@@ -78,27 +45,44 @@ among-own g = rw (eqb-same g)
 among-other : (f g : ℕ) → f ≢ g → among (g ∷ []) f ≡ false
 among-other f g ne = rw (ne-eqb f g ne)
 
-module _ {g m i : ℕ} {xs w w₁ : List ℕ} (C : Clearing g m i xs w w₁) (area : Room m w) (to : g < 16) where
+-- before the first entry nothing is cleared
+clearing-none : {g m a : ℕ} {xs w : List ℕ} → a ≤ length xs → Clearing g m a a xs w w
+clearing-none h = record { from = omega arith; upto = h; frame = frame-none; zero = λ p b i o. true-false i o; kept = λ p b o. refl }
+
+module _ {g m a i : ℕ} {xs w w₁ : List ℕ} (C : Clearing g m a i xs w w₁) (area : Room m w) (to : g < 16) where
   -- one more entry is cleared
-  pub clearing-more : (p : ℕ) {w₂ : List ℕ} → i < length xs → p ≡ getD xs i 0 → p < m → w₂ ≡ set w₁ (g * m + p) 0 → Clearing g m (i + 1) xs w w₂
-  clearing-more p h e b ew =
-      let d : drop i xs ≡ p ∷ drop (i + 1) xs = rw (add-one i, e) (drop-cons xs i 0 h) in
-      rw ew (record {
-        upto = omega arith;
-        frame = frame-then (C .frame) (frame-set g p 0 b to (among-own g));
-        only = only-set p (rw d at (C .only)) b (omega (arith, inside g m to, frame-room (C .frame) area .room));
-      })
+  pub clearing-more : (p : ℕ) {w₂ : List ℕ} → i < length xs → p ≡ getD xs i 0 → p < m → w₂ ≡ set w₁ (g * m + p) 0 → Clearing g m a (i + 1) xs w w₂
+  clearing-more p h e b ew = rw ew (record {
+    from = omega (arith, C .from);
+    upto = omega arith;
+    frame = frame-then (C .frame) (frame-set g p 0 b to (among-own g));
+    zero = λ q l j o. clears q l j o (ℕ-discrete q p);
+    kept = λ q l o. at-set-past g m w₁ p q 0 (λ z. in-out p q (drop a xs) mine o (sym z)) ∙ C .kept q l o;
+  })
+    where
+      next : drop i xs ≡ p ∷ drop (i + 1) xs
+      next = rw (add-one i, e) (drop-cons xs i 0 h)
 
-  -- past the last entry the column is clear
-  pub clearing-done : length xs ≤ i → Along g m w w₁
-  clearing-done h = record { frame = C .frame; clear = only-none (rw (drop-of-length-le xs {i = i} h) at (C .only)) }
+      mine : In p (drop a xs)
+      mine =
+          let z : a + (i - a) ≡ i = omega (arith, C .from) in
+          let d : getD (drop a xs) (i - a) 0 ≡ p = getD-drop a xs (i - a) 0 ∙ ap (λ (j : ℕ). getD xs j 0) z ∙ sym e in
+          rw d at (in-getD (drop a xs) (i - a) 0 (rw (length-drop a xs) (omega (arith, C .from))))
 
-module _ {f g m n : ℕ} {w : List ℕ} (A : AlongAt f g m n w) where
+      clears : (q : ℕ) → q < m → In q (drop a xs) → Out q (drop (i + 1) xs) → Dec (q ≡ p) → getD (set w₁ (g * m + p) 0) (g * m + q) 0 ≡ 0
+      clears q l j o (yes z) = rw z (at-set g m w₁ p 0 b (omega (arith, inside g m to, frame-room (C .frame) area .room)))
+      clears q l j o (no ne) = zero-stays w₁ _ _ (C .zero q l j (rw next (out-cons q p (drop (i + 1) xs) ne o)))
+
+  -- past the last entry all are
+  pub clearing-done : length xs ≤ i → Along g m (drop a xs) w w₁
+  clearing-done h = record { frame = C .frame; zero = λ p b j. C .zero p b j (rw (drop-of-length-le xs {i = i} h) (out-nil p)); kept = C .kept }
+
+module _ {f g m a n : ℕ} {w : List ℕ} (A : AlongAt f g m a n w) where
   -- before the first entry nothing is cleared
-  pub along-none : Clearing g m 0 (list f m n w) w w
-  along-none = record { upto = omega arith; frame = frame-none; only = A .only }
+  pub along-none : Clearing g m a a (list f m n w) w w
+  along-none = clearing-none (omega (arith, A .upto, A .held .count))
 
-  module _ {i : ℕ} {w₁ : List ℕ} (C : Clearing g m i (list f m n w) w w₁) where
+  module _ {i : ℕ} {w₁ : List ℕ} (C : Clearing g m a i (list f m n w) w w₁) where
     -- the next entry of the list lies in the area
     pub along-room : i < n → f * m + i < length w₁
     along-room h = omega (arith, inside f m (A .from), A .held .few, A .area .room, C .frame .len)
@@ -116,19 +100,19 @@ module _ {f g m n : ℕ} {w : List ℕ} (A : AlongAt f g m n w) where
       along-to = omega (arith, inside g m (A .to), along-pin, A .area .room, C .frame .len)
 
       -- one more pin of the list is cleared
-      pub along-more : {w₂ : List ℕ} → w₂ ≡ set w₁ (g * m + p) 0 → Clearing g m (i + 1) (list f m n w) w w₂
+      pub along-more : {w₂ : List ℕ} → w₂ ≡ set w₁ (g * m + p) 0 → Clearing g m a (i + 1) (list f m n w) w w₂
       along-more ew = clearing-more C (A .area) (A .to) p (omega (arith, A .held .count)) (e ∙ holds-at held i h) along-pin ew
 
-    -- past the last pin of the list the column is clear
-    pub along-done : n ≤ i → Along g m w w₁
+    -- past the last pin of the list all are
+    pub along-done : n ≤ i → Along g m (drop a (list f m n w)) w w₁
     along-done h = clearing-done C (A .area) (A .to) (omega (arith, A .held .count))
 
 module _ {m : ℕ} {given w : List ℕ} (A : UnmarkAt m given w) where
   -- before the first given pin nothing is cleared
-  pub unmark-none : Clearing DONE m 0 given w w
-  unmark-none = record { upto = omega arith; frame = frame-none; only = A .only }
+  pub unmark-none : Clearing DONE m 0 0 given w w
+  unmark-none = clearing-none (omega arith)
 
-  module _ {i : ℕ} {w₁ : List ℕ} (C : Clearing DONE m i given w w₁) where
+  module _ {i : ℕ} {w₁ : List ℕ} (C : Clearing DONE m 0 i given w w₁) where
     module _ (h : i < length given) {p : ℕ} (e : p ≡ getD given i 0) where
       -- the next one is a pin of the area
       pub unmark-pin : p < m
@@ -139,163 +123,118 @@ module _ {m : ℕ} {given w : List ℕ} (A : UnmarkAt m given w) where
       unmark-to = omega (arith, unmark-pin, A .area .room, C .frame .len)
 
       -- one more given pin's mark is cleared
-      pub unmark-more : {w₂ : List ℕ} → w₂ ≡ set w₁ (DONE * m + p) 0 → Clearing DONE m (i + 1) given w w₂
+      pub unmark-more : {w₂ : List ℕ} → w₂ ≡ set w₁ (DONE * m + p) 0 → Clearing DONE m 0 (i + 1) given w w₂
       unmark-more ew = clearing-more C (A .area) (omega arith) p h e unmark-pin ew
 
     -- past the last no given pin is marked
-    pub unmark-done : length given ≤ i → Along DONE m w w₁
+    pub unmark-done : length given ≤ i → Along DONE m given w w₁
     unmark-done h = clearing-done C (A .area) (omega arith) h
 
--- ---- the traversal of a union
+-- ---- the front of a list without repeats
 
--- what a merge measures
-size-of : (J : Common) (is : List ℕ) {gates given records : List ℕ} → Shares gates given records J → sizeFor J is ≡ length (traverse (length (graphOf gates)) (graphOf gates) given (waitingOf (picked (groupsOf records) is) []))
-unfolding sizeFor
-size-of J is S = cc (named-picked J is (S .groups-same))
+once-front : (xs ys : List ℕ) → Once (xs ++ ys) → Once xs
+once-front [] ys k = nobody
+once-front (x ∷ xs) ys (one o k) = one (split (mem x xs) (λ e. true-false (in-append-left x xs ys e) o) (λ e. e)) (once-front xs ys k)
 
-module _ {m table : ℕ} {gates given records first second w : List ℕ} (A : SizeAt m table gates given records first second w) where
-  abbrev gs : List Group
-  gs = picked (groupsOf records) (first ++ second)
+once-back : (xs ys : List ℕ) → Once (xs ++ ys) → (p : ℕ) → In p ys → Out p xs
+once-back [] ys k p i = out-nil p
+once-back (x ∷ xs) ys (one o k) p i = out-cons p x xs (in-out p x (xs ++ ys) (in-append-right p xs ys i) o) (once-back xs ys k p i)
 
-  O : Opens m given w
-  O = union-opens (A .at)
+module _ (xs : List ℕ) (k : ℕ) (once : Once xs) where
+  seam : Once (take k xs ++ drop k xs)
+  seam = rw (take-append-drop k xs) once
 
-  -- the given pins may be marked
-  pub size-given : GivenAt m given w
-  size-given = given-at O {e = 0} touched-none
+  front-once : Once (take k xs)
+  front-once = once-front (take k xs) (drop k xs) seam
 
-  module _ {w₁ : List ℕ} (G : Given m given w w₁) where
-    kept : {names : List ℕ} → Names m table records names w → Names m table records names w₁
-    kept N = names-kept N (G .frame .len) (λ j h. G .frame .past refl j (omega (arith, N .behind)))
+  front-out : (p : ℕ) → In p (drop k xs) → Out p (take k xs)
+  front-out = once-back (take k xs) (drop k xs) seam
 
-    -- with the given pins marked the union's pins may wait
-    pub size-wait : BothAt m table records first second w₁
-    size-wait = record { area = opened-room O {e = 0} touched-none G; one = kept (union-first (A .at)); two = kept (union-second (A .at)); clear = opened-places O {e = 0} touched-none G }
+  back-out : (p : ℕ) → In p (take k xs) → Out p (drop k xs)
+  back-out p i = split (mem p (drop k xs)) (λ e. true-false i (front-out p e)) (λ e. e)
 
-    module _ {n : ℕ} {w₂ : List ℕ} (W : AllWait m gs w₁ w₂ n) where
-      F : First m n given gs w₂
-      F = first-stage O {e = 0} touched-none G W
+  all-out : (p : ℕ) → Out p (take k xs) → Out p (drop k xs) → Out p xs
+  all-out p a b = rw (take-append-drop k xs) at (out-append p (take k xs) (drop k xs) a b)
 
-      -- with its pins waiting a first stage could start
-      pub size-first : First (pinCount gates) n given gs w₂
-      size-first = rw (← A .at .pins) F
+  front-mem : (p : ℕ) → Out p (drop k xs) → mem p xs ≡ mem p (take k xs)
+  front-mem p o = split (mem p (take k xs)) (λ e. (rw (take-append-drop k xs) at (in-append-left p (take k xs) (drop k xs) e)) ∙ sym e) (λ e. all-out p e o ∙ sym e)
 
-      -- the context in which the union is traversed
-      abbrev pub unionContext : Context
-      unionContext = firstContext (A .at .passed) size-first
+module _ {f g m n : ℕ} {xs w w′ : List ℕ} (k : ℕ) (few : k ≤ n) (A : Along g m (drop k xs) w w′) (from : f < 16) (apart : f ≢ g) where
+  -- marks cleared behind the first k pins are the marks of these
+  pub marked-back : Marked f g m n xs w → Marked f g m k (take k xs) w′
+  marked-back M = record {
+    held = holds-take (holds-frame (M .held) (A .frame) (among-other f g apart) from) k few;
+    once = front-once xs k (M .once);
+    marks = record { mark = λ p h. split (mem p (drop k xs)) (λ i. A .zero p h i ∙ sym (ap bit (front-out xs k (M .once) p i))) (λ o. A .kept p h o ∙ M .marks .mark p h ∙ ap bit (front-mem xs k (M .once) p o)) };
+  }
 
-      set-is : unionContext .X ≡ setting neededRuns (A .K) (graphOf gates) given (waitingOf gs [])
-      set-is = first-setting (A .at .passed) size-first
+  -- and so are places
+  pub placed-back : Placed f g m n xs w → Placed f g m k (take k xs) w′
+  placed-back P =
+      let l : length (take k xs) ≡ k = length-take-le k xs (omega (arith, P .held .count)) in
+      record {
+        held = holds-take (holds-frame (P .held) (A .frame) (among-other f g apart) from) k few;
+        once = front-once xs k (P .once);
+        place = λ i h. let e : getD (take k xs) i 0 ≡ getD xs i 0 = getD-take k xs i 0 h in
+            A .kept (getD (take k xs) i 0) (rw e (P .held .pins i (omega arith))) (back-out xs k (P .once) (getD (take k xs) i 0) (in-getD (take k xs) i 0 (omega arith)))
+            ∙ ap (λ (p : ℕ). getD w (g * m + p) 0) e
+            ∙ P .place i (omega arith);
+        none = λ p h o. split (mem p (drop k xs)) (λ i. A .zero p h i) (λ d. A .kept p h d ∙ P .none p h (all-out xs k (P .once) p o d));
+      }
 
-      done-is : unionContext .X .done ≡ given
-      unfolding setting
-      done-is = ap (λ (X : Setting). X .done) set-is
+-- ---- what was listed, and what waits
 
-      waiting-is : unionContext .X .waiting ≡ waitingOf gs []
-      unfolding setting
-      waiting-is = ap (λ (X : Setting). X .waiting) set-is
+module _ {m n k n₀ k₀ : ℕ} {w : List ℕ} (A : BackAt m n k n₀ k₀ w) where
+  -- the marks may be cleared along the order
+  pub back-listed : AlongAt ORDER LISTED m k₀ k w
+  back-listed = record { area = A .both .area; from = omega arith; to = omega arith; apart = λ e. omega arith; upto = A .fewer-listed; held = A .both .listed .held }
 
-      -- the union's traversal may be made
-      pub size-traverse : TraverseAt unionContext m n gates w₂
-      size-traverse =
-          let B = first-begun (A .at .passed) size-first in
-          record {
-            begun = record {
-              base = record { area = F .area; size = B .base .size ∙ sym (A .at .pins); graph = B .base .graph; pair = B .base .pair ∙ ap (λ (i : ℕ). 2 * i) (sym (A .at .pins)) };
-              done = rw done-is (F .done);
-              waiting = rw waiting-is (F .waiting);
-            };
-            clear = F .fresh .listed;
-          }
+  module _ {w₁ : List ℕ} (L : Along LISTED m (drop k₀ (list ORDER m k w)) w w₁) where
+    waiting : Placed WAITING PLACE m n (list WAITING m n w₁) w₁
+    waiting = rw (← same) at kept
+      where
+        kept : Placed WAITING PLACE m n (list WAITING m n w) w₁
+        kept = placed-frame (A .both .waiting) (L .frame) refl refl (omega arith) (omega arith)
 
-      module _ {k : ℕ} {w₃ : List ℕ} (T : Traversed unionContext m w₂ w₃ k) where
-        room-3 : Room m w₃
-        room-3 = frame-room (T .frame) (F .area)
+        same : list WAITING m n w₁ ≡ list WAITING m n w
+        same = kept .held .is
 
-        -- the traversal's marks may be cleared along the order
-        pub size-unlist : AlongAt ORDER LISTED m k w₃
-        size-unlist = record {
-          area = room-3;
-          from = omega arith;
-          to = omega arith;
-          apart = λ e. omega arith;
-          held = holds-self (T .order);
-          only = rw (T .order .is) (marks-only (T .marks));
-        }
+    -- then the places along the waiting list
+    pub back-waiting : AlongAt WAITING PLACE m n₀ n w₁
+    back-waiting = record { area = frame-room (L .frame) (A .both .area); from = omega arith; to = omega arith; apart = λ e. omega arith; upto = A .fewer-wait; held = waiting .held }
 
-        module _ {w₄ : List ℕ} (L : Along LISTED m w₃ w₄) where
-          held-4 : Holds WAITING m n (waitingOf gs []) w₄
-          held-4 = holds-frame (holds-frame (W .now .held) (T .frame) refl (omega arith)) (L .frame) refl (omega arith)
+    -- the first ones are left
+    pub back : {w₂ : List ℕ} → Along PLACE m (drop n₀ (list WAITING m n w₁)) w₁ w₂ → Back m n₀ k₀ w w₂
+    back {w₂} W = record {
+      frame = frame-then (frame-more refl (L .frame)) (frame-more refl (W .frame));
+      waiting = rw waits (placed-back {f = WAITING} n₀ (A .fewer-wait) W (omega arith) (λ e. omega arith) waiting);
+      listed = rw orders (marked-frame (marked-back {f = ORDER} k₀ (A .fewer-listed) L (omega arith) (λ e. omega arith) (A .both .listed)) (W .frame) refl refl (omega arith) (omega arith));
+    }
+      where
+        waits : list WAITING m n₀ w ≡ take n₀ (list WAITING m n w₁)
+        waits = sym (list-take WAITING m n w n₀ (A .fewer-wait)) ∙ ap (take n₀) (sym (placed-frame (A .both .waiting) (L .frame) refl refl (omega arith) (omega arith) .held .is))
 
-          only-4 : Only PLACE m (waitingOf gs []) w₄
-          only-4 = only-frame (only-frame (record { zero = W .now .none }) (T .frame) refl (omega arith)) (L .frame) refl (omega arith)
+        orders : list ORDER m k₀ w ≡ take k₀ (list ORDER m k w)
+        orders = sym (list-take ORDER m k w k₀ (A .fewer-listed))
 
-          -- then the places may be cleared along the waiting list
-          pub size-unwait : AlongAt WAITING PLACE m n w₄
-          size-unwait = record {
-            area = frame-room (L .frame) room-3;
-            from = omega arith;
-            to = omega arith;
-            apart = λ e. omega arith;
-            held = holds-self held-4;
-            only = rw (held-4 .is) only-4;
-          }
+-- ---- all of it
 
-          module _ {w₅ : List ℕ} (U : Along PLACE m w₄ w₅) where
-            -- then the marks of the given pins may be cleared
-            pub size-unmark : UnmarkAt m given w₅
-            size-unmark = record {
-              area = frame-room (U .frame) (frame-room (L .frame) room-3);
-              pins = O .given-named;
-              only = only-frame (only-frame (only-frame (marks-only (F .done)) (T .frame) refl (omega arith)) (L .frame) refl (omega arith)) (U .frame) refl (omega arith);
-            }
+module _ {m n k : ℕ} {given w : List ℕ} (A : CloseAt m n k given w) where
+  -- all that waits and is listed may be taken back
+  pub close-back : BackAt m n k 0 0 w
+  close-back = record { both = A .both; fewer-wait = omega arith; fewer-listed = omega arith }
 
-            module _ {w₆ : List ℕ} (D : Along DONE m w₅ w₆) where
-              abbrev touches : List ℕ
-              touches = DONE ∷ WAITING ∷ PLACE ∷ ORDER ∷ LISTED ∷ STACK ∷ PHASE ∷ []
+  module _ {w₁ : List ℕ} (B : Back m 0 0 w w₁) where
+    -- then the marks of the given pins
+    pub close-unmark : UnmarkAt m given w₁
+    close-unmark = record { area = frame-room (B .frame) (A .both .area); pins = A .pins }
 
-              all : Frame touches m w w₆
-              all = frame-then (frame-more refl (G .frame)) (frame-then (frame-more refl (W .frame)) (frame-then (frame-more refl (T .frame)) (frame-then (frame-more refl (L .frame)) (frame-then (frame-more refl (U .frame)) (frame-more refl (D .frame))))))
-
-              still : {f : ℕ} → Clear f m w → among touches f ≡ false → f < 16 → Clear f m w₆
-              still c e h = clear-frame c all e h
-
-              size-leaves : Leaves m table w w₆
-              size-leaves =
-                  let I = A .at .idle in
-                  record {
-                    len = all .len;
-                    idle = record {
-                      area = frame-room all (I .area);
-                      done = D .clear;
-                      heads = still (I .heads) refl (omega arith);
-                      places = clear-frame (U .clear) (D .frame) refl (omega arith);
-                      fresh = record {
-                        listed = clear-frame (clear-frame (L .clear) (U .frame) refl (omega arith)) (D .frame) refl (omega arith);
-                        levels = still (I .fresh .levels) refl (omega arith);
-                        reverse = still (I .fresh .reverse) refl (omega arith);
-                        starts = still (I .fresh .starts) refl (omega arith);
-                        ends = still (I .fresh .ends) refl (omega arith);
-                        spare = still (I .fresh .spare) refl (omega arith);
-                      };
-                      cells = still (I .cells) refl (omega arith);
-                      marks = still (I .marks) refl (omega arith);
-                      zeros = λ j h. all .past refl (16 * m + j) (omega arith) ∙ I .zeros j h;
-                    };
-                    past = λ j h. all .past refl j (omega (arith, A .at .room));
-                  }
-
-              listed-is : k ≡ length (traverse (length (graphOf gates)) (graphOf gates) given (waitingOf gs []))
-              unfolding setting
-              listed-is =
-                  sym (T .order .count)
-                  ∙ ap (λ (X : Setting). length (X .order)) set-is
-                  ∙ length-reverse (traverse (length (graphOf gates)) (graphOf gates) given (waitingOf gs []))
-
-              -- the traversal's size is the union's, and the area is idle again
-              pub measured : Measured m table gates given records first second w k w₆
-              measured = record {
-                leaves = size-leaves;
-                size = λ J S. listed-is ∙ sym (size-of J (first ++ second) S);
-                few = T .order .few;
-              }
+    -- then nothing is left
+    pub closed : {w₂ : List ℕ} → Along DONE m given w₁ w₂ → Closed m w w₂
+    unfolding list
+    closed D = record {
+      frame = frame-then (frame-more refl (B .frame)) (frame-more refl (D .frame));
+      done = record { zero = λ p h. split (mem p given) (λ i. D .zero p h i) (λ o. D .kept p h o ∙ marks-frame (A .done) (B .frame) refl (omega arith) .mark p h ∙ ap bit o) };
+      listed = clear-frame (record { zero = λ p h. B .listed .marks .mark p h ∙ ap bit (out-nil p) }) (D .frame) refl (omega arith);
+      places = clear-frame (record { zero = λ p h. B .waiting .none p h (out-nil p) }) (D .frame) refl (omega arith);
+    }

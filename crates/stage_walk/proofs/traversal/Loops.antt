@@ -17,7 +17,7 @@ use Rattle.columns.proofs.Lists.Entries.{frame-list, holds-at, holds-pin, holds
 use Rattle.columns.proofs.Lists.Marks.{marked-none, marked-self, marked-frame}
 use Rattle.columns.proofs.Lists.Places.{placed-frame}
 use Rattle.stage_walk.specs.Stands.{Context, Begun, Reads}
-use Rattle.stage_walk.specs.Machine.{Item, item, rest, finish, bottom, some, none, items, seenIn, Going, toGo, Went, Stepped, VisitAt, Visited, TraverseAt, Swept, Traversed}
+use Rattle.stage_walk.specs.Machine.{Item, item, rest, finish, bottom, some, none, items, seenIn, Going, toGo, Went, Stepped, VisitAt, Visited, TraverseAt, GoOnAt, Swept, WentOn, Traversed}
 use Rattle.stage_walk.proofs.Contexts.{order-is}
 use Rattle.stage_walk.proofs.Gates.{reads-frame}
 
@@ -97,25 +97,20 @@ module _ {C : Context} {m : ℕ} {gates w : List ℕ} {n p : ℕ} (A : VisitAt C
 
 -- ---- along the waiting pins
 
-module _ {C : Context} {m n : ℕ} {gates w₀ : List ℕ} (A : TraverseAt C m n gates w₀) where
-  -- at the start no waiting pin is visited
-  pub swept-none : Swept C m n gates w₀ 0 w₀ 0
-  unfolding items list traverse setting
-  swept-none = record {
-    frame = frame-none;
-    begun = A .begun;
-    going = record { reads = begun-reads (A .begun); listed = marked-none (A .clear .zero); stack = none };
-    same = sym (ap (λ (Y : Setting). Y .seen) (C .is));
-  }
+module _ {C : Context} {m n from k₀ : ℕ} {gates w₀ : List ℕ} (A : GoOnAt C m n from k₀ gates w₀) where
+  -- at the start no further waiting pin is visited
+  pub swept-none : Swept C m n gates w₀ from w₀ k₀
+  unfolding items
+  swept-none = record { frame = frame-none; begun = A .begun; going = record { reads = begun-reads (A .begun); listed = A .listed; stack = none }; same = A .same }
 
   module _ {i : ℕ} {w : List ℕ} {k : ℕ} (U : Swept C m n gates w₀ i w k) where
     abbrev waits : Holds WAITING m n (C .X .waiting) w
     waits = U .begun .waiting .held
 
     -- at the end the order is the traversal, with marks at its pins
-    pub traversed : n ≤ i → Traversed C m w₀ w k
+    pub went-on : n ≤ i → WentOn C m w₀ w k
     unfolding thread
-    traversed h = record { frame = U .frame; order = rw is at (U .going .listed .held); marks = rw is at (U .going .listed .marks) }
+    went-on h = record { frame = U .frame; listed = rw is at (U .going .listed) }
       where
         none-left : drop i (C .X .waiting) ≡ []
         none-left = drop-of-length-le (C .X .waiting) {i = i} (omega (arith, waits .count))
@@ -144,3 +139,14 @@ module _ {C : Context} {m n : ℕ} {gates w₀ : List ℕ} (A : TraverseAt C m n
         going = v .going;
         same = rw (add-one i, v .lists) (rw next at (U .same));
       }
+
+-- ---- from the first waiting pin
+
+-- with no pin listed it goes on from the first
+pub from-none : {C : Context} {m n : ℕ} {gates w : List ℕ} → TraverseAt C m n gates w → GoOnAt C m n 0 0 gates w
+unfolding list traverse setting
+from-none {C} A = record { begun = A .begun; upto = omega arith; listed = marked-none (A .clear .zero); same = sym (ap (λ (Y : Setting). Y .seen) (C .is)) }
+
+-- and lists the whole order
+pub traversed : {C : Context} {m : ℕ} {w w′ : List ℕ} {k : ℕ} → WentOn C m w w′ k → Traversed C m w w′ k
+traversed U = record { frame = U .frame; order = U .listed .held; marks = U .listed .marks }

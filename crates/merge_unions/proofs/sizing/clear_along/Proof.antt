@@ -8,10 +8,10 @@ use Rattle.merge_unions.proofs.sizing.clear_along.Statement.{statement}
 use Rattle.merge_unions.proofs.sizing.clear_along.Tie as tie
 
 abbrev Inv-loop : tie.InvT-loop
-Inv-loop work₀ m n f g i₀ work i = Clearing g m i (list f m n work₀) work₀ work
+Inv-loop work₀ m a n f g i₀ work i = Clearing g m a i (list f m n work₀) work₀ work
 
 abbrev μ-loop : tie.MeasureT-loop
-μ-loop work₀ m n f g i₀ work i = n - i
+μ-loop work₀ m a n f g i₀ work i = n - i
 
 loop-holds : tie.Need-loop-holds Inv-loop μ-loop
 loop-holds c = along-none (c .before .pre)

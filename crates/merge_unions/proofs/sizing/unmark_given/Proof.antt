@@ -10,7 +10,7 @@ use Rattle.merge_unions.proofs.sizing.unmark_given.Statement.{statement
 use Rattle.merge_unions.proofs.sizing.unmark_given.Tie as tie
 
 abbrev Inv-loop : tie.InvT-loop
-Inv-loop given work₀ m i₀ work i = Clearing DONE m i given work₀ work
+Inv-loop given work₀ m i₀ work i = Clearing DONE m 0 i given work₀ work
 
 abbrev μ-loop : tie.MeasureT-loop
 μ-loop given work₀ m i₀ work i = length given - i
