@@ -30,7 +30,7 @@ pub fn build_one_stage(
     requires { ⌜ Counted tally × Some (λ C. StageAt C m (height .0) (rowAt (height .0) 1) n rule (tally .spent) (room tally) (now gates) (now stage) (now work) (now words)) ⌝ }
     ensures { λ r. ⌜ Every (λ C. StageAt C m (height .0) (rowAt (height .0) 1) n rule (tally .spent) (room tally) (now (gates .entry)) (now (stage .entry)) (now (work .entry)) (now (words .entry))) (λ C. Staged C m (tally .spent) (room tally) (now (stage .entry)) (now (work .entry)) (now (words .entry)) r (now (stage .exit)) (now (work .exit)) (now (words .exit))) ⌝ }
 {
-    let walk = prepare(gates, work, m, n);
+    let walk = prepare(gates, work, m, n, height);
     let listed = walk.listed;
     let q = fill_tree(gates, stage, work, m, n, listed, walk.top, height);
     let r = finish(
@@ -46,6 +46,6 @@ pub fn build_one_stage(
         rule,
         tally,
     );
-    forget(work, m, listed);
+    forget(work, m, walk);
     r
 }

@@ -21,7 +21,8 @@ ghost use Rattle.columns.specs.Lists.{list};
 ghost use Rattle.rules.specs.Inside.Some.{Some, Every};
 ghost use Rattle.stage_levels.specs.Levels.{Becomes, LevelAt, LevelsAt, Levels, WaitsAt, LiftAt, LowerAt, ReverseAt};
 
-fn higher(a: usize, b: usize) -> usize
+// The greater of two.
+pub fn higher(a: usize, b: usize) -> usize
     ensures { λ r. ⌜ r ≡ max a b ⌝ }
 {
     if a < b {

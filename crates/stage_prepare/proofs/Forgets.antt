@@ -15,14 +15,13 @@ use Rattle.rules.proofs.Lists.Members.{true-false, eqb-true, in-reverse, or-tru
 use Rattle.rules.proofs.Walk.Reverse.{out-sub}
 use Rattle.columns.specs.Area.{Frame, among, col, put}
 use Rattle.columns.specs.Fields.{ORDER, LEVEL, STARTS, ENDS, REVERSE, LISTED}
-use Rattle.columns.specs.Lists.{list, bit, Holds, Marks, Clear}
+use Rattle.columns.specs.Lists.{list, bit, Holds, Clear}
 use Rattle.columns.proofs.Area.Columns.{getD-col, at-set}
 use Rattle.columns.proofs.Area.Frames.{frame-none, frame-then, frame-more, frame-set, frame-front, frame-room}
 use Rattle.columns.proofs.Lists.Entries.{frame-list, holds-at, holds-pin, holds-self, holds-frame}
 use Rattle.columns.proofs.Lists.Clears.{zero-stays, clear-frame, front-clear}
-use Rattle.stage_walk.specs.Stands.{Context, Reversed, Set}
-use Rattle.stage_prepare.specs.Ranking.{Beyond}
-use Rattle.stage_prepare.specs.Prepared.{atPins, ForgetAt, Unlisted, Forgot}
+use Rattle.stage_walk.specs.Stands.{Context}
+use Rattle.stage_prepare.specs.Prepared.{Prepared, atPins, UnlistAt, ForgetAt, Unlisted, Forgot}
 use Rattle.stage_walk.proofs.Contexts.{order-is}
 use Rattle.stage_levels.proofs.Laws.Order.{level-out}
 use Rattle.stage_levels.proofs.Laws.Lifting.{reverse-out}
@@ -39,7 +38,7 @@ each P a b c f e = elim (or-true (eqb f LISTED) (among (LEVEL ∷ REVERSE ∷ []
 
 -- ---- pin after pin
 
-module _ {m k : ℕ} {w₀ : List ℕ} (A : ForgetAt m k w₀) where
+module _ {m k : ℕ} {w₀ : List ℕ} (A : UnlistAt m k w₀) where
   abbrev xs : List ℕ
   xs = list ORDER m k w₀
 
@@ -95,22 +94,22 @@ module _ {m k : ℕ} {w₀ : List ℕ} (A : ForgetAt m k w₀) where
 
 -- ---- the whole
 
-module _ {m k : ℕ} {w : List ℕ} (A : ForgetAt m k w) (u : List ℕ) (U : Unlisted m k k w u) (v w′ : List ℕ) (e₁ : v ≡ put STARTS m u (replicate k 0)) (e₂ : w′ ≡ put ENDS m v (replicate k 0)) where
+module _ {m k r : ℕ} {w : List ℕ} (A : ForgetAt m k r w) (u : List ℕ) (U : Unlisted m k k w u) (v w′ : List ℕ) (e₁ : v ≡ put STARTS m u (replicate r 0)) (e₂ : w′ ≡ put ENDS m v (replicate r 0)) where
   first : Frame (STARTS ∷ []) m u v
-  first = rw e₁ (frame-front STARTS k 0 (A .order .few) (omega arith) refl)
+  first = rw e₁ (frame-front STARTS r 0 (A .few) (omega arith) refl)
 
   second : Frame (ENDS ∷ []) m v w′
-  second = rw e₂ (frame-front ENDS k 0 (A .order .few) (omega arith) refl)
+  second = rw e₂ (frame-front ENDS r 0 (A .few) (omega arith) refl)
 
   both : Frame (STARTS ∷ ENDS ∷ []) m u w′
   both = frame-then (frame-more refl first) (frame-more refl second)
 
   pins : (f : ℕ) → among atPins f ≡ true → Clear f m u
   unfolding mem
-  pins f e = record { zero = λ p h. U .zeros f e p h (rw (drop-of-length-le (list ORDER m k w) {i = k} (omega (arith, A .order .count))) refl) }
+  pins f e = record { zero = λ p h. U .zeros f e p h (rw (drop-of-length-le (list ORDER m k w) {i = k} (omega (arith, A .pins .order .count))) refl) }
 
   room : 16 * m + 512 ≤ length u
-  room = frame-room (U .frame) (A .area) .room
+  room = frame-room (U .frame) (A .pins .area) .room
 
   -- with the two fronts cleared the walks have left no trace
   pub forgot : Forgot m w w′
@@ -119,39 +118,45 @@ module _ {m k : ℕ} {w : List ℕ} (A : ForgetAt m k w) (u : List ℕ) (U : Unl
     listed = clear-frame (pins LISTED refl) both refl (omega arith);
     levels = clear-frame (pins LEVEL refl) both refl (omega arith);
     reverse = clear-frame (pins REVERSE refl) both refl (omega arith);
-    starts = clear-frame (front-clear STARTS m k u v e₁ (omega (arith, room)) (A .order .few) (λ p a b. U .frame .cell STARTS refl (omega arith) p b ∙ A .beyond p a b .0)) second refl (omega arith);
-    ends = front-clear ENDS m k v w′ e₂ (omega (arith, room, first .len)) (A .order .few) (λ p a b. first .cell ENDS refl (omega arith) p b ∙ U .frame .cell ENDS refl (omega arith) p b ∙ A .beyond p a b .1);
+    starts = clear-frame (front-clear STARTS m r u v e₁ (omega (arith, room)) (A .few) (λ p a b. U .frame .cell STARTS refl (omega arith) p b ∙ A .beyond p a b .0)) second refl (omega arith);
+    ends = front-clear ENDS m r v w′ e₂ (omega (arith, room, first .len)) (A .few) (λ p a b. first .cell ENDS refl (omega arith) p b ∙ U .frame .cell ENDS refl (omega arith) p b ∙ A .beyond p a b .1);
   }
 
 -- ---- when it may be asked for: what `prepare` left stands
 
 -- what `prepare` left may be forgotten
-pub forget-at : {C : Context} {m n k : ℕ} {gates w : List ℕ} → Set C m n k gates w → Reversed C m w → Marks LISTED m (C .X .order) w → Beyond m k w → ForgetAt m k w
-forget-at {C} {m} {n} {k} {gates} {w} S R M b = record {
-  area = S .begun .base .area;
-  order = holds-self (S .ordered .order);
-  outside = λ f e p h o. each (λ g. getD w (g * m + p) 0 ≡ 0) (M .mark p h ∙ ap bit (out p o)) (at LEVEL p h ∙ rw (S .levelled .levels) (level-out C p (pin p h) (unseen p o)))
-      (at REVERSE p h ∙ rw (R .reverse) (reverse-out C p (pin p h) (unseen p o))) f e;
-  beyond = b;
+pub forget-at : {C : Context} {m n k top r : ℕ} {gates w₀ w : List ℕ} → Prepared C m n gates w₀ w k top r → ForgetAt m k r w
+forget-at {C} {m} {n} {k} {top} {r} {gates} {w₀} {w} P = record {
+  pins = record {
+    area = P .set .begun .base .area;
+    order = holds-self (P .set .ordered .order);
+    outside = λ f e p h o. each (λ g. getD w (g * m + p) 0 ≡ 0) (P .marks .mark p h ∙ ap bit (out p o)) (at LEVEL p h ∙ rw (P .set .levelled .levels) (level-out C p (pin p h) (unseen p o)))
+        (at REVERSE p h ∙ rw (P .reversed .reverse) (reverse-out C p (pin p h) (unseen p o))) f e;
+  };
+  few = P .few;
+  beyond = P .beyond;
 }
   where
     out : (p : ℕ) → Out p (list ORDER m k w) → Out p (C .X .order)
-    out p o = rw (S .ordered .order .is) at o
+    out p o = rw (P .set .ordered .order .is) at o
 
     unseen : (p : ℕ) → Out p (list ORDER m k w) → Out p (C .X .seen)
     unseen p o = out-sub (C .X .seen) (C .X .order) (λ q i. rw (order-is C) (in-reverse q (C .X .seen) i)) p (out p o)
 
     pin : (p : ℕ) → p < m → p < length (C .X .g)
-    pin p h = rw (S .begun .base .size) h
+    pin p h = rw (P .set .begun .base .size) h
 
     at : (f p : ℕ) → p < m → getD w (f * m + p) 0 ≡ getD (col f m w) p 0
     at f p h = sym (getD-col f m w p h)
 
 -- and it still does after what names none of its columns
-pub forget-frame : {m k : ℕ} {w : List ℕ} → ForgetAt m k w → {fs : List ℕ} {w′ : List ℕ} → Frame fs m w w′ → among fs ORDER ≡ false → among fs LEVEL ≡ false → among fs STARTS ≡ false → among fs ENDS ≡ false → among fs REVERSE ≡ false → among fs LISTED ≡ false → ForgetAt m k w′
-forget-frame {m} {k} {w} A {fs} {w′} fr a b c d e g = record {
-  area = frame-room fr (A .area);
-  order = holds-self (holds-frame (A .order) fr a (omega arith));
-  outside = λ f t p h o. each (λ i. getD w (i * m + p) 0 ≡ 0 → getD w′ (i * m + p) 0 ≡ 0) (λ z. fr .cell LISTED g (omega arith) p h ∙ z) (λ z. fr .cell LEVEL b (omega arith) p h ∙ z) (λ z. fr .cell REVERSE e (omega arith) p h ∙ z) f t (A .outside f t p h (rw (frame-list fr ORDER k a (omega arith)) at o));
+pub forget-frame : {m k r : ℕ} {w : List ℕ} → ForgetAt m k r w → {fs : List ℕ} {w′ : List ℕ} → Frame fs m w w′ → among fs ORDER ≡ false → among fs LEVEL ≡ false → among fs STARTS ≡ false → among fs ENDS ≡ false → among fs REVERSE ≡ false → among fs LISTED ≡ false → ForgetAt m k r w′
+forget-frame {m} {k} {r} {w} A {fs} {w′} fr a b c d e g = record {
+  pins = record {
+    area = frame-room fr (A .pins .area);
+    order = holds-self (holds-frame (A .pins .order) fr a (omega arith));
+    outside = λ f t p h o. each (λ i. getD w (i * m + p) 0 ≡ 0 → getD w′ (i * m + p) 0 ≡ 0) (λ z. fr .cell LISTED g (omega arith) p h ∙ z) (λ z. fr .cell LEVEL b (omega arith) p h ∙ z) (λ z. fr .cell REVERSE e (omega arith) p h ∙ z) f t (A .pins .outside f t p h (rw (frame-list fr ORDER k a (omega arith)) at o));
+  };
+  few = A .few;
   beyond = λ v l h. (fr .cell STARTS c (omega arith) v h ∙ A .beyond v l h .0, fr .cell ENDS d (omega arith) v h ∙ A .beyond v l h .1);
 }

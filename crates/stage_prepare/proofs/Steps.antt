@@ -1,5 +1,5 @@
 -- From one walk to the next: what each leaves is what the next asks, and together they make a stage's setting. Assumes nothing.
-use mathlib.Core.Path.{refl, _∙_}
+use mathlib.Core.Path.{_≡_, refl, _∙_}
 use mathlib.Core.List.{List, _∷_}
 use Prim.Native.Nat.{ℕ}
 use native.Mathlib.Omega.{arith}
@@ -19,10 +19,10 @@ use Rattle.stage_walk.proofs.traversal.Loops.{begun-reads, begun-frame}
 use Rattle.stage_levels.proofs.Laws.Rising.{along-frame}
 
 -- at the start the traversal may be made
-pub step-traverse : {C : Context} {m n : ℕ} {gates w : List ℕ} → PrepareAt C m n gates w → TraverseAt C m n gates w
+pub step-traverse : {C : Context} {m n K : ℕ} {gates w : List ℕ} → PrepareAt C m n K gates w → TraverseAt C m n gates w
 step-traverse A = record { begun = A .begun; clear = A .fresh .listed }
 
-module _ {C : Context} {m n k : ℕ} {gates w w₁ : List ℕ} (A : PrepareAt C m n gates w) (T : Traversed C m w w₁ k) where
+module _ {C : Context} {m n k K : ℕ} {gates w w₁ : List ℕ} (A : PrepareAt C m n K gates w) (T : Traversed C m w w₁ k) where
   begun₁ : Begun C m n gates w₁
   begun₁ = begun-frame (A .begun) (T .frame) refl refl refl
 
@@ -49,8 +49,9 @@ module _ {C : Context} {m n k : ℕ} {gates w w₁ : List ℕ} (A : PrepareAt C 
       begun₃ = begun-frame (A .begun) frame₃ refl refl refl
 
       -- behind the reverse levels the ranked lists
-      pub step-lists : ListsAt C m k w₃
-      step-lists = record {
+      pub step-lists : {most : ℕ} → most ≡ K → ListsAt C m k most w₃
+      step-lists e = record {
+        height = e ∙ A .height;
         area = begun₃ .base .area;
         size = begun₃ .base .size;
         ordered = along-frame along₂ (R .frame) refl refl .ordered;
@@ -61,19 +62,20 @@ module _ {C : Context} {m n k : ℕ} {gates w w₁ : List ℕ} (A : PrepareAt C 
         spare = clear-frame (A .fresh .spare) frame₃ refl (omega arith);
       }
 
-      module _ {w₄ : List ℕ} (S : Lists C m k w₃ w₄) where
+      module _ {w₄ : List ℕ} {levels : ℕ} (S : Lists C m w₃ w₄ levels) where
         -- together they are what a stage has before its first placing
-        pub step-all : Prepared C m n gates w w₄ k top
+        pub step-all : Prepared C m n gates w w₄ k top levels
         step-all = record {
           frame = frame-then (frame-more refl frame₃) (frame-more refl (S .frame));
           set = record {
             begun = begun-frame begun₃ (S .frame) refl refl refl;
-            ordered = record { order = holds-frame (step-lists .ordered .order) (S .frame) refl (omega arith) };
-            levelled = record { levels = frame-col (S .frame) LEVEL refl (omega arith) ∙ step-lists .levelled .levels };
+            ordered = record { order = holds-frame (step-lists refl .ordered .order) (S .frame) refl (omega arith) };
+            levelled = record { levels = frame-col (S .frame) LEVEL refl (omega arith) ∙ step-lists refl .levelled .levels };
             listed = S .listed;
           };
           reversed = record { reverse = frame-col (S .frame) REVERSE refl (omega arith) ∙ R .is };
           marks = marks-frame (marks-frame (marks-frame (T .marks) (L .column .frame) refl (omega arith)) (R .frame) refl (omega arith)) (S .frame) refl (omega arith);
           most = L .most;
+          few = S .few;
           beyond = S .beyond;
         }

@@ -102,6 +102,7 @@ module _ {m : ℕ} {gates given waiting w : List ℕ} (A : StartAt m gates given
       it = C;
       at = record {
         prepare = record {
+          height = refl;
           begun = record {
             base = record { area = frame-room frame area; size = size; graph = refl; pair = right .pair };
             done = marks-frame (G .marks) (W .frame) refl (omega arith);
@@ -141,11 +142,11 @@ unfolding cellsHolding count
 no-cells K x = rw take-nil
 
 -- with nothing placed the needed pins may be listed
-pub needed-at : {C : Context} {m n k top : ℕ} {gates w w′ : List ℕ} → Started C m n gates w → Prepared C m n gates w w′ k top → NeededAt C [] m n k gates w′
+pub needed-at : {C : Context} {m n k top levels : ℕ} {gates w w′ : List ℕ} → Started C m n gates w → Prepared C m n gates w w′ k top levels → NeededAt C [] m n k gates w′
 needed-at {C} S P = step-needed (P .set) []
     (λ x h. P .frame .cell CELLS refl (omega arith) x h ∙ S .cells x h ∙ sym (no-cells (C .X .K) x))
     (marks-none (λ p h. P .frame .cell MARK refl (omega arith) p h ∙ S .marks p h))
 
 -- the needed pins name no column that `forget` asks about
-pub end-at : {C : Context} {m n k top c : ℕ} {pl gates w w′ w″ : List ℕ} → Prepared C m n gates w w′ k top → Needed C pl m w′ w″ c → ForgetAt m k w″
-end-at P N = forget-frame (forget-at (P .set) (P .reversed) (P .marks) (P .beyond)) (N .frame) refl refl refl refl refl refl
+pub end-at : {C : Context} {m n k top levels c : ℕ} {pl gates w w′ w″ : List ℕ} → Prepared C m n gates w w′ k top levels → Needed C pl m w′ w″ c → ForgetAt m k levels w″
+end-at P N = forget-frame (forget-at P) (N .frame) refl refl refl refl refl refl

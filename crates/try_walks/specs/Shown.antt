@@ -47,11 +47,12 @@ pub record Waiting (m : ℕ) (w w′ : List ℕ) (n : ℕ) : Type 0 where
 
 -- a stage's beginning in a clear area, with nothing placed or marked
 pub record Started (C : Context) (m n : ℕ) (gates w : List ℕ) : Type 0 where
-  pub prepare : PrepareAt C m n gates w
+  pub prepare : PrepareAt C m n 6 gates w
   pub cells : (p : ℕ) → p < m → getD w (CELLS * m + p) 0 ≡ 0
   pub marks : (p : ℕ) → p < m → getD w (MARK * m + p) 0 ≡ 0
 
-pub record PrintAt (m k c : ℕ) (w : List ℕ) : Type 0 where
+pub record PrintAt (m k levels c : ℕ) (w : List ℕ) : Type 0 where
   pub room : 16 * m ≤ length w
   pub listed : k ≤ m
+  pub lists : levels ≤ m
   pub needed : c ≤ m

@@ -1,5 +1,7 @@
 // The walks over small graphs, printed; the file stdout has what they must be.
+use cells::Height;
 use columns::DONE;
+use columns::ENDS;
 use columns::LEVEL;
 use columns::NEEDED;
 use columns::ORDER;
@@ -70,14 +72,30 @@ fn start(gates: &[u32], given: &[u32], waiting: &[u32], work: &mut [u32], m: usi
     list(work, m, waiting)
 }
 
-// The first k numbers of the order and of the lists, the c needed pins, and levels by pin.
-fn print(work: &[u32], m: usize, k: usize, c: usize)
-    requires { ⌜ PrintAt m k c (now work) ⌝ }
+// Where the lists below `levels` end, of k pins at most.
+fn in_lists(work: &[u32], m: usize, k: usize, levels: usize) -> usize
+    requires { ⌜ 8 * m ≤ length (now work) ⌝ }
+    requires { ⌜ levels ≤ m ⌝ }
+    ensures { λ r. ⌜ r ≤ k ⌝ }
+{
+    if levels == 0 {
+        return 0;
+    }
+    let end = number_at(work, m, levels - 1, ENDS);
+    if k < end {
+        return k;
+    }
+    end
+}
+
+// The k pins of the order, the pins in lists, the c needed pins, and levels by pin.
+fn print(work: &[u32], m: usize, k: usize, levels: usize, c: usize)
+    requires { ⌜ PrintAt m k levels c (now work) ⌝ }
 {
     row(b"order", work, m, ORDER, k);
     row(b"levels", work, m, LEVEL, m);
     row(b"reverse", work, m, REVERSE, m);
-    row(b"lists", work, m, RANKED, k);
+    row(b"lists", work, m, RANKED, in_lists(work, m, k, levels));
     row(b"needed", work, m, NEEDED, c);
 }
 
@@ -86,12 +104,12 @@ fn show(name: &[u8], gates: &[u32], given: &[u32], waiting: &[u32], work: &mut [
 {
     let m = gates.len() / 2;
     let n = start(gates, given, waiting, work, m);
-    let walk = prepare(gates, work, m, n);
+    let walk = prepare(gates, work, m, n, Height(6));
     let k = walk.listed;
     let c = needed(gates, work, m, n, k);
     write_all(1, name);
-    print(work, m, k, c);
-    forget(work, m, k);
+    print(work, m, k, walk.levels, c);
+    forget(work, m, walk);
 }
 
 const NONE: u32 = 4294967295;

@@ -28,10 +28,10 @@ built-is C room = ap (λ (X : Setting). finish X room (filledPlan X)) (C .is)
 
 module _ {C : Context} {m K half n : ℕ} {asked : Asked} {at room : ℕ} {gates pl w words : List ℕ} (A : StageAt C m K half n asked at room gates pl w words) where
   -- at a stage's start the walks may be made
-  pub stage-prepare : PrepareAt C m n gates w
-  stage-prepare = record { begun = A .begun; fresh = A .fresh }
+  pub stage-prepare : PrepareAt C m n K gates w
+  stage-prepare = record { begun = A .begun; height = A .height; fresh = A .fresh }
 
-  module _ {k top : ℕ} {w₁ : List ℕ} (P : Prepared C m n gates w w₁ k top) where
+  module _ {k top levels : ℕ} {w₁ : List ℕ} (P : Prepared C m n gates w w₁ k top levels) where
     tail-prepared : (j : ℕ) → getD w₁ (16 * m + j) 0 ≡ getD w (16 * m + j) 0
     tail-prepared j = P .frame .past refl (16 * m + j) (omega arith)
 
@@ -67,8 +67,8 @@ module _ {C : Context} {m K half n : ℕ} {asked : Asked} {at room : ℕ} {gates
 
       module _ {e : Outcome} {pl₂ w₃ words₁ : List ℕ} (E : Finished C m at room (finish (C .X) room pl₁) pl₁ w₂ words e pl₂ w₃ words₁) where
         -- behind these the walks may be forgotten
-        pub stage-forget : ForgetAt m k w₃
-        stage-forget = forget-frame (forget-frame (forget-at (P .set) (P .reversed) (P .marks) (P .beyond)) (F .kept .frame) refl refl refl refl refl refl) (E .changed .frame) refl refl refl refl refl refl
+        pub stage-forget : ForgetAt m k levels w₃
+        stage-forget = forget-frame (forget-frame (forget-at P) (F .kept .frame) refl refl refl refl refl refl) (E .changed .frame) refl refl refl refl refl refl
 
         module _ {w₄ : List ℕ} (G : Forgot m w₃ w₄) where
           is-built : finish (C .X) room pl₁ ≡ built C room

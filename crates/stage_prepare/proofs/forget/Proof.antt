@@ -6,10 +6,10 @@ use Rattle.stage_prepare.proofs.forget.Statement.{statement}
 use Rattle.stage_prepare.proofs.forget.Tie as tie
 
 unlist-requires : tie.Need-unlist-requires
-unlist-requires c κs = c .before .before .pre
+unlist-requires c κs = c .before .before .pre .pins
 
 clear-front-requires : tie.Need-clear-front-requires
-clear-front-requires c κs = let s = c .before .before .before .before .before .before .pre in omega (arith, s .order .few, s .area .room, c .before .before .before .unlist .ensures .frame .len)
+clear-front-requires c κs = let s = c .before .before .before .before .before .before .pre in omega (arith, s .few, s .pins .area .room, c .before .before .before .unlist .ensures .frame .len)
 
 clear-front-requires-2 : tie.Need-clear-front-requires-2
 clear-front-requires-2 c κs = search needs

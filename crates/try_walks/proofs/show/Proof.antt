@@ -22,7 +22,7 @@ write-all-requires : tie.Need-write-all-requires
 write-all-requires c κs = search needs
 
 print-requires : tie.Need-print-requires
-print-requires c κs = let s = c .before .before .before .before .before .before .before .before .before .before .before .before .start .ensures in let P = c .before .before .before .before .before .before .before .before .prepare .ensures .all (s .it) (s .at .prepare) in let N = c .before .before .before .before .needed .ensures .all (record { C = s .it; pl = [] }) (needed-at (s .at) P) in record { room = omega (arith, P .set .begun .base .area .room, N .frame .len); listed = P .set .ordered .order .few; needed = N .list .few }
+print-requires c κs = let s = c .before .before .before .before .before .before .before .before .before .before .before .before .start .ensures in let P = c .before .before .before .before .before .before .before .before .prepare .ensures .all (s .it) (s .at .prepare) in let N = c .before .before .before .before .needed .ensures .all (record { C = s .it; pl = [] }) (needed-at (s .at) P) in record { room = omega (arith, P .set .begun .base .area .room, N .frame .len); listed = P .set .ordered .order .few; lists = P .few; needed = N .list .few }
 
 forget-requires : tie.Need-forget-requires
 forget-requires c κs = let s = c .before .before .before .before .before .before .before .before .before .before .before .before .before .before .start .ensures in let P = c .before .before .before .before .before .before .before .before .before .before .prepare .ensures .all (s .it) (s .at .prepare) in end-at P (c .before .before .before .before .before .before .needed .ensures .all (record { C = s .it; pl = [] }) (needed-at (s .at) P))
