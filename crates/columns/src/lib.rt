@@ -44,7 +44,7 @@ pub const NEEDED: usize = 9;
 // 1 for a pin that the traversal listed.
 pub const LISTED: usize = 10;
 
-// The traversal's stack: pins; afterwards the realised endpoints in the order first realised (a list).
+// The traversal's stack: pins; then the pins noted for rule 6, and afterwards the realised endpoints in the order first realised (lists).
 pub const STACK: usize = 11;
 
 // The traversal's stack: phases; afterwards the needed waiting pins (a list).

@@ -1,16 +1,18 @@
 -- Rules 2 to 7 on an empty stage. pl is the stage, w the work area. Assumes nothing.
 use mathlib.Core.Path.{_≡_}
-use mathlib.Core.List.{List, map}
+use mathlib.Core.List.{List, [], map}
 use Prim.Native.Nat.{ℕ, _+_, _*_, _≤_, min}
 use lib.ListN.{length, getD}
 use Rattle.rules.specs.Traversal.{levelAt, greatest}
 use Rattle.rules.specs.Placing.{neededOf, filledPlan}
 use Rattle.rules.specs.Inside.Lean.{blank, leanPlan}
-use Rattle.columns.specs.Fields.{CELLS, NEEDED, MARK, ONES, PINS}
-use Rattle.columns.specs.Lists.{Holds, Clear}
+use Rattle.rules.specs.Inside.Plans.{Fair}
+use Rattle.columns.specs.Fields.{CELLS, NEEDED, STACK, MARK, ONES, PINS}
+use Rattle.columns.specs.Lists.{Holds, Marks, Clear}
 use Rattle.stage_walk.specs.Stands.{Context, Set, Tally}
 use Rattle.stage_tree.specs.Bits.{Standing}
-use Rattle.stage_loop.specs.Loop.{Kept, Plan}
+use Rattle.stage_needed.specs.Needed.{Asking}
+use Rattle.stage_loop.specs.Loop.{Changed}
 
 -- a height, and one of its levels
 pub record RowAt (K h : ℕ) : Type 0 where
@@ -20,15 +22,21 @@ pub record RowAt (K h : ℕ) : Type 0 where
 
 -- the empty plan, and the level to start at
 pub record GrowAt (C : Context) (m n k h K : ℕ) (gates pl w : List ℕ) : Type 0 where
-  pub plan : Plan C m n k h gates pl w
+  pub set : Set C m n k gates w
+  pub clear : Marks MARK m [] w
+  pub tally : Tally C m pl w
+  pub fair : Fair (C .X) h pl
   pub first : pl ≡ blank (C .X)
   pub level : h ≡ min (greatest (map (levelAt (C .X)) (C .X .order)) 0) (C .X .K)
+  pub low : 2 ≤ h
   pub height : K ≡ C .X .K
 
-pub record Grown (C : Context) (m : ℕ) (w pl′ w′ : List ℕ) : Type 0 where
+-- s pins are noted
+pub record Grown (C : Context) (m : ℕ) (w : List ℕ) (s : ℕ) (pl′ w′ : List ℕ) : Type 0 where
   pub is : pl′ ≡ leanPlan (C .X)
-  pub kept : Kept m w w′
+  pub kept : Changed m w w′
   pub tally : Tally C m pl′ w′
+  pub asking : Asking C m STACK s w′
 
 -- nothing is placed or counted yet; top is the greatest level
 pub record FillAt (C : Context) (m n k top K : ℕ) (gates pl w : List ℕ) : Type 0 where
@@ -45,6 +53,6 @@ pub record FillAt (C : Context) (m n k top K : ℕ) (gates pl w : List ℕ) : Ty
 pub record FilledTree (C : Context) (m : ℕ) (gates pl w : List ℕ) (q : ℕ) (pl′ w′ : List ℕ) : Type 0 where
   pub is : pl′ ≡ filledPlan (C .X)
   pub size : length pl′ ≡ length pl
-  pub kept : Kept m w w′
+  pub kept : Changed m w w′
   pub stands : Standing C m 1 gates pl′ w′
   pub needed : Holds NEEDED m q (neededOf (C .X) pl′) w′

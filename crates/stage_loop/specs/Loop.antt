@@ -10,9 +10,10 @@ use Rattle.rules.specs.Placing.{placed}
 use Rattle.rules.specs.Inside.Lean.{wanted, recount, lean, onward}
 use Rattle.rules.specs.Inside.Plans.{Fair, Placeable, Going}
 use Rattle.columns.specs.Area.{Frame}
-use Rattle.columns.specs.Fields.{CELLS, NEEDED, MARK, TAIL, ONES, PINS}
+use Rattle.columns.specs.Fields.{CELLS, NEEDED, STACK, MARK, TAIL, ONES, PINS}
 use Rattle.columns.specs.Lists.{Marks}
-use Rattle.stage_walk.specs.Stands.{Context, Set, Tally, ranked}
+use Rattle.stage_walk.specs.Stands.{Context, Begun, Levelled, Listed, Tally, ranked}
+use Rattle.stage_needed.specs.Needed.{Asking}
 use Rattle.stage_tree.specs.Search.{Cursor}
 use Rattle.stage_loop.specs.declared.lean.Step.{Step}
 use Rattle.stage_loop.specs.declared.lean.Step.the-variants.{On, Stop}
@@ -22,9 +23,21 @@ pub record Kept (m : ℕ) (w w′ : List ℕ) : Type 0 where
   pub frame : Frame (CELLS ∷ NEEDED ∷ TAIL ∷ []) m w w′
   pub rest : (j : ℕ) → 16 * m ≤ j → j ≢ 16 * m + ONES → j ≢ 16 * m + PINS → getD w′ j 0 ≡ getD w j 0
 
--- a plan with its counts while level h is filled; n pins wait, k are listed, none is marked
+-- or the noted pins too
+pub record Changed (m : ℕ) (w w′ : List ℕ) : Type 0 where
+  pub frame : Frame (CELLS ∷ NEEDED ∷ STACK ∷ TAIL ∷ []) m w w′
+  pub rest : (j : ℕ) → 16 * m ≤ j → j ≢ 16 * m + ONES → j ≢ 16 * m + PINS → getD w′ j 0 ≡ getD w j 0
+
+-- what the loop reads: the k noted pins stand for the order
+pub record NotedSet (C : Context) (m n k : ℕ) (gates w : List ℕ) : Type 0 where
+  pub begun : Begun C m n gates w
+  pub levelled : Levelled C m w
+  pub listed : Listed C m w
+  pub asking : Asking C m STACK k w
+
+-- a plan with its counts while level h is filled; n pins wait, k are noted, none is marked
 pub record Plan (C : Context) (m n k h : ℕ) (gates pl w : List ℕ) : Type 0 where
-  pub set : Set C m n k gates w
+  pub set : NotedSet C m n k gates w
   pub clear : Marks MARK m [] w
   pub tally : Tally C m pl w
   pub fair : Fair (C .X) h pl
@@ -46,7 +59,7 @@ pub record Counted (C : Context) (m : ℕ) (pl w w′ : List ℕ) (c : ℕ) : Ty
 -- ---- rule 7: a bound that has room, if there is one
 
 pub record SettleAt (C : Context) (m n k half most : ℕ) (gates pl w : List ℕ) : Type 0 where
-  pub set : Set C m n k gates w
+  pub set : NotedSet C m n k gates w
   pub clear : Marks MARK m [] w
   pub tally : Tally C m pl w
   pub cap : half ≡ levelOneSize (C .X .K)
@@ -78,7 +91,7 @@ pub record Tried (C : Context) (m h p q most : ℕ) (pl w pl′ w′ : List ℕ)
 -- ---- one turn at level l + 1, with the candidates at i to e left
 
 pub record At (C : Context) (m n k l wd half : ℕ) (gates pl w : List ℕ) (i e b : ℕ) : Type 0 where
-  pub set : Set C m n k gates w
+  pub set : NotedSet C m n k gates w
   pub clear : Marks MARK m [] w
   pub tally : Tally C m pl w
   pub going : Going (C .X) (suc l) (ranked m w i e) b pl

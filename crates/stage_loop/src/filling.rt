@@ -2,7 +2,10 @@
 use crate::lean::lean;
 use cells::Height;
 use cells::wide;
+use columns::STACK;
+use stage_needed::counted;
 use stage_needed::needed;
+use stage_needed::note;
 ghost use mathlib.Core.Path.{_≡_};
 ghost use Prim.Native.Nat.{min};
 ghost use Rattle.rules.specs.Cells.{rowAt};
@@ -28,7 +31,7 @@ fn row_at(height: Height, h: usize) -> usize
     height.row_at(h as u32)
 }
 
-// From level h of an empty stage down. Levels 1 and 0 have no turn of their own.
+// From level h of an empty stage down, 2 at least. Returns how many pins are noted.
 fn grow(
     gates: &[u32],
     stage: &mut [u32],
@@ -38,20 +41,20 @@ fn grow(
     k: usize,
     h: usize,
     height: Height,
-)
+) -> usize
     requires { ⌜ Some (λ C. GrowAt C m n k h (height .0) (now gates) (now stage) (now work)) ⌝ }
-    ensures { λ _. ⌜ Every (λ C. GrowAt C m n k h (height .0) (now (gates .entry)) (now (stage .entry)) (now (work .entry))) (λ C. Grown C m (now (work .entry)) (now (stage .exit)) (now (work .exit))) ⌝ }
+    ensures { λ s. ⌜ Every (λ C. GrowAt C m n k h (height .0) (now (gates .entry)) (now (stage .entry)) (now (work .entry))) (λ C. Grown C m (now (work .entry)) s (now (stage .exit)) (now (work .exit))) ⌝ }
 {
-    if h < 2 {
-        return;
-    }
-    let most = needed(gates, work, m, n, k);
+    let s = note(gates, work, m, n, k);
+    let most = counted(gates, work, m, n, STACK, s);
     let w = row_at(height, h);
     let half = height.level_one_size();
-    lean(gates, stage, work, m, n, k, h - 1, w, half, most);
+    lean(gates, stage, work, m, n, s, h - 1, w, half, most);
+    s
 }
 
-// The plan of the tree, with n pins waiting, k listed and `top` the greatest level. Returns how many pins are needed then.
+// The plan of the tree, with n pins waiting, k listed and `top` the greatest level. Returns how many pins are needed then. Levels 1 and 0
+// have no turn of their own.
 pub fn fill_tree(
     gates: &[u32],
     stage: &mut [u32],
@@ -66,6 +69,9 @@ pub fn fill_tree(
     ensures { λ q. ⌜ Every (λ C. FillAt C m n k top (height .0) (now (gates .entry)) (now (stage .entry)) (now (work .entry))) (λ C. FilledTree C m (now (gates .entry)) (now (stage .entry)) (now (work .entry)) q (now (stage .exit)) (now (work .exit))) ⌝ }
 {
     let h = start_level(top, height);
-    grow(gates, stage, work, m, n, k, h, height);
-    needed(gates, work, m, n, k)
+    if h < 2 {
+        return needed(gates, work, m, n, k);
+    }
+    let s = grow(gates, stage, work, m, n, k, h, height);
+    counted(gates, work, m, n, STACK, s)
 }

@@ -1,14 +1,16 @@
 // Rules 2 to 7: level after level, the ranked pins of the level go into its lowest empty cells while level 1 keeps room. The needed
-// pins are counted again only where an earlier count leaves no room: placing never adds one.
+// pins are counted again only where an earlier count leaves no room: placing never adds one, so that the k pins noted in STACK stand for the
+// order.
 use columns::CELLS;
 use columns::ENDS;
 use columns::RANKED;
+use columns::STACK;
 use columns::STARTS;
 use columns::is_in;
 use columns::number_at;
 use columns::pin_at;
 use graph::Pin;
-use stage_needed::needed;
+use stage_needed::counted;
 use stage_tree::first_empty;
 use stage_tree::place_bit;
 use stage_tree::purge_bit;
@@ -47,7 +49,7 @@ fn settle(
     if room(work, m, half, most) {
         return Bound::AtMost(most);
     }
-    let count = needed(gates, work, m, n, k);
+    let count = counted(gates, work, m, n, STACK, k);
     if room(work, m, half, count) {
         return Bound::AtMost(count);
     }

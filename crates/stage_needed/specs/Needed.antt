@@ -1,17 +1,17 @@
 -- Needed pins (rule 6) as the columns give them: what is read of a plan, the list under way, and what is left. Assumes nothing.
 use mathlib.Core.Path.{_≡_}
-use mathlib.Core.Bool.{Bool, not, _&&_}
-use mathlib.Core.List.{List, [], _∷_}
-use Prim.Native.Nat.{ℕ, _+_, _*_, _<_}
+use mathlib.Core.Bool.{Bool, false, not, _&&_}
+use mathlib.Core.List.{List, [], _∷_, _++_}
+use Prim.Native.Nat.{ℕ, _+_, _*_, _<_, _≤_}
 use lib.Dec.{eqb}
-use lib.ListN.{length, getD, drop}
-use Rattle.rules.specs.Lists.{mem, insertAll, gather, In}
+use lib.ListN.{length, getD, take}
+use Rattle.rules.specs.Lists.{mem, keep, insertAll, distinct, gather, In, Sub}
 use Rattle.rules.specs.Traversal.{levelAt}
 use Rattle.rules.specs.Placing.{treeOf}
-use Rattle.rules.specs.Inside.Lean.{cellsHolding, lacks, wanted}
-use Rattle.columns.specs.Area.{Room, Frame}
-use Rattle.columns.specs.Fields.{CELLS, NEEDED, PLACE, MARK}
-use Rattle.columns.specs.Lists.{list, Holds, Marks, Marked}
+use Rattle.rules.specs.Inside.Lean.{cellsHolding, lacks, lacking, wanted}
+use Rattle.columns.specs.Area.{Room, Frame, among}
+use Rattle.columns.specs.Fields.{CELLS, NEEDED, STACK, PLACE, MARK}
+use Rattle.columns.specs.Lists.{list, span, Holds, Marks, Marked}
 use Rattle.stage_walk.specs.Stands.{Context, Begun, Ordered, Levelled, Reads}
 
 -- which pins wait, their levels, and how many cells hold them
@@ -51,7 +51,55 @@ pub record NeedAt (C : Context) (pl : List ℕ) (m : ℕ) (gates w : List ℕ) (
   pub reads : Reads C m gates w
   pub listed : In p (C .X .seen)
 
+-- what is read of a listed pin to tell whether it lacks anything before anything is placed
+pub record LackAt (C : Context) (m : ℕ) (gates w : List ℕ) (p : ℕ) : Type 0 where
+  pub reads : Reads C m gates w
+  pub levelled : Levelled C m w
+  pub waits : (q : ℕ) → q < m → not (eqb (getD w (PLACE * m + q) 0) 0) ≡ mem q (C .X .waiting)
+  pub listed : In p (C .X .seen)
+
+-- s pins are noted
+pub record NotePinAt (C : Context) (m : ℕ) (gates w : List ℕ) (s p : ℕ) : Type 0 where
+  pub lack : LackAt C m gates w p
+  pub few : s < m
+
+pub record NotedPin (C : Context) (m : ℕ) (w : List ℕ) (s p : ℕ) (w′ : List ℕ) (r : ℕ) : Type 0 where
+  pub frame : Frame (STACK ∷ []) m w w′
+  pub more : r ≤ s + 1
+  pub held : (xs : List ℕ) → Holds STACK m s xs w → Holds STACK m r (xs ++ keep (lacking (C .X)) (p ∷ [])) w′
+
+pub record NoteAt (C : Context) (m n k : ℕ) (gates w : List ℕ) : Type 0 where
+  pub begun : Begun C m n gates w
+  pub ordered : Ordered C m k w
+  pub levelled : Levelled C m w
+
+-- the first i pins of the order have been looked at
+pub record Noting (C : Context) (m i : ℕ) (w₀ w : List ℕ) (s : ℕ) : Type 0 where
+  pub frame : Frame (STACK ∷ []) m w₀ w
+  pub few : s ≤ i
+  pub held : Holds STACK m s (keep (lacking (C .X)) (take i (C .X .order))) w
+
+-- the k pins of column f stand for the order: of every plan they make the same pins needed
+pub record Asking (C : Context) (m f k : ℕ) (w : List ℕ) : Type 0 where
+  pub column : f < 16
+  pub apart : among (NEEDED ∷ MARK ∷ []) f ≡ false
+  pub held : Holds f m k (list f m k w) w
+  pub listed : Sub (list f m k w) (C .X .seen)
+  pub same : (pl : List ℕ) → distinct (gather (lacks (C .X) (treeOf (C .X) pl)) (list f m k w)) ≡ wanted (C .X) pl
+
+pub record Noted (C : Context) (m : ℕ) (w w′ : List ℕ) (s : ℕ) : Type 0 where
+  pub frame : Frame (STACK ∷ []) m w w′
+  pub asking : Asking C m STACK s w′
+
 -- the counts of a plan stand in their column, and no pin is marked
+pub record CountAt (C : Context) (pl : List ℕ) (m n f k : ℕ) (gates w : List ℕ) : Type 0 where
+  pub begun : Begun C m n gates w
+  pub asking : Asking C m f k w
+  pub levelled : Levelled C m w
+  pub cells : (x : ℕ) → x < m → getD w (CELLS * m + x) 0 ≡ cellsHolding (C .X .K) pl x
+  pub unmarked : Marks MARK m [] w
+
+-- the same over the order itself
 pub record NeededAt (C : Context) (pl : List ℕ) (m n k : ℕ) (gates w : List ℕ) : Type 0 where
   pub begun : Begun C m n gates w
   pub ordered : Ordered C m k w
@@ -59,11 +107,11 @@ pub record NeededAt (C : Context) (pl : List ℕ) (m n k : ℕ) (gates w : List 
   pub cells : (x : ℕ) → x < m → getD w (CELLS * m + x) 0 ≡ cellsHolding (C .X .K) pl x
   pub unmarked : Marks MARK m [] w
 
--- the listed pins from i on have yet to ask
-pub record Collecting (C : Context) (pl : List ℕ) (m i : ℕ) (w₀ w : List ℕ) (r : ℕ) : Type 0 where
+-- the pins from i on have yet to ask
+pub record Collecting (C : Context) (pl : List ℕ) (m f k i : ℕ) (w₀ w : List ℕ) (r : ℕ) : Type 0 where
   pub frame : Frame (NEEDED ∷ MARK ∷ []) m w₀ w
   pub now : Marked NEEDED MARK m r (list NEEDED m r w) w
-  pub same : insertAll (gather (lacks (C .X) (treeOf (C .X) pl)) (drop i (C .X .order))) (list NEEDED m r w) ≡ wanted (C .X) pl
+  pub same : insertAll (gather (lacks (C .X) (treeOf (C .X) pl)) (span f m i k w₀)) (list NEEDED m r w) ≡ wanted (C .X) pl
 
 pub record Collected (C : Context) (pl : List ℕ) (m : ℕ) (w w′ : List ℕ) (r : ℕ) : Type 0 where
   pub frame : Frame (NEEDED ∷ MARK ∷ []) m w w′

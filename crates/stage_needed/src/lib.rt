@@ -5,20 +5,24 @@ use columns::MARK;
 use columns::NEEDED;
 use columns::ORDER;
 use columns::PLACE;
+use columns::STACK;
 use columns::enlist;
 use columns::get;
 use columns::is_in;
 use columns::pin_at;
+use columns::push;
 use columns::set_field;
 use graph::Pin;
 use stage_walk::Next;
 use stage_walk::followed;
+ghost use mathlib.Core.Path.{_≡_};
 ghost use mathlib.Core.List.{[], _∷_};
 ghost use Rattle.rules.specs.Lists.{keep};
 ghost use Rattle.rules.specs.Placing.{treeOf, asked};
-ghost use Rattle.rules.specs.Inside.Lean.{lacks};
+ghost use Rattle.rules.specs.Inside.Lean.{lacks, lacking};
+ghost use Rattle.rules.specs.Inside.Some.{Some, Every};
 ghost use Rattle.stage_walk.specs.Stands.{SomePlan, EveryPlan};
-ghost use Rattle.stage_needed.specs.Needed.{missing, Needs, AskAt, ItselfAt, NeedAt, NeededAt, Collected, UnmarkAt, Unmarked, Needed};
+ghost use Rattle.stage_needed.specs.Needed.{missing, Needs, AskAt, ItselfAt, NeedAt, LackAt, NotePinAt, NotedPin, NoteAt, Noted, CountAt, NeededAt, Collected, UnmarkAt, Unmarked, Needed};
 
 // Pin p behind the needed list of n pins, if it has level 0 and is not placed. Returns how many are listed.
 fn ask(work: &mut [u32], m: usize, n: usize, p: Pin) -> usize
@@ -77,15 +81,71 @@ fn need(gates: &[u32], work: &mut [u32], m: usize, n: usize, p: Pin) -> usize
     }
 }
 
-// The same for each of the k listed pins.
-fn collect(gates: &[u32], work: &mut [u32], m: usize, n: usize, k: usize) -> usize
-    requires { ⌜ SomePlan (λ C pl. NeededAt C pl m n k (now gates) (now work)) ⌝ }
-    ensures { λ r. ⌜ EveryPlan (λ C pl. NeededAt C pl m n k (now (gates .entry)) (now (work .entry))) (λ C pl. Collected C pl m (now (work .entry)) (now (work .exit)) r) ⌝ }
+// Does pin p lack anything before anything is placed?
+fn lacking(gates: &[u32], work: &[u32], m: usize, p: Pin) -> bool
+    requires { ⌜ Some (λ C. LackAt C m (now gates) (now work) (p .0)) ⌝ }
+    ensures { λ r. ⌜ Every (λ C. LackAt C m (now (gates .entry)) (now (work .entry)) (p .0)) (λ C. r ≡ lacking (C .X) (p .0)) ⌝ }
+{
+    let h = get(work, m, p, LEVEL);
+    if h == 1 {
+        return true;
+    }
+    if h == 0 {
+        return is_in(work, m, p, PLACE);
+    }
+    let first = followed(gates, work, m, p, 0);
+    match first {
+        Next::Nothing => false,
+        Next::To(a) => {
+            if get(work, m, a, LEVEL) == 0 {
+                return true;
+            }
+            let second = followed(gates, work, m, p, 1);
+            match second {
+                // Where a pin is followed, another is.
+                Next::Nothing => false,
+                Next::To(b) => get(work, m, b, LEVEL) == 0,
+            }
+        }
+    }
+}
+
+// Pin p behind the s noted pins, if it lacks anything. Returns how many are noted.
+fn note_pin(gates: &[u32], work: &mut [u32], m: usize, s: usize, p: Pin) -> usize
+    requires { ⌜ Some (λ C. NotePinAt C m (now gates) (now work) s (p .0)) ⌝ }
+    ensures { λ r. ⌜ Every (λ C. NotePinAt C m (now (gates .entry)) (now (work .entry)) s (p .0)) (λ C. NotedPin C m (now (work .entry)) s (p .0) (now (work .exit)) r) ⌝ }
+{
+    if lacking(gates, work, m, p) {
+        push(work, m, s, STACK, p);
+        return s + 1;
+    }
+    s
+}
+
+// Of the k listed pins those that lack anything before anything is placed, noted in STACK. Returns how many they are.
+pub fn note(gates: &[u32], work: &mut [u32], m: usize, n: usize, k: usize) -> usize
+    requires { ⌜ Some (λ C. NoteAt C m n k (now gates) (now work)) ⌝ }
+    ensures { λ r. ⌜ Every (λ C. NoteAt C m n k (now (gates .entry)) (now (work .entry))) (λ C. Noted C m (now (work .entry)) (now (work .exit)) r) ⌝ }
+{
+    let mut s = 0;
+    let mut i = 0;
+    while i < k {
+        let p = pin_at(work, m, i, ORDER);
+        s = note_pin(gates, work, m, s, p);
+        i += 1;
+    }
+    s
+}
+
+// What the k pins of column f make needed.
+fn collect(gates: &[u32], work: &mut [u32], m: usize, n: usize, f: usize, k: usize) -> usize
+    requires { ⌜ SomePlan (λ C pl. CountAt C pl m n f k (now gates) (now work)) ⌝ }
+    ensures { λ r. ⌜ EveryPlan (λ C pl. CountAt C pl m n f k (now (gates .entry)) (now (work .entry))) (λ C pl. Collected C pl m (now (work .entry)) (now (work .exit)) r) ⌝ }
 {
     let mut r = 0;
     let mut i = 0;
     while i < k {
-        let p = pin_at(work, m, i, ORDER);
+        let p = pin_at(work, m, i, f);
         r = need(gates, work, m, r, p);
         i += 1;
     }
@@ -105,12 +165,21 @@ fn unmark(work: &mut [u32], m: usize, n: usize)
     }
 }
 
-// The needed pins of the plan whose counts are in CELLS, with n pins waiting and k listed. Returns how many they are.
+// The needed pins of the plan whose counts are in CELLS, with n pins waiting, by the k pins of column f, which stand for the order. Returns
+// how many they are.
+pub fn counted(gates: &[u32], work: &mut [u32], m: usize, n: usize, f: usize, k: usize) -> usize
+    requires { ⌜ SomePlan (λ C pl. CountAt C pl m n f k (now gates) (now work)) ⌝ }
+    ensures { λ r. ⌜ EveryPlan (λ C pl. CountAt C pl m n f k (now (gates .entry)) (now (work .entry))) (λ C pl. Needed C pl m (now (work .entry)) (now (work .exit)) r) ⌝ }
+{
+    let r = collect(gates, work, m, n, f, k);
+    unmark(work, m, r);
+    r
+}
+
+// The same by the k listed pins.
 pub fn needed(gates: &[u32], work: &mut [u32], m: usize, n: usize, k: usize) -> usize
     requires { ⌜ SomePlan (λ C pl. NeededAt C pl m n k (now gates) (now work)) ⌝ }
     ensures { λ r. ⌜ EveryPlan (λ C pl. NeededAt C pl m n k (now (gates .entry)) (now (work .entry))) (λ C pl. Needed C pl m (now (work .entry)) (now (work .exit)) r) ⌝ }
 {
-    let r = collect(gates, work, m, n, k);
-    unmark(work, m, r);
-    r
+    counted(gates, work, m, n, ORDER, k)
 }

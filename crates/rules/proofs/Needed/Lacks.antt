@@ -9,12 +9,12 @@ use lib.Dec.{eqb, ltb, leb, lt→ltb, le→leb, leb→le}
 use lib.ListN.{length, getD}
 use borrow.Author.Tests.{ltb-true, ltb-false}
 use Rattle.rules.specs.Cells.{empty}
-use Rattle.rules.specs.Lists.{mem, keep, distinct, gather, In, Out, Sub, nobody}
+use Rattle.rules.specs.Lists.{mem, keep, distinct, isNil, gather, In, Out, Sub, nobody}
 use Rattle.rules.specs.Graph.{below}
 use Rattle.rules.specs.Traversal.{Setting, levelAt}
 use Rattle.rules.specs.Placing.{asked, asks, needed, treeOf, reverseOf, neededOf}
 use Rattle.rules.specs.Ending.{inNeed, untouched}
-use Rattle.rules.specs.Inside.Lean.{lacks, wanted, lowWaiting, highWaiting}
+use Rattle.rules.specs.Inside.Lean.{lacks, lacking, noted, wanted, lowWaiting, highWaiting}
 use Rattle.rules.proofs.Lists.Members.{split, T→true, true→T, true-false, and-true, in-here, in-there, in-nil, in-keep, keep-in, in-distinct, distinct-in, in-gather, gather-in}
 use Rattle.rules.specs.Loops.{start}
 use Rattle.rules.proofs.Walk.Reverse.{out-sub, nat, reached}
@@ -39,6 +39,19 @@ keep-ext f g (x ∷ xs) h =
     let t : keep f xs ≡ keep g xs = keep-ext f g xs (λ y i. h y (in-there y x xs i)) in
     let e : f x ≡ g x = h x (in-here x xs) in
     split (g x) (λ d. let c : f x ≡ true = e ∙ d in rw (c, d, keep, t)) (λ d. let c : f x ≡ false = e ∙ d in rw (c, d, keep, t))
+
+-- entries that give nothing may be left out
+gather-keep : (t : ℕ → Bool) (f : ℕ → List ℕ) (xs : List ℕ) → ((x : ℕ) → t x ≡ false → f x ≡ []) → gather f (keep t xs) ≡ gather f xs
+unfolding gather keep
+gather-keep t f [] h = refl
+gather-keep t f (x ∷ xs) h = split (t x) (λ e. rw (e, keep, gather, gather-keep t f xs h)) (λ e. rw (e, keep, h x e, gather-keep t f xs h))
+
+-- what is part of an empty list is empty
+sub-nil : (xs ys : List ℕ) → Sub xs ys → not (isNil ys) ≡ false → xs ≡ []
+unfolding isNil
+sub-nil [] ys h e = refl
+sub-nil (x ∷ xs) [] h e = in-nil x (h x (in-here x xs))
+sub-nil (x ∷ xs) (y ∷ ys) h e = true-false refl e
 
 -- two tests that pass in the same cases are the same
 pub same-truth : (a b : Bool) → (a ≡ true → b ≡ true) → (b ≡ true → a ≡ true) → a ≡ b
@@ -76,6 +89,16 @@ module _ (X : Setting) where
       split (mem x tr)
       (λ d. let b : mem x tr2 ≡ true = h x d in true-false (and-true (eqb (levelAt X x) 0) (not (mem x tr2)) (k .1) .1) (rw b))
       (λ d. in-keep _ x (below (X .g) (X .done) p) (k .0) (rw (and-true (eqb (levelAt X x) 0) (not (mem x tr2)) (k .1) .0, d)))
+
+  -- what a pin lacks, it lacks before anything is placed
+  lacks-falls : (tr : List ℕ) (p : ℕ) → Sub (lacks X tr p) (lacks X [] p)
+  unfolding lacks mem
+  lacks-falls tr p x e = split (mem p tr) (λ d. in-nil x (rw (d, lacks) at e)) (λ d. asked-falls [] tr (λ q i. in-nil q i) p (levelAt X p) x (rw (d, lacks) at e))
+
+  -- so the noted pins make the same pins needed as the whole order, in the same order
+  pub noted-wanted : (pl : List ℕ) → distinct (gather (lacks X (treeOf X pl)) (noted X)) ≡ wanted X pl
+  unfolding wanted noted lacking
+  noted-wanted pl = ap distinct (gather-keep (lacking X) (lacks X (treeOf X pl)) (X .order) (λ p e. sub-nil (lacks X (treeOf X pl) p) (lacks X [] p) (lacks-falls (treeOf X pl) p) e))
 
   -- a needed pin is asked for by an unplaced one
   pub wanted-in : (pl : List ℕ) (x : ℕ) → In x (wanted X pl) → (p : ℕ) × In p (X .order) × Out p (treeOf X pl) × In x (asked X (treeOf X pl) p (levelAt X p))

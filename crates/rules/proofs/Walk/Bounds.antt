@@ -1,15 +1,13 @@
 -- Reverse levels stay low as pins hand them down; and the needed pins one listed pin after another. Assumes nothing.
 use Prim.Native.Nat.{ℕ, zero, suc, _≤_, max}
-use mathlib.Core.Path.{_≡_, refl}
+use mathlib.Core.Path.{_≡_}
 use mathlib.Core.Logic.{inl, inr}
 use mathlib.Core.List.{List, [], _∷_}
 use native.Mathlib.Omega.{arith}
 use lib.ListN.{getD, set, replicate}
-use Rattle.rules.specs.Lists.{insertAll, distinct, gather}
+use Rattle.rules.specs.Lists.{insertAll, gather}
 use Rattle.rules.specs.Graph.{Node, below}
-use Rattle.rules.specs.Traversal.{raise, lift, Setting}
-use Rattle.rules.specs.Placing.{treeOf}
-use Rattle.rules.specs.Inside.Lean.{lacks, wanted}
+use Rattle.rules.specs.Traversal.{raise, lift}
 use Rattle.rules.proofs.Walk.Reverse.{nat}
 use Rattle.rules.proofs.Tree.Loads.{set-either}
 use Rattle.rules.proofs.Lists.Members.{insertAll-append}
@@ -38,11 +36,6 @@ pub none-low : (n : ℕ) → Low 0 (replicate n 0)
 none-low zero q = omega arith
 none-low (suc n) zero = omega arith
 none-low (suc n) (suc q) = none-low n q
-
--- the needed pins, one listed pin after another
-pub wanted-first : (X : Setting) (pl : List ℕ) → wanted X pl ≡ insertAll (gather (lacks X (treeOf X pl)) (X .order)) []
-unfolding wanted distinct
-wanted-first X pl = refl
 
 -- one more listed pin puts what it asks for behind the others
 pub wanted-next : (f : ℕ → List ℕ) (p : ℕ) (ps zs : List ℕ) → insertAll (gather f (p ∷ ps)) zs ≡ insertAll (gather f ps) (insertAll (f p) zs)

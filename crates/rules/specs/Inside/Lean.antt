@@ -5,7 +5,7 @@ use mathlib.Core.Bool.{Bool, true, false, not, _&&_}
 use mathlib.Core.List.{List, [], _∷_, _++_, map}
 use lib.Dec.{leb, ltb, eqb}
 use lib.ListN.{length, getD, take, replicate}
-use Rattle.rules.specs.Lists.{Found, nothing, found, mem, keep, distinct, count, gather}
+use Rattle.rules.specs.Lists.{Found, nothing, found, mem, keep, distinct, count, isNil, gather}
 use Rattle.rules.specs.Cells.{empty, filled, width, levelOneSize, stageSize, row}
 use Rattle.rules.specs.Traversal.{Setting, levelAt, greatest, reverseLevels}
 use Rattle.rules.specs.Placing.{asked, treeOf, cellAt, placed}
@@ -54,6 +54,13 @@ lacks X tr p = elim (mem p tr) [ true ↦ [] | false ↦ asked X tr p (levelAt X
 
 unfoldable pub wanted : Setting → List ℕ → List ℕ
 wanted X pl = distinct (gather (lacks X (treeOf X pl)) (X .order))
+
+-- the pins of the order that lack something before anything is placed: none other ever does
+unfoldable pub lacking : Setting → ℕ → Bool
+lacking X p = not (isNil (lacks X [] p))
+
+unfoldable pub noted : Setting → List ℕ
+noted X = keep (lacking X) (X .order)
 
 -- 7. room at level 1 for b needed pins
 unfoldable pub roomFor : Setting → ℕ → List ℕ → Bool

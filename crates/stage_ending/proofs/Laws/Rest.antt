@@ -2,18 +2,18 @@
 use mathlib.Core.Path.{_≡_, refl, sym, ap, _∙_}
 use mathlib.Core.Bool.{Bool, true, false, not, _||_}
 use mathlib.Core.List.{List, [], _∷_}
-use Prim.Native.Nat.{ℕ, zero, suc, _+_, _-_, _*_, _<_, _≤_}
+use Prim.Native.Nat.{ℕ, _+_, _*_, _<_, _≤_}
 use native.Mathlib.Omega.{arith}
 use native.Mathlib.Numerals.{add-one}
 use lib.Dec.{eqb}
 use lib.ListN.{length, getD}
 use Rattle.rules.specs.Lists.{found, mem}
-use Rattle.rules.specs.Cells.{empty, filled, rowAt, row, firstEmpty}
+use Rattle.rules.specs.Cells.{rowAt, row, firstEmpty}
 use Rattle.rules.specs.Placing.{tree, cellAt, placed}
 use Rattle.rules.specs.Ending.{plan, putRest}
 use Rattle.rules.proofs.Stage.Staged.{two-step, half-height}
 use Rattle.rules.proofs.Stage.Branches.{rest-skip, rest-full, rest-put}
-use Rattle.rules.specs.Inside.Plans.{Placeable, Behind}
+use Rattle.rules.specs.Inside.Plans.{Placeable}
 use Rattle.rules.proofs.Tree.Invariant.{row-empty}
 use Rattle.rules.proofs.Tree.Held.{length-place1}
 use Rattle.rules.proofs.Tree.Tally.{tree-cells}

@@ -1,14 +1,14 @@
 -- Rules 2 to 7 on an empty stage: where the loop starts, and what it comes to. Assumes nothing.
 use Prim.Native.Nat.{ℕ, zero, suc, _-_, _≤_, _<_, min}
 use mathlib.Core.Path.{_≡_, refl, sym, _∙_}
-use mathlib.Core.List.{List, []}
+use mathlib.Core.List.{List, [], map}
 use native.Mathlib.Omega.{arith}
 use lib.ListN.{length}
 use borrow.Author.Tests.{le-leb}
 use Rattle.rules.specs.Lists.{mem}
 use Rattle.rules.specs.Cells.{isHeight, levelOneSize, rowAt}
-use Rattle.rules.specs.Traversal.{Setting, levelAt}
-use Rattle.rules.specs.Placing.{neededOf, filledPlan}
+use Rattle.rules.specs.Traversal.{Setting, levelAt, greatest}
+use Rattle.rules.specs.Placing.{neededOf}
 use Rattle.rules.specs.Inside.Lean.{blank, wanted, lean, leanPlan}
 use Rattle.rules.proofs.Walk.Levels.{greatest-most}
 use Rattle.rules.proofs.Needed.Lacks.{same-needed}
@@ -16,16 +16,19 @@ use Rattle.rules.specs.Inside.Plans.{Fair}
 use Rattle.rules.proofs.Lean.Lean.{lean-plan, lean-tidy}
 use Rattle.cells.specs.Answers.{orZero, hasLevel}
 use Rattle.cells.proofs.Heights.{orZero-true, not-above, level-tested, tall-answer}
-use Rattle.columns.specs.Fields.{MARK}
+use Rattle.columns.specs.Fields.{STACK}
 use Rattle.columns.specs.Lists.{Marks, Clear}
+use Rattle.columns.proofs.Area.Frames.{frame-more}
+use Rattle.columns.proofs.Lists.Marks.{marks-frame}
 use Rattle.stage_walk.specs.Stands.{Context, Set, Tally}
-use Rattle.stage_needed.specs.Needed.{NeededAt, Needed}
+use Rattle.stage_needed.specs.Needed.{NoteAt, Noted, CountAt, NeededAt, Needed}
+use Rattle.stage_needed.proofs.Laws.Collecting.{asking-frame, step-needed}
 use Rattle.stage_walk.proofs.Contexts.{level-below, work}
 use Rattle.stage_tree.specs.Bits.{Standing}
 use Rattle.stage_tree.proofs.Bits.Standing.{first-stands}
-use Rattle.stage_loop.specs.Loop.{Kept, Counted, SettleAt, LeanAt, Leaned}
+use Rattle.stage_loop.specs.Loop.{Changed, Counted, SettleAt, LeanAt, Leaned}
 use Rattle.stage_loop.specs.Filling.{RowAt, GrowAt, Grown, FillAt, FilledTree}
-use Rattle.stage_loop.proofs.Laws.Tries.{kept-none, kept-then, set-kept, clear-kept, needed-at, counted}
+use Rattle.stage_loop.proofs.Laws.Tries.{kept-none, kept-then, kept-changed, changed-then, set-kept, noted-kept, clear-kept, tally-frame, count-at, counted}
 
 -- a row's start, from what a height answers
 pub row-there : {K h r : ℕ} → RowAt K h → r ≡ orZero (hasLevel K h) (rowAt K h) → r ≡ rowAt K h
@@ -44,10 +47,6 @@ lean-low X zero b pl l = refl
 lean-low X (suc zero) b pl l = refl
 lean-low X (suc (suc h)) b pl l = absurd (omega arith)
 
--- the needed pins can be counted
-settle-at : {C : Context} {m n k : ℕ} {gates pl w : List ℕ} → Set C m n k gates w → Marks MARK m [] w → Tally C m pl w → SettleAt C m n k (levelOneSize (C .X .K)) 0 gates pl w
-settle-at S c t = record { set = S; clear = c; tally = t; cap = refl; few = omega arith }
-
 -- ---- from the level to start at
 
 module _ {C : Context} {m n k h K : ℕ} {gates pl w : List ℕ} (A : GrowAt C m n k h K gates pl w) where
@@ -62,50 +61,66 @@ module _ {C : Context} {m n k h K : ℕ} {gates pl w : List ℕ} (A : GrowAt C m
   pub row-at : RowAt K h
   row-at = record { least = omega (arith, A .height, C .low); most = omega (arith, A .height, C .high); level = omega (arith, A .level, A .height) }
 
-  deep : 2 ≤ h → h < m
-  deep l = omega (
+  deep : h < m
+  deep = omega (
     arith,
+    A .low,
     A .level,
-    A .plan .set .begun .base .size,
-    greatest-most (levelAt (C .X)) (m - 1) 0 (C .X .order) (omega arith) (λ x i. omega (arith, level-below C x (C .S .listed x i), A .plan .set .begun .base .size)),
+    A .set .begun .base .size,
+    greatest-most (levelAt (C .X)) (m - 1) 0 (C .X .order) (omega arith) (λ x i. omega (arith, level-below C x (C .S .listed x i), A .set .begun .base .size)),
   )
 
-  settle : SettleAt C m n k (levelOneSize (C .X .K)) 0 gates pl w
-  settle = settle-at (A .plan .set) (A .plan .clear) (A .plan .tally)
+  -- pins may be noted
+  pub grow-note : NoteAt C m n k gates w
+  grow-note = record { begun = A .set .begun; ordered = A .set .ordered; levelled = A .set .levelled }
 
-  -- the needed pins of the empty plan may be counted
-  pub grow-count : NeededAt C pl m n k gates w
-  grow-count = needed-at settle
+  module _ {w1 : List ℕ} {s : ℕ} (N₀ : Noted C m w w1 s) where
+    noting : Changed m w w1
+    noting = record { frame = frame-more refl (N₀ .frame); rest = λ j a b c. N₀ .frame .past refl j a }
 
-  -- below level 2 nothing is placed
-  pub grown-none : h < 2 → Grown C m w pl w
-  grown-none l = record { is = sym (plan-is ∙ lean-low (C .X) h b₀ pl l); kept = kept-none m w; tally = A .plan .tally }
+    settle : SettleAt C m n s (levelOneSize (C .X .K)) 0 gates pl w1
+    settle =
+        let S = set-kept noting (A .set) in
+        record {
+          set = record { begun = S .begun; levelled = S .levelled; listed = S .listed; asking = N₀ .asking };
+          clear = marks-frame (A .clear) (N₀ .frame) refl (omega arith);
+          tally = tally-frame (N₀ .frame) refl refl (A .tally);
+          cap = refl;
+          few = omega arith;
+        }
 
-  module _ (l : 2 ≤ h) {w1 : List ℕ} {b wd half : ℕ} (N : Needed C pl m w w1 b) (row : wd ≡ rowAt K h) (one : half ≡ orZero (isHeight K) (levelOneSize K)) where
-    N₁ : Counted C m pl w w1 b
-    N₁ = counted settle N
+    -- the needed pins of the empty plan may be counted by them
+    pub grow-count : CountAt C pl m n STACK s gates w1
+    grow-count = count-at settle
 
-    up : suc (h - 1) ≡ h
-    up = omega arith
+    module _ {w2 : List ℕ} {b wd half : ℕ} (N : Needed C pl m w1 w2 b) (row : wd ≡ rowAt K h) (one : half ≡ orZero (isHeight K) (levelOneSize K)) where
+      N₁ : Counted C m pl w1 w2 b
+      N₁ = counted settle N
 
-    -- from level 2 up the loop may start
-    pub grow-lean : LeanAt C m n k (h - 1) wd half gates pl w1 b
-    grow-lean = record {
-      plan = record { set = set-kept (N₁ .kept) (A .plan .set); clear = clear-kept (N₁ .kept) (A .plan .clear); tally = N₁ .tally; fair = rw up (A .plan .fair) };
-      wide = record { low = omega arith; high = omega (arith, up, A .level); row = rw (up, ← A .height) row };
-      cap = rw (A .height) at (tall-answer K (row-at .least) (row-at .most) one);
-      enough = omega (arith, N₁ .count);
-      few = N₁ .few;
-      deep = omega (arith, deep l);
-    }
+      up : suc (h - 1) ≡ h
+      up = omega (arith, A .low)
 
-    -- what the loop comes to is the plan of rules 2 to 7
-    pub grown : {pl2 w2 : List ℕ} → Leaned C m (h - 1) pl w1 b pl2 w2 → Grown C m w pl2 w2
-    grown L = record {
-      is = L .same ∙ rw (up, N₁ .count) (let z : length (wanted (C .X) pl) ≡ b₀ = rw (A .first) refl in rw z (sym plan-is));
-      kept = kept-then (N₁ .kept) (L .kept);
-      tally = L .tally;
-    }
+      -- the loop may start
+      pub grow-lean : LeanAt C m n s (h - 1) wd half gates pl w2 b
+      grow-lean = record {
+        plan = record { set = noted-kept (N₁ .kept) (settle .set); clear = clear-kept (N₁ .kept) (settle .clear); tally = N₁ .tally; fair = rw up (A .fair) };
+        wide = record { low = omega arith; high = omega (arith, up, A .level); row = rw (up, ← A .height) row };
+        cap = rw (A .height) at (tall-answer K (row-at .least) (row-at .most) one);
+        enough = omega (arith, N₁ .count);
+        few = N₁ .few;
+        deep = omega (arith, up, deep);
+      }
+
+      -- what the loop comes to is the plan of rules 2 to 7
+      pub grown : {pl3 w3 : List ℕ} → Leaned C m (h - 1) pl w2 b pl3 w3 → Grown C m w s pl3 w3
+      grown L =
+          let kept = kept-then (N₁ .kept) (L .kept) in
+          record {
+            is = L .same ∙ rw (up, N₁ .count) (let z : length (wanted (C .X) pl) ≡ b₀ = rw (A .first) refl in rw z (sym plan-is));
+            kept = changed-then noting (kept-changed kept);
+            tally = L .tally;
+            asking = asking-frame (N₀ .asking) (kept .frame) refl;
+          }
 
 -- ---- the plan of the tree
 
@@ -113,47 +128,60 @@ module _ {C : Context} {m n k top K : ℕ} {gates pl w : List ℕ} (A : FillAt C
   stands : (h : ℕ) → Standing C m h gates pl w
   stands h = rw (A .first) (first-stands C m h gates w (A .set .begun .base) (A .set .levelled) (A .cells .zero) (A .ones) (A .pins))
 
+  level-is : {h : ℕ} → h ≡ min top K → h ≡ min (greatest (map (levelAt (C .X)) (C .X .order)) 0) (C .X .K)
+  level-is e = e ∙ rw (A .most, A .height) refl
+
   -- the loop starts at the greatest level, or at the top of the tree if that is lower
-  pub fill-grow : {h : ℕ} → h ≡ min top K → GrowAt C m n k h K gates pl w
-  fill-grow {h} e = record {
-    plan = record { set = A .set; clear = clear-marks (A .clear); tally = stands h .tally; fair = stands h .fair };
+  pub fill-grow : {h : ℕ} → h ≡ min top K → 2 ≤ h → GrowAt C m n k h K gates pl w
+  fill-grow {h} e l = record {
+    set = A .set;
+    clear = clear-marks (A .clear);
+    tally = stands h .tally;
+    fair = stands h .fair;
     first = A .first;
-    level = e ∙ rw (A .most, A .height) refl;
+    level = level-is e;
+    low = l;
     height = A .height;
   }
 
-  module _ {pl1 w1 : List ℕ} (G : Grown C m w pl1 w1) where
-    settle-last : SettleAt C m n k (levelOneSize (C .X .K)) 0 gates pl1 w1
-    settle-last = settle-at (set-kept (G .kept) (A .set)) (clear-kept (G .kept) (clear-marks (A .clear))) (G .tally)
+  -- where it doesn't start, the needed pins may be listed at once
+  pub fill-none : NeededAt C pl m n k gates w
+  fill-none = step-needed (A .set) pl (stands 1 .tally .cells) (clear-marks (A .clear))
 
-    -- the needed pins of the plan may be listed
-    pub fill-count : NeededAt C pl1 m n k gates w1
-    fill-count = needed-at settle-last
-
-    -- the plan of rules 2 to 7, with its counts and its needed pins
-    pub filled-tree : {w2 : List ℕ} {q : ℕ} → Needed C pl1 m w1 w2 q → FilledTree C m gates pl w q pl1 w2
-    filled-tree {w2} {q} N = record {
-      is = is;
+  module _ {pl1 w1 : List ℕ} (plan : pl1 ≡ leanPlan (C .X)) (change : Changed m w w1) (tally : Tally C m pl1 w1) where
+    listed : {w2 : List ℕ} {q : ℕ} → Needed C pl1 m w1 w2 q → FilledTree C m gates pl w q pl1 w2
+    listed {w2} {q} N = record {
+      is = plan ∙ lean-plan (work C);
       size = fair .len ∙ sym (stands 1 .fair .len);
       kept = kept;
-      stands = record { base = last .begun .base; levelled = last .levelled; tally = N₁ .tally; fair = fair };
+      stands = record { base = last .begun .base; levelled = last .levelled; tally = tally-frame (N .frame) refl refl tally; fair = fair };
       needed = rw (← needs) at (N .list);
     }
       where
-        N₁ : Counted C m pl1 w1 w2 q
-        N₁ = counted settle-last N
-
-        is : pl1 ≡ filledPlan (C .X)
-        is = G .is ∙ lean-plan (work C)
-
         fair : Fair (C .X) 1 pl1
-        fair = rw (G .is) (lean-tidy (work C))
+        fair = rw plan (lean-tidy (work C))
 
         needs : neededOf (C .X) pl1 ≡ wanted (C .X) pl1
         needs = same-needed (work C) fair
 
-        kept : Kept m w w2
-        kept = kept-then (G .kept) (N₁ .kept)
+        kept : Changed m w w2
+        kept = changed-then change (record { frame = frame-more refl (N .frame); rest = λ j a b c. N .frame .past refl j a })
 
         last : Set C m n k gates w2
         last = set-kept kept (A .set)
+
+  -- below level 2 nothing is placed
+  pub filled-none : {h q : ℕ} {w2 : List ℕ} → h ≡ min top K → h < 2 → Needed C pl m w w2 q → FilledTree C m gates pl w q pl w2
+  unfolding leanPlan
+  filled-none {h} e l = listed (rw (← level-is e, ← A .first) (sym (lean-low (C .X) h (length (wanted (C .X) pl)) pl l))) (kept-changed (kept-none m w)) (stands 1 .tally)
+
+  module _ {s : ℕ} {pl1 w1 : List ℕ} (G : Grown C m w s pl1 w1) where
+    -- the needed pins of the plan may be listed by the noted pins
+    pub fill-count : CountAt C pl1 m n STACK s gates w1
+    fill-count =
+        let S = set-kept (G .kept) (A .set) in
+        record { begun = S .begun; asking = G .asking; levelled = S .levelled; cells = G .tally .cells; unmarked = marks-frame (clear-marks (A .clear)) (G .kept .frame) refl (omega arith) }
+
+    -- the plan of rules 2 to 7, with its counts and its needed pins
+    pub filled-tree : {w2 : List ℕ} {q : ℕ} → Needed C pl1 m w1 w2 q → FilledTree C m gates pl w q pl1 w2
+    filled-tree = listed (G .is) (G .kept) (G .tally)

@@ -17,7 +17,7 @@ use Rattle.columns.specs.Fields.{STARTS, ENDS}
 use Rattle.stage_walk.specs.Stands.{Context, ranked}
 use Rattle.stage_walk.proofs.Contexts.{work}
 use Rattle.stage_loop.specs.Loop.{At, Ended, LeanAt, Leaned, Leaning}
-use Rattle.stage_loop.proofs.Laws.Tries.{kept-none, kept-then, set-kept, clear-kept}
+use Rattle.stage_loop.proofs.Laws.Tries.{kept-none, kept-then, noted-kept, clear-kept}
 
 -- ---- the loop over levels
 lean-one : (X : Setting) (b : ℕ) (pl : List ℕ) (l : ℕ) → l ≡ 0 → lean X (suc l) b pl ≡ pl
@@ -70,7 +70,7 @@ module _ {C : Context} {m n k l wd half : ℕ} {gates pl w : List ℕ} {b : ℕ}
           same = lean-two (C .X) b pl l pos ∙ rw (← list-is, z) (E .same);
           kept = E .kept;
           at = record {
-            plan = record { set = set-kept (E .kept) (A .plan .set); clear = clear-kept (E .kept) (A .plan .clear); tally = E .tally; fair = rw z (E .fair) };
+            plan = record { set = noted-kept (E .kept) (A .plan .set); clear = clear-kept (E .kept) (A .plan .clear); tally = E .tally; fair = rw z (E .fair) };
             wide = record { low = omega arith; high = omega (arith, A .wide .high); row = rw (A .wide .row) (row-up (C .X .K) l (A .wide .high) pos) };
             cap = A .cap;
             enough = E .enough;

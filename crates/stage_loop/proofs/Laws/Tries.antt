@@ -14,19 +14,21 @@ use Rattle.rules.proofs.Lists.Parts.{part-same}
 use Rattle.rules.proofs.Tree.Fair.{fair-kept, bare}
 use Rattle.rules.proofs.Tree.Back.{taken-back}
 use Rattle.rules.proofs.Lean.Turns.{recount-bound, recount-count, recount-full}
-use Rattle.columns.specs.Fields.{CELLS, RANKED, STARTS, ENDS, MARK, ONES, PINS}
+use Rattle.columns.specs.Area.{Frame, among}
+use Rattle.columns.specs.Fields.{CELLS, RANKED, STARTS, ENDS, STACK, MARK, ONES, PINS}
 use Rattle.columns.specs.Lists.{Marks}
-use Rattle.stage_needed.specs.Needed.{NeededAt, Needed}
+use Rattle.stage_needed.specs.Needed.{CountAt, Needed}
+use Rattle.stage_needed.proofs.Laws.Collecting.{asking-frame}
 use Rattle.columns.proofs.Area.Frames.{frame-none, frame-then, frame-more, frame-col, frame-room}
 use Rattle.columns.proofs.Lists.Entries.{holds-frame}
 use Rattle.columns.proofs.Lists.Marks.{marks-frame}
 use Rattle.columns.proofs.Lists.Places.{placed-frame}
-use Rattle.stage_walk.specs.Stands.{Context, Set, Tally, ranked}
+use Rattle.stage_walk.specs.Stands.{Context, Begun, Levelled, Listed, Set, Tally, ranked}
 use Rattle.stage_walk.proofs.Contexts.{work}
 use Rattle.stage_tree.specs.Counts as counts
 use Rattle.stage_tree.specs.Counts.{roomIn}
 use Rattle.stage_tree.specs.Bits as bits
-use Rattle.stage_loop.specs.Loop.{Kept, Counted, SettleAt, Settled, TryAt, Tried}
+use Rattle.stage_loop.specs.Loop.{Kept, Changed, NotedSet, Counted, SettleAt, Settled, TryAt, Tried}
 
 -- ---- the frame
 
@@ -42,30 +44,70 @@ kept-then a b = record { frame = frame-then (a .frame) (b .frame); rest = λ j x
 pub kept-counts : {m : ℕ} {w w′ : List ℕ} → counts.Kept m w w′ → Kept m w w′
 kept-counts k = record { frame = frame-more refl (k .frame); rest = k .rest }
 
+-- where their column is not named the ranked lists stay
+ranked-frame : {fs : List ℕ} {m : ℕ} {w w′ : List ℕ} → Frame fs m w w′ → among fs RANKED ≡ false → (i e : ℕ) → i ≤ e → e ≤ m → ranked m w′ i e ≡ ranked m w i e
+unfolding ranked
+ranked-frame {m = m} {w = w} {w′ = w′} f n i e a b = part-same (e - i) (RANKED * m + i) w′ w (f .len)
+    (λ j c d. let z : j ≡ RANKED * m + (j - RANKED * m) = omega arith in ap (λ (x : ℕ). getD w′ x 0) z ∙ f .cell RANKED n (omega arith) (j - RANKED * m) (omega arith) ∙ sym (ap (λ (x : ℕ). getD w x 0) z))
+
 -- a change of counts and needed pins leaves the ranked lists
 pub ranked-kept : {m : ℕ} {w w′ : List ℕ} → Kept m w w′ → (i e : ℕ) → i ≤ e → e ≤ m → ranked m w′ i e ≡ ranked m w i e
-unfolding ranked
-ranked-kept {m} {w} {w′} k i e a b = part-same (e - i) (RANKED * m + i) w′ w (k .frame .len)
-    (λ j c d. let z : j ≡ RANKED * m + (j - RANKED * m) = omega arith in ap (λ (x : ℕ). getD w′ x 0) z ∙ k .frame .cell RANKED refl (omega arith) (j - RANKED * m) (omega arith) ∙ sym (ap (λ (x : ℕ). getD w x 0) z))
+ranked-kept k = ranked-frame (k .frame) refl
 
--- and all that the stage starts from
-pub set-kept : {C : Context} {m n k : ℕ} {gates w w′ : List ℕ} → Kept m w w′ → Set C m n k gates w → Set C m n k gates w′
-set-kept {C} {m} {n} {k} {gates} {w} {w′} f S =
-    let at : (g h : ℕ) → g ≡ STARTS → h < m → getD w′ (g * m + h) 0 ≡ getD w (g * m + h) 0 = λ g h e b. rw e (f .frame .cell STARTS refl (omega arith) h b) in
-    let at2 : (h : ℕ) → h < m → getD w′ (ENDS * m + h) 0 ≡ getD w (ENDS * m + h) 0 = λ h b. f .frame .cell ENDS refl (omega arith) h b in
-    record {
-      begun = record {
-        base = record { area = frame-room (f .frame) (S .begun .base .area); size = S .begun .base .size; graph = S .begun .base .graph; pair = S .begun .base .pair };
-        done = marks-frame (S .begun .done) (f .frame) refl (omega arith);
-        waiting = placed-frame (S .begun .waiting) (f .frame) refl refl (omega arith) (omega arith);
-      };
-      ordered = record { order = holds-frame (S .ordered .order) (f .frame) refl (omega arith) };
-      levelled = record { levels = frame-col (f .frame) 2 refl (omega arith) ∙ S .levelled .levels };
-      listed = record {
-        lists = λ h a b c. rw (at STARTS h refl c, at2 h c) (ranked-kept f (getD w (STARTS * m + h) 0) (getD w (ENDS * m + h) 0) (S .listed .spans h a b c .0) (S .listed .spans h a b c .1) ∙ S .listed .lists h a b c);
-        spans = λ h a b c. rw (at STARTS h refl c, at2 h c) (S .listed .spans h a b c);
-      };
-    }
+-- the noted pins may change too
+pub kept-changed : {m : ℕ} {w w′ : List ℕ} → Kept m w w′ → Changed m w w′
+kept-changed k = record { frame = frame-more refl (k .frame); rest = k .rest }
+
+-- two changes are one
+pub changed-then : {m : ℕ} {u v w : List ℕ} → Changed m u v → Changed m v w → Changed m u w
+changed-then a b = record { frame = frame-then (a .frame) (b .frame); rest = λ j x y z. b .rest j x y z ∙ a .rest j x y z }
+
+-- the counts stay where neither they nor the tail are named
+pub tally-frame : {fs : List ℕ} {C : Context} {m : ℕ} {pl w w′ : List ℕ} → Frame fs m w w′ → among fs CELLS ≡ false → among fs 16 ≡ false → Tally C m pl w → Tally C m pl w′
+tally-frame {m = m} f c t T = record {
+  cells = λ x b. f .cell CELLS c (omega arith) x b ∙ T .cells x b;
+  ones = f .past t (16 * m + ONES) (omega arith) ∙ T .ones;
+  pins = f .past t (16 * m + PINS) (omega arith) ∙ T .pins;
+}
+
+-- what the stage starts from stays
+module _ {m : ℕ} {w w′ : List ℕ} (f : Changed m w w′) {C : Context} where
+  begun-changed : {n : ℕ} {gates : List ℕ} → Begun C m n gates w → Begun C m n gates w′
+  begun-changed B = record {
+    base = record { area = frame-room (f .frame) (B .base .area); size = B .base .size; graph = B .base .graph; pair = B .base .pair };
+    done = marks-frame (B .done) (f .frame) refl (omega arith);
+    waiting = placed-frame (B .waiting) (f .frame) refl refl (omega arith) (omega arith);
+  }
+
+  levelled-changed : Levelled C m w → Levelled C m w′
+  levelled-changed L = record { levels = frame-col (f .frame) 2 refl (omega arith) ∙ L .levels }
+
+  listed-changed : Listed C m w → Listed C m w′
+  listed-changed L =
+      let at : (h : ℕ) → h < m → getD w′ (STARTS * m + h) 0 ≡ getD w (STARTS * m + h) 0 = λ h b. f .frame .cell STARTS refl (omega arith) h b in
+      let at2 : (h : ℕ) → h < m → getD w′ (ENDS * m + h) 0 ≡ getD w (ENDS * m + h) 0 = λ h b. f .frame .cell ENDS refl (omega arith) h b in
+      record {
+        lists = λ h a b c. rw (at h c, at2 h c) (ranked-frame (f .frame) refl (getD w (STARTS * m + h) 0) (getD w (ENDS * m + h) 0) (L .spans h a b c .0) (L .spans h a b c .1) ∙ L .lists h a b c);
+        spans = λ h a b c. rw (at h c, at2 h c) (L .spans h a b c);
+      }
+
+-- all of it
+pub set-kept : {C : Context} {m n k : ℕ} {gates w w′ : List ℕ} → Changed m w w′ → Set C m n k gates w → Set C m n k gates w′
+set-kept f S = record {
+  begun = begun-changed f (S .begun);
+  ordered = record { order = holds-frame (S .ordered .order) (f .frame) refl (omega arith) };
+  levelled = levelled-changed f (S .levelled);
+  listed = listed-changed f (S .listed);
+}
+
+-- where the noted pins stay, what the loop reads does
+pub noted-kept : {C : Context} {m n k : ℕ} {gates w w′ : List ℕ} → Kept m w w′ → NotedSet C m n k gates w → NotedSet C m n k gates w′
+noted-kept k S = record {
+  begun = begun-changed (kept-changed k) (S .begun);
+  levelled = levelled-changed (kept-changed k) (S .levelled);
+  listed = listed-changed (kept-changed k) (S .listed);
+  asking = asking-frame (S .asking) (k .frame) refl;
+}
 
 -- and marks that mark nothing
 pub clear-kept : {m : ℕ} {w w′ : List ℕ} → Kept m w w′ → Marks MARK m [] w → Marks MARK m [] w′
@@ -75,8 +117,8 @@ clear-kept k c = marks-frame c (k .frame) refl (omega arith)
 
 module _ {C : Context} {m n k half most : ℕ} {gates pl w : List ℕ} (A : SettleAt C m n k half most gates pl w) where
   -- the needed pins of the plan may be counted
-  pub needed-at : NeededAt C pl m n k gates w
-  needed-at = record { begun = A .set .begun; ordered = A .set .ordered; levelled = A .set .levelled; cells = A .tally .cells; unmarked = A .clear }
+  pub count-at : CountAt C pl m n STACK k gates w
+  count-at = record { begun = A .set .begun; asking = A .set .asking; levelled = A .set .levelled; cells = A .tally .cells; unmarked = A .clear }
 
   -- their count is told, and nothing else that the loop reads is changed
   pub counted : {w′ : List ℕ} {r : ℕ} → Needed C pl m w w′ r → Counted C m pl w w′ r
@@ -84,11 +126,7 @@ module _ {C : Context} {m n k half most : ℕ} {gates pl w : List ℕ} (A : Sett
     count = sym (N .list .count);
     few = N .list .few;
     kept = record { frame = frame-more refl (N .frame); rest = λ j a b c. N .frame .past refl j a };
-    tally = record {
-      cells = λ x b. N .frame .cell CELLS refl (omega arith) x b ∙ A .tally .cells x b;
-      ones = N .frame .past refl (16 * m + ONES) (omega arith) ∙ A .tally .ones;
-      pins = N .frame .past refl (16 * m + PINS) (omega arith) ∙ A .tally .pins;
-    };
+    tally = tally-frame (N .frame) refl refl (A .tally);
   }
 
 -- ---- rule 7
@@ -164,7 +202,7 @@ module _ {C : Context} {m n k h wd half p q most : ℕ} {gates pl w : List ℕ} 
 
     -- the pin placed, the needed pins may be settled
     pub after-place : SettleAt C m n k half most gates pl1 w1
-    after-place = record { set = set-kept (kept-counts (P .kept)) (A .plan .set); clear = clear-kept (kept-counts (P .kept)) (A .plan .clear); tally = P .tally; cap = A .cap; few = A .few }
+    after-place = record { set = noted-kept (kept-counts (P .kept)) (A .plan .set); clear = clear-kept (kept-counts (P .kept)) (A .plan .clear); tally = P .tally; cap = A .cap; few = A .few }
 
     -- where the needed pins have room the pin stays
     pub tried-some : {w2 : List ℕ} {b : ℕ} → Settled C m most pl1 w1 w2 (found b) → Tried C m h p q most pl w pl1 w2 (found b)
@@ -175,7 +213,7 @@ module _ {C : Context} {m n k h wd half p q most : ℕ} {gates pl w : List ℕ} 
       pub back-at : bits.PurgeAt C m h wd p pl1 w2
       back-at = record {
         spot = record {
-          area = set-kept (T .kept) (set-kept (kept-counts (P .kept)) (A .plan .set)) .begun .base .area;
+          area = noted-kept (T .kept) (noted-kept (kept-counts (P .kept)) (A .plan .set)) .begun .base .area;
           size = A .plan .set .begun .base .size;
           tally = T .tally;
           len = fair-after .len;

@@ -1,5 +1,5 @@
 -- One turn at a level, and a sweep of turns down its candidates. Assumes nothing.
-use Prim.Native.Nat.{ℕ, zero, suc, _+_, _-_, _*_, _≤_, _<_}
+use Prim.Native.Nat.{ℕ, zero, suc, _+_, _*_, _≤_, _<_}
 use mathlib.Core.Path.{_≡_, refl, sym, ap, _∙_}
 use mathlib.Core.Bool.{true, false, not, true≢false}
 use mathlib.Core.List.{List, _∷_}
@@ -25,15 +25,14 @@ use Rattle.rules.proofs.Lean.Pick.{candidate}
 use Rattle.rules.proofs.Lean.Lean.{going-skip, going-placed, fewer-needed, recount-found}
 use Rattle.rules.proofs.Lean.Turns.{onward-end, onward-skip, onward-no-cell, onward-no-room, onward-placed}
 use Rattle.columns.specs.Fields.{CELLS, RANKED}
-use Rattle.stage_walk.specs.Stands.{Context, Set, ranked}
+use Rattle.stage_walk.specs.Stands.{Context, ranked}
 use Rattle.stage_walk.proofs.Contexts.{work}
 use Rattle.stage_walk.proofs.Ranked.{ranked-cons, ranked-end}
 use Rattle.stage_tree.specs.Search.{First}
 use Rattle.stage_tree.proofs.Search.{cell-found, cell-none, cursor-first, cursor-behind}
-use Rattle.stage_loop.specs.Loop.{TryAt, Tried, At, Next, Ended, Gone, Turned}
-use Rattle.stage_loop.specs.declared.lean.Step.{Step}
+use Rattle.stage_loop.specs.Loop.{NotedSet, TryAt, Tried, At, Next, Ended, Gone, Turned}
 use Rattle.stage_loop.specs.declared.lean.Step.the-variants.{On, Stop}
-use Rattle.stage_loop.proofs.Laws.Tries.{kept-none, kept-then, ranked-kept, set-kept, clear-kept}
+use Rattle.stage_loop.proofs.Laws.Tries.{kept-none, kept-then, ranked-kept, noted-kept, clear-kept}
 
 -- a step on is that step
 on-is : {a b f g : ℕ} → On a f ≡ On b g → (a ≡ b) × (f ≡ g)
@@ -45,7 +44,7 @@ not-on e = absurd (let z : _≡_ {A = ℕ} 0 1 = cc in omega arith)
 
 -- ---- one turn
 module _ {C : Context} {m n k l wd half : ℕ} {gates pl w : List ℕ} {i e b from : ℕ} (N : Next C m n k l wd half gates pl w i e b from) (q : ℕ) (pin : q ≡ getD w (RANKED * m + i) 0) where
-  R : Set C m n k gates w
+  R : NotedSet C m n k gates w
   R = N .at .set
 
   now-list : ranked m w i e ≡ q ∷ ranked m w (i + 1) e
@@ -166,7 +165,7 @@ module _ {C : Context} {m n k l wd half : ℕ} {gates pl w : List ℕ} {i e b fr
                   same = rw (now-list, same-list, plan) (onward-placed (C .X) l b pl q (ranked m w (i + 1) e) p d not-in at-cell bound);
                   kept = T .kept;
                   at = record {
-                    set = set-kept (T .kept) R;
+                    set = noted-kept (T .kept) R;
                     clear = clear-kept (T .kept) (N .at .clear);
                     tally = T .tally;
                     going = rw (same-list, plan) (going-placed (work C) G p d able (enough .1));

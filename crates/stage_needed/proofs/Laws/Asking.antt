@@ -22,7 +22,7 @@ use Rattle.columns.specs.Lists.{list, Marked, EnlistAt, Enlisted}
 use Rattle.columns.proofs.Area.Columns.{getD-col}
 use Rattle.columns.proofs.Area.Frames.{frame-none, frame-then, frame-col, frame-room}
 use Rattle.columns.proofs.Lists.Marks.{marked-self, enlist-at}
-use Rattle.stage_walk.specs.Stands.{Context}
+use Rattle.stage_walk.specs.Stands.{Context, Levelled}
 use Rattle.stage_needed.specs.Needed.{Tells, Needing, Needs, missing, AskAt, ItselfAt, NeedAt}
 use Rattle.stage_walk.proofs.Gates.{Both, none-of, both-of}
 
@@ -36,6 +36,11 @@ pin-filled p h = rw (ne-eqb p 4294967295 (λ e. omega arith))
 
 -- ---- what the columns tell
 
+-- the level column has a pin's level
+pub level-told : {C : Context} {m : ℕ} {w : List ℕ} → Levelled C m w → (p : ℕ) → p < m → getD w (LEVEL * m + p) 0 ≡ levelAt (C .X) p
+unfolding levelAt
+level-told {m = m} {w = w} L p h = sym (getD-col LEVEL m w p h) ∙ ap (λ (l : List ℕ). getD l p 0) (L .levels)
+
 module _ {C : Context} {pl : List ℕ} {m : ℕ} {w : List ℕ} (T : Tells C pl m w) where
   -- what is told stays where its columns are not named
   pub tells-frame : {fs : List ℕ} {w′ : List ℕ} → Frame fs m w w′ → among fs LEVEL ≡ false → among fs CELLS ≡ false → among fs PLACE ≡ false → Tells C pl m w′
@@ -47,10 +52,8 @@ module _ {C : Context} {pl : List ℕ} {m : ℕ} {w : List ℕ} (T : Tells C pl 
     cells = λ x h. fr .cell CELLS b (omega arith) x h ∙ T .cells x h;
   }
 
-  -- the level column has a pin's level
-  pub tells-level : (p : ℕ) → p < m → getD w (LEVEL * m + p) 0 ≡ levelAt (C .X) p
-  unfolding levelAt
-  tells-level p h = sym (getD-col LEVEL m w p h) ∙ ap (λ (l : List ℕ). getD l p 0) (T .levelled .levels)
+  tells-level : (p : ℕ) → p < m → getD w (LEVEL * m + p) 0 ≡ levelAt (C .X) p
+  tells-level = level-told (T .levelled)
 
   -- a pin has cells exactly where it is in the tree
   pub tells-placed : (p : ℕ) → p < m → not (eqb (getD w (CELLS * m + p) 0) 0) ≡ mem p (treeOf (C .X) pl)

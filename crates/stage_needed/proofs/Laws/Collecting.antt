@@ -1,33 +1,62 @@
--- Rule 6 along the order, and the marks that go again. Assumes nothing.
+-- Rule 6 along the order or what stands for it, and the marks that go again. Assumes nothing.
 use mathlib.Core.Path.{_≡_, refl, sym, _∙_, ap}
+use mathlib.Core.Bool.{false}
 use mathlib.Core.List.{List, [], _∷_}
 use Prim.Native.Nat.{ℕ, zero, suc, _+_, _*_, _<_, _≤_}
 use native.Mathlib.Omega.{arith}
 use native.Mathlib.Numerals.{add-one}
 use native.Mathlib.Decide.{ℕ-discrete}
-use lib.ListN.{getD, set, drop, drop-of-length-le}
+use lib.ListN.{length, getD, set, drop, drop-of-length-le}
 use lib.Seq.{drop-cons, drop-nil}
-use Rattle.rules.specs.Lists.{mem, insertAll, gather, Out, Once, nobody, one}
+use Rattle.rules.specs.Lists.{mem, insertAll, distinct, gather, Out, Once, nobody, one}
 use Rattle.rules.specs.Placing.{treeOf}
 use Rattle.rules.specs.Inside.Lean.{lacks, wanted, cellsHolding}
 use Rattle.rules.proofs.Lists.Members.{mem-other}
-use Rattle.rules.proofs.Walk.Bounds.{wanted-first, wanted-next}
+use Rattle.rules.proofs.Walk.Bounds.{wanted-next}
+use Rattle.columns.specs.Area.{Frame, among}
 use Rattle.columns.specs.Fields.{ORDER, NEEDED, MARK, CELLS}
-use Rattle.columns.specs.Lists.{list, bit, Holds, Marks}
-use Rattle.columns.proofs.Area.Columns.{at-set, at-set-past}
+use Rattle.columns.specs.Lists.{list, span, bit, Holds, Marks}
+use Rattle.columns.proofs.Area.Columns.{inside, at-set, at-set-past}
 use Rattle.columns.proofs.Area.Frames.{frame-none, frame-then, frame-set, frame-more, frame-less, frame-room}
-use Rattle.columns.proofs.Lists.Entries.{holds-none, holds-frame, holds-at, holds-pin, holds-in}
+use Rattle.columns.proofs.Lists.Entries.{span-none, span-next, frame-list, holds-self, holds-none, holds-frame, holds-at, holds-pin, holds-in}
 use Rattle.columns.proofs.Lists.Marks.{marked-self}
 use Rattle.columns.proofs.Lists.Places.{placed-test}
-use Rattle.stage_walk.specs.Stands.{Context, Set}
-use Rattle.stage_needed.specs.Needed.{Tells, Needs, NeedAt, NeededAt, Collecting, Collected, UnmarkAt, Unmarked, Needed}
+use Rattle.stage_walk.specs.Stands.{Context, Ordered, Set}
+use Rattle.stage_needed.specs.Needed.{Tells, Needs, NeedAt, Asking, CountAt, NeededAt, Collecting, Collected, UnmarkAt, Unmarked, Needed}
 use Rattle.stage_walk.proofs.Gates.{reads-frame}
 use Rattle.stage_walk.proofs.traversal.Loops.{begun-reads}
 use Rattle.stage_needed.proofs.Laws.Asking.{tells-frame}
 
--- ---- along the order
+-- ---- along a list that stands for the order
 
-module _ {C : Context} {pl : List ℕ} {m n k : ℕ} {gates w₀ : List ℕ} (A : NeededAt C pl m n k gates w₀) where
+-- the order stands for itself
+asking-order : {C : Context} {m k : ℕ} {w : List ℕ} → Ordered C m k w → Asking C m ORDER k w
+unfolding wanted
+asking-order {C} O = record {
+  column = omega arith;
+  apart = refl;
+  held = holds-self (O .order);
+  listed = λ x i. C .S .listed x (rw (O .order .is) at i);
+  same = λ pl. rw (O .order .is) refl;
+}
+
+-- a list stands for the order where its column is not named
+pub asking-frame : {C : Context} {m f k : ℕ} {w : List ℕ} → Asking C m f k w → {fs : List ℕ} {w′ : List ℕ} → Frame fs m w w′ → among fs f ≡ false → Asking C m f k w′
+asking-frame {f = f} {k = k} A fr e =
+    let same = frame-list fr f k e (A .column) in
+    record {
+      column = A .column;
+      apart = A .apart;
+      held = holds-self (holds-frame (A .held) fr e (A .column));
+      listed = rw same (A .listed);
+      same = λ pl. rw same (A .same pl);
+    }
+
+-- the needed pins may be counted along the order
+pub count-order : {C : Context} {pl : List ℕ} {m n k : ℕ} {gates w : List ℕ} → NeededAt C pl m n k gates w → CountAt C pl m n ORDER k gates w
+count-order A = record { begun = A .begun; asking = asking-order (A .ordered); levelled = A .levelled; cells = A .cells; unmarked = A .unmarked }
+
+module _ {C : Context} {pl : List ℕ} {m n f k : ℕ} {gates w₀ : List ℕ} (A : CountAt C pl m n f k gates w₀) where
   tells : Tells C pl m w₀
   tells = record {
     area = A .begun .base .area;
@@ -37,44 +66,48 @@ module _ {C : Context} {pl : List ℕ} {m n k : ℕ} {gates w₀ : List ℕ} (A 
     cells = A .cells;
   }
 
+  -- the list stands in the area
+  pub collect-room : {i : ℕ} → i < k → f * m + i < length w₀
+  collect-room h = omega (arith, inside f m (A .asking .column), A .asking .held .few, A .begun .base .area .room)
+
   -- at the start no pin has asked
-  pub collecting-none : Collecting C pl m 0 w₀ w₀ 0
-  unfolding list
+  pub collecting-none : Collecting C pl m f k 0 w₀ w₀ 0
+  unfolding list span distinct
   collecting-none = record {
     frame = frame-none;
     now = record { held = holds-none; once = nobody; marks = A .unmarked };
-    same = sym (wanted-first (C .X) pl);
+    same = A .asking .same pl;
   }
 
-  module _ {i : ℕ} {w : List ℕ} {r : ℕ} (U : Collecting C pl m i w₀ w r) where
+  module _ {i : ℕ} {w : List ℕ} {r : ℕ} (U : Collecting C pl m f k i w₀ w r) where
     -- at the end all pins have asked, and the needed ones are listed
     pub collected : k ≤ i → Collected C pl m w₀ w r
     unfolding insertAll gather
     collected h =
-        let e : list NEEDED m r w ≡ wanted (C .X) pl = rw (drop-of-length-le (C .X .order) {i = i} (omega (arith, A .ordered .order .count))) at (U .same) in
+        let e : list NEEDED m r w ≡ wanted (C .X) pl = rw (span-none f m i k w₀ (A .asking .held .few) h) at (U .same) in
         record { frame = U .frame; now = rw e at (U .now) }
 
-    module _ (h : i < k) (p : ℕ) (ep : p ≡ getD w (ORDER * m + i) 0) where
-      order : Holds ORDER m k (C .X .order) w
-      order = holds-frame (A .ordered .order) (U .frame) refl (omega arith)
+    module _ (h : i < k) (p : ℕ) (ep : p ≡ getD w (f * m + i) 0) where
+      is-pin : p ≡ getD w₀ (f * m + i) 0
+      is-pin = ep ∙ U .frame .cell f (A .asking .apart) (A .asking .column) i (omega (arith, A .asking .held .few))
 
-      -- the next pin of the order may ask
+      -- the next pin may ask
       pub need-at : NeedAt C pl m gates w r p
       need-at = record {
         needing = record { tells = tells-frame tells (U .frame) refl refl refl; now = U .now };
         reads = reads-frame C (begun-reads (A .begun)) (U .frame) refl;
-        listed = C .S .listed p (rw ep (holds-in order i h));
+        listed = A .asking .listed p (rw is-pin (holds-in (A .asking .held) i h));
       }
 
-      next : drop i (C .X .order) ≡ p ∷ drop (suc i) (C .X .order)
-      next = drop-cons (C .X .order) i 0 (omega (arith, order .count)) ∙ ap (λ (x : ℕ). x ∷ drop (suc i) (C .X .order)) (sym (ep ∙ holds-at order i h))
+      next : span f m i k w₀ ≡ p ∷ span f m (i + 1) k w₀
+      next = rw is-pin (span-next f m i k w₀ (A .asking .held .few) h)
 
-      -- one more pin of the order has asked
-      pub collecting-more : {w′ : List ℕ} {r′ : ℕ} → Needs m w r w′ r′ (lacks (C .X) (treeOf (C .X) pl) p) → Collecting C pl m (i + 1) w₀ w′ r′
+      -- one more pin has asked
+      pub collecting-more : {w′ : List ℕ} {r′ : ℕ} → Needs m w r w′ r′ (lacks (C .X) (treeOf (C .X) pl) p) → Collecting C pl m f k (i + 1) w₀ w′ r′
       collecting-more s = record {
         frame = frame-then (U .frame) (s .frame);
         now = marked-self (s .now);
-        same = rw (add-one i, s .now .held .is) (sym (wanted-next (lacks (C .X) (treeOf (C .X) pl)) p (drop (suc i) (C .X .order)) (list NEEDED m r w)) ∙ (rw next at (U .same)));
+        same = rw (s .now .held .is) (sym (wanted-next (lacks (C .X) (treeOf (C .X) pl)) p (span f m (i + 1) k w₀) (list NEEDED m r w)) ∙ (rw next at (U .same)));
       }
 
 -- ---- the marks go
@@ -121,7 +154,7 @@ module _ {m r : ℕ} {w₀ : List ℕ} (A : UnmarkAt m r w₀) where
 
 -- ---- the whole
 
-module _ {C : Context} {pl : List ℕ} {m n k : ℕ} {gates w : List ℕ} (A : NeededAt C pl m n k gates w) {v : List ℕ} {r : ℕ} (L : Collected C pl m w v r) where
+module _ {C : Context} {pl : List ℕ} {m n f k : ℕ} {gates w : List ℕ} (A : CountAt C pl m n f k gates w) {v : List ℕ} {r : ℕ} (L : Collected C pl m w v r) where
   -- the marks of the needed pins may go
   pub unmark-at : UnmarkAt m r v
   unmark-at = record { area = frame-room (L .frame) (A .begun .base .area); now = marked-self (L .now) }

@@ -1,26 +1,26 @@
--- `stage_needed::collect` meets its contract: the listed pins from i on have yet to ask. Assumes nothing.
+-- `stage_needed::collect` meets its contract: the pins from i on have yet to ask. Assumes nothing.
 use mathlib.Core.Path.{_≡_, refl}
 use Prim.Native.Nat.{_≤_, _-_}
 use native.Mathlib.Omega.{arith}
 use lib.ListN.{length}
 use Rattle.stage_walk.specs.Stands.{EveryPlan}
-use Rattle.stage_needed.specs.Needed.{NeededAt, Collecting}
-use Rattle.stage_needed.proofs.Laws.Collecting.{collecting-none, need-at, collecting-more, collected}
+use Rattle.stage_needed.specs.Needed.{CountAt, Collecting}
+use Rattle.stage_needed.proofs.Laws.Collecting.{collect-room, collecting-none, need-at, collecting-more, collected}
 use borrow.Author.Needs.{needs}
 use Rattle.stage_needed.proofs.collect.Statement.{statement}
 use Rattle.stage_needed.proofs.collect.Tie as tie
 
 abbrev Inv-loop : tie.InvT-loop
-Inv-loop gates work₀ m n k r₀ i₀ work r i = EveryPlan (λ C pl. NeededAt C pl m n k gates work₀) (λ C pl. Collecting C pl m i work₀ work r) × (i ≤ k) × (length work ≡ length work₀)
+Inv-loop gates work₀ m n f k r₀ i₀ work r i = EveryPlan (λ C pl. CountAt C pl m n f k gates work₀) (λ C pl. Collecting C pl m f k i work₀ work r) × (i ≤ k) × (length work ≡ length work₀)
 
 abbrev μ-loop : tie.MeasureT-loop
-μ-loop gates work₀ m n k r₀ i₀ work r i = k - i
+μ-loop gates work₀ m n f k r₀ i₀ work r i = k - i
 
 loop-holds : tie.Need-loop-holds Inv-loop μ-loop
 loop-holds c = (record { all = λ x A. collecting-none A }, omega arith, refl)
 
 pin-at-requires : tie.Need-pin-at-requires Inv-loop μ-loop
-pin-at-requires c κs = let s = c .before .before .before .before .before .pre .at in omega (arith, s .ordered .order .few, s .begun .base .area .room, c .before .before .loop .inv .2)
+pin-at-requires c κs = omega (arith, collect-room (c .before .before .before .before .before .pre .at) (c .before .loop-test .taken), c .before .before .loop .inv .2)
 
 need-requires : tie.Need-need-requires Inv-loop μ-loop
 need-requires c κs = let s = c .before .before .before .before .before .before .before .pre in record { it = s .it; at = need-at (s .at) (c .before .before .before .before .loop .inv .0 .all (s .it) (s .at)) (c .before .before .before .loop-test .taken) _ (c .before .pin-at .ensures) }
