@@ -3,3 +3,4 @@ pub mod Words
 pub mod Bounds
 pub mod Rules
 pub mod Counted
+pub mod Costs

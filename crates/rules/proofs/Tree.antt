@@ -7,3 +7,4 @@ pub mod Fair
 pub mod Back
 pub mod Tally
 pub mod Cursor
+pub mod Cost

@@ -3,8 +3,8 @@ use Prim.Native.Nat.{ℕ, zero, suc, _-_}
 use mathlib.Core.Bool.{Bool, true, false}
 use mathlib.Core.List.{List, [], _∷_, _++_}
 use lib.ListN.{length, getD, replicate}
-use Rattle.rules.specs.Lists.{padded, laidOver}
-use Rattle.rules.specs.Cells.{empty, wordLimit, rooms}
+use Rattle.rules.specs.Lists.{count, padded, laidOver}
+use Rattle.rules.specs.Cells.{empty, filled, wordLimit, rooms}
 use Rattle.rules.specs.Graph.{Node, graphOf}
 use Rattle.rules.specs.Records.{Group, groupsOf, waitingOf}
 use Rattle.rules.specs.Reservation.{reserved, reservable}
@@ -68,24 +68,26 @@ unfoldable pub countsOf : List Stage → List ℕ
 countsOf [] = []
 countsOf (s ∷ ss) = length (s .words) ∷ countsOf ss
 
--- the answer: number, stages and words (both 0 on refusal), the refused stage from 1 (0 unless 7, 8, 9), and the pin shown (0 unless 23)
+-- the answer: number, stages and words (both 0 on refusal), the refused stage from 1 (0 unless 7, 8, 9), the pin shown (0 unless 23), and the
+-- cells that the pins kept fill in all stages (0 on refusal): so many are filled (proofs/Build/Costs.antt)
 pub record Reply : Type 0 where
   pub number : ℕ
   pub stages : ℕ
   pub words : ℕ
   pub stage : ℕ
   pub pin : ℕ
+  pub cells : ℕ
 
 unfoldable pub refuse : ℕ → ℕ → Reply
-refuse n k = record { number = n; stages = 0; words = 0; stage = k; pin = 0 }
+refuse n k = record { number = n; stages = 0; words = 0; stage = k; pin = 0; cells = 0 }
 
 -- what the checks refuse
 unfoldable pub refuseChecked : ℕ → List ℕ → Reply
-refuseChecked n gates = record { number = n; stages = 0; words = 0; stage = 0; pin = pinShown n gates }
+refuseChecked n gates = record { number = n; stages = 0; words = 0; stage = 0; pin = pinShown n gates; cells = 0 }
 
 unfoldable pub reply : Answer → Reply
 reply (refusal n k) = refuse n k
-reply (whole ss) = record { number = 0; stages = length ss; words = length (wordsOf ss); stage = 0; pin = 0 }
+reply (whole ss) = record { number = 0; stages = length ss; words = length (wordsOf ss); stage = 0; pin = 0; cells = count filled (cellsOf ss) }
 
 -- the lent areas
 pub record Areas : Type 0 where

@@ -17,3 +17,4 @@ pub mod Merge
 pub mod Job
 pub mod Listing
 pub mod Inside
+pub mod Cost

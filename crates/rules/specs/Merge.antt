@@ -23,13 +23,14 @@ pub record Common : Type 0 where
   pub cap : ℕ
   pub ranks : ℕ
 
--- a partition: its number, its group indices, the size of its traversal, its stages and words
+-- a partition: its number, its group indices, the size of its traversal, its stages, words and filled cells
 pub record Part : Type 0 where
   pub nr : ℕ
   pub has : List ℕ
   pub size : ℕ
   pub stages : ℕ
   pub words : ℕ
+  pub cells : ℕ
 
 unfoldable pub named : Common → List ℕ → List Group
 named J is = map (λ i. getD (J .groups) i (output 0)) is
@@ -43,7 +44,7 @@ sizeFor J is = length (traverse (length (J .g)) (J .g) (J .given) (waitingOf (na
 
 -- a partition of these groups, built
 unfoldable pub partOf : ℕ → List ℕ → ℕ → Answer → Part
-partOf n is size a = record { nr = n; has = is; size = size; stages = reply a .stages; words = reply a .words }
+partOf n is size a = record { nr = n; has = is; size = size; stages = reply a .stages; words = reply a .words; cells = reply a .cells }
 
 -- a later partition as it ranks for the union: the growth, the union's size, its number
 pub record Rank : Type 0 where
@@ -207,7 +208,7 @@ mergeable records l extra =
     && leb extra 255
     && leb (length (l .indices)) 4294967295
 
--- the answer of a merge; stages and words are sums, and the pin shown is 0 unless 23
+-- the answer of a merge; stages, words and filled cells are sums, and the pin shown is 0 unless 23
 pub record MergeReply : Type 0 where
   pub number : ℕ
   pub stages : ℕ
@@ -217,13 +218,14 @@ pub record MergeReply : Type 0 where
   pub trials : ℕ
   pub refused : ℕ
   pub pin : ℕ
+  pub cells : ℕ
 
 unfoldable pub refuseMerge : (number stage part : ℕ) → MergeReply
-refuseMerge n k i = record { number = n; stages = 0; words = 0; stage = k; partitions = 0; trials = 0; refused = i; pin = 0 }
+refuseMerge n k i = record { number = n; stages = 0; words = 0; stage = k; partitions = 0; trials = 0; refused = i; pin = 0; cells = 0 }
 
 -- what the checks refuse
 unfoldable pub refuseMergeChecked : ℕ → List ℕ → MergeReply
-refuseMergeChecked n gates = record { number = n; stages = 0; words = 0; stage = 0; partitions = 0; trials = 0; refused = 0; pin = pinShown n gates }
+refuseMergeChecked n gates = record { number = n; stages = 0; words = 0; stage = 0; partitions = 0; trials = 0; refused = 0; pin = pinShown n gates; cells = 0 }
 
 unfoldable pub indicesOf : List Part → List ℕ
 indicesOf [] = []
@@ -238,6 +240,9 @@ stagesIn ps = map (λ p. p .stages) ps
 unfoldable pub wordsFor : List Part → List ℕ
 wordsFor ps = map (λ p. p .words) ps
 
+unfoldable pub cellsFor : List Part → List ℕ
+cellsFor ps = map (λ p. p .cells) ps
+
 unfoldable pub mergeReply : MergeAnswer → MergeReply
 mergeReply (turned i n k) = refuseMerge n k i
 mergeReply (merged r) = record {
@@ -249,6 +254,7 @@ mergeReply (merged r) = record {
   trials = r .trials;
   refused = 0;
   pin = 0;
+  cells = sum (cellsFor (r .parts));
 }
 
 -- the group list at exit: the merged partitions in final order, unused lengths and stages 0; as it was on refusal

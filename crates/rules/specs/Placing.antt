@@ -34,6 +34,15 @@ place X (suc h) w p n plan =
       ]
     ]
 
+-- how many cells that fills: at every level down to 0
+unfoldable pub cost : Setting → ℕ → ℕ → ℕ
+cost X zero n = 1
+cost X (suc h) n =
+    elim (ltb (levelAt X n) (suc h)) [
+      | true ↦ suc (cost X h n)
+      | false ↦ elim (getD (X .g) n leaf) [ leaf ↦ 1 | gate a b ↦ suc (cost X h (pinOf a) + cost X h (pinOf b)) ]
+    ]
+
 -- 7. taking back what stands at a cell and under it; of a pin just placed that is the plan from before (proofs/Tree/Back.antt)
 unfoldable pub takeBack : ℕ → ℕ → ℕ → List ℕ → List ℕ
 takeBack zero w p plan = set plan p empty
@@ -41,6 +50,15 @@ takeBack (suc h) w p plan =
     elim (filled (getD plan p empty)) [
       | true ↦ takeBack h (2 * w) (p + 2 * w) (takeBack h (2 * w) (p + w) (set plan p empty))
       | false ↦ plan
+    ]
+
+-- how many cells that empties; of a pin just placed as many as it filled (proofs/Tree/Cost.antt)
+unfoldable pub freed : ℕ → ℕ → ℕ → List ℕ → ℕ
+freed zero w p plan = elim (filled (getD plan p empty)) [ true ↦ 1 | false ↦ 0 ]
+freed (suc h) w p plan =
+    elim (filled (getD plan p empty)) [
+      | true ↦ suc (freed h (2 * w) (p + w) (set plan p empty) + freed h (2 * w) (p + 2 * w) (takeBack h (2 * w) (p + w) (set plan p empty)))
+      | false ↦ 0
     ]
 
 -- 6. what an unplaced pin with a reverse level makes needed, by its level: itself at level 1, or at level 0 where it waits; else its unplaced operands of level 0

@@ -9,11 +9,11 @@ use native.Mathlib.Nat.{mul-suc, mul-add, mul-le-mul-left}
 use lib.Dec.{leb}
 use lib.ListN.{length, getD, take, drop, length-drop, take-append-drop}
 use Rattle.rules.specs.Lists.{count, sum, Once, one}
-use Rattle.rules.specs.Cells.{rooms}
+use Rattle.rules.specs.Cells.{filled, rooms}
 use Rattle.rules.specs.Graph.{Node, graphOf}
 use Rattle.rules.specs.Records.{Group, output, groupsOf}
 use Rattle.rules.specs.Traversal.{WordRule}
-use Rattle.rules.specs.Build.{Stage, whole, build, wordsOf}
+use Rattle.rules.specs.Build.{Stage, whole, build, cellsOf, wordsOf}
 use Rattle.rules.specs.Merge.{Common, Part, Result, builtOf, rounds, addPart, merging, Parts, bad, good, original, mostStages, occupied, begun, named, MergeAnswer, turned, merged, merge, GroupList, splitBy, joined, indicesOf, groupListAfter, mergeAnswerOf}
 use Rattle.rules.proofs.Lists.Members.{split, count-append}
 use Rattle.rules.proofs.Merge.Rounds.{Among, front, further, numbers, among-cons, Builds, rounds-gather}
@@ -71,12 +71,13 @@ abbrev pub held : ℕ → ℕ
 held n = begun n (max (n / 8) 20) 0 4
 
 module _ (rule : WordRule) (K : ℕ) (g : List Node) (given : List ℕ) (groups : List Group) (rooms : ℕ) where
-  -- a partition's groups build by themselves to the stages and words that are reported for it
+  -- a partition's groups build by themselves to the stages, words and filled cells that are reported for it
   pub record Stands (p : Part) : Type 0 where
     pub ss : List Stage
     pub built : build rule K g given (map (λ i. getD groups i (output 0)) (p .has)) rooms ≡ whole ss
     pub stages : p .stages ≡ length ss
     pub words : p .words ≡ length (wordsOf ss)
+    pub cells : p .cells ≡ count filled (cellsOf ss)
 
   -- Each group occurs as often after as before; every partition of the result builds by itself to the stages reported; a partition is merged
   -- with in rounds, each of which examines no more unions than its begun blocks hold (`round-few`), and there are no more than two rounds a
@@ -96,12 +97,12 @@ module _ (rule : WordRule) (K : ℕ) (g : List Node) (given : List ℕ) (groups 
       (λ ps d.
       let G = original-given J 0 parts ps d in
       let I : Common = record { rule = rule; K = K; g = g; given = given; groups = groups; rooms = rooms; cap = mostStages ps 0 + extra; ranks = held (length ps) } in
-      let B : (q : Part) → Among q (occupied ps) → Builds I q = λ q a. let b = G .builds q (occupied-among ps q a) in record { ss = b .ss; built = b .built; stages = b .stages; words = b .words } in
+      let B : (q : Part) → Among q (occupied ps) → Builds I q = λ q a. let b = G .builds q (occupied-among ps q a) in record { ss = b .ss; built = b .built; stages = b .stages; words = b .words; cells = b .cells } in
       let E = merging-ends I (length ps) (occupied ps) 0 (occupied-few ps) B (occupied-once ps (G .once)) in
       let c : merging I (length ps) (occupied ps) 0 ≡ r = let z : merged (merging I (length ps) (occupied ps) 0) ≡ merged r = rw (d, merge) at e in cc in
       rw (← c) (record {
         same = λ f. E .same f ∙ ap (count f) (occupied-same ps ∙ G .indices);
-        stands = λ q a. let b = E .builds q a in record { ss = b .ss; built = b .built; stages = b .stages; words = b .words };
+        stands = λ q a. let b = E .builds q a in record { ss = b .ss; built = b .built; stages = b .stages; words = b .words; cells = b .cells };
         trials = let k : 2 * length (occupied ps) ≤ 2 * length ps = omega (arith, occupied-few ps) in let l = mul-le-mul-left (held (length ps)) k in rw (← G .count) (omega (arith, E .cost));
       }))
 

@@ -9,7 +9,8 @@ use native.Mathlib.Nat.{mul-suc}
 use lib.Dec.{eqb}
 use lib.ListN.{length, take, length-take}
 use Rattle.rules.specs.Lists.{mem, count, In, Once, one}
-use Rattle.rules.specs.Build.{Stage, Answer, refusal, whole, reply, wordsOf}
+use Rattle.rules.specs.Cells.{filled}
+use Rattle.rules.specs.Build.{Stage, Answer, refusal, whole, reply, cellsOf, wordsOf}
 use Rattle.rules.specs.Merge.{Common, Part, Rank, Round, none, some, Merged, builtOf, partOf, rankOf, addRank, before, ranking, accepted, attempt, without, rounds, indicesOf}
 use Rattle.rules.proofs.Lists.Members.{split, true-false, eqb-true, eqb-same, in-here, in-there, in-cons, in-nil, count-append}
 
@@ -81,17 +82,18 @@ take-among (suc n) (r ∷ rs) q (further a) = further (take-among n rs q a)
 
 -- ---- a round
 
--- a partition's groups build by themselves to its stages and words
+-- a partition's groups build by themselves to its stages, words and filled cells
 pub record Builds (J : Common) (p : Part) : Type 0 where
   pub ss : List Stage
   pub built : builtOf J (p .has) ≡ whole ss
   pub stages : p .stages ≡ length ss
   pub words : p .words ≡ length (wordsOf ss)
+  pub cells : p .cells ≡ count filled (cellsOf ss)
 
 -- a partition made of a build with a whole plan builds by itself
 pub part-builds : (J : Common) (n : ℕ) (is : List ℕ) (size : ℕ) (ss : List Stage) → builtOf J is ≡ whole ss → Builds J (partOf n is size (builtOf J is))
 unfolding partOf reply
-part-builds J n is size ss e = record { ss = ss; built = e; stages = rw (e, reply); words = rw (e, reply) }
+part-builds J n is size ss e = record { ss = ss; built = e; stages = rw (e, reply); words = rw (e, reply); cells = rw (e, reply) }
 
 accepted-whole : (cap : ℕ) (a : Answer) → accepted cap a ≡ true → (ss : List Stage) × (a ≡ whole ss)
 unfolding accepted
