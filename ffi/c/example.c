@@ -87,7 +87,7 @@ static uint32_t show(uint32_t rule, size_t counts_len) {
     size_t answer[PLACER_BUILD_LEN];
     uint32_t number = first(rule, counts_len, answer);
     if (number == PLACER_DONE)
-        printf("rule %u: stages %zu words %zu\n", rule, answer[PLACER_BUILD_STAGES], answer[PLACER_BUILD_WORDS]);
+        printf("rule %u: stages %zu words %zu cells %zu\n", rule, answer[PLACER_BUILD_STAGES], answer[PLACER_BUILD_WORDS], answer[PLACER_BUILD_CELLS]);
     else
         printf("rule %u: refused %u: %s\n", rule, number, placer_describe(number));
     return number;
@@ -150,7 +150,8 @@ static void merging(void) {
     size_t answer[PLACER_MERGE_LEN];
     uint32_t number = merge_partitions(6, leaves, 6, given, 0, outputs, 4, indices, 2, lengths, 2, stages, 2, 0, plan, 128, words, 2, counts, 1,
                                        work, sizeof work / sizeof *work, answer, PLACER_MERGE_LEN);
-    printf("number %u partitions %zu trials %zu\n", number, answer[PLACER_MERGE_PARTITIONS], answer[PLACER_MERGE_TRIALS]);
+    printf("number %u partitions %zu trials %zu cells %zu\n", number, answer[PLACER_MERGE_PARTITIONS], answer[PLACER_MERGE_TRIALS],
+           answer[PLACER_MERGE_CELLS]);
     printf("groups %u %u stages %u\n", indices[0], indices[1], stages[0]);
 }
 

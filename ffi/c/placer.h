@@ -166,9 +166,17 @@ static inline size_t placer_aiger_size(size_t gates_len, size_t records_len) {
  * and return 2 for any other number. */
 enum placer_word_rule { PLACER_NEEDED_RUNS = 0, PLACER_EVERY_RUN = 1 };
 
-/* The answer of a build: what is returned; the plan's stages and written words; with 7, 8 and 9 the refused stage, from 1; with 23 the pin.
- * What does not apply is 0. */
-enum placer_build_answer { PLACER_BUILD_NUMBER, PLACER_BUILD_STAGES, PLACER_BUILD_WORDS, PLACER_BUILD_STAGE, PLACER_BUILD_PIN, PLACER_BUILD_LEN };
+/* The answer of a build: what is returned; the plan's stages and written words; with 7, 8 and 9 the refused stage, from 1; with 23 the pin; the
+ * cells that the plan's pins fill in all stages. What does not apply is 0. */
+enum placer_build_answer {
+    PLACER_BUILD_NUMBER,
+    PLACER_BUILD_STAGES,
+    PLACER_BUILD_WORDS,
+    PLACER_BUILD_STAGE,
+    PLACER_BUILD_PIN,
+    PLACER_BUILD_CELLS,
+    PLACER_BUILD_LEN
+};
 
 /* gates:   two literals a pin from pin 0 on, both PLACER_EMPTY for a leaf, in any order; a literal is 2 * pin, and 1 more if inverted
  * given:   pins whose value is given
@@ -231,7 +239,7 @@ uint32_t placer_reserved(const uint32_t *gates, size_t gates_len, const uint32_t
 /* ---- A merge */
 
 /* The answer of a merge: what is returned; the sums of stages and words; the refused stage; the partitions left; the unions examined; the
- * lowest refused partition, from 1; with 23 the pin. What does not apply is 0. */
+ * lowest refused partition, from 1; with 23 the pin; the sum of the filled cells. What does not apply is 0. */
 enum placer_merge_answer {
     PLACER_MERGE_NUMBER,
     PLACER_MERGE_STAGES,
@@ -241,6 +249,7 @@ enum placer_merge_answer {
     PLACER_MERGE_TRIALS,
     PLACER_MERGE_REFUSED,
     PLACER_MERGE_PIN,
+    PLACER_MERGE_CELLS,
     PLACER_MERGE_LEN
 };
 

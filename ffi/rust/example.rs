@@ -55,7 +55,7 @@ fn first(rule: WordRule, counts: usize) {
     let areas = Areas { plan: &mut plan, words: &mut words, counts: &mut counts, work: &mut work };
     let answer = build_by(rule, 6, &GATES, &[], &RECORDS, areas);
     match Refusal::of(answer.number) {
-        None => println!("rule {}: stages {} words {}", rule as u32, answer.stages, answer.words),
+        None => println!("rule {}: stages {} words {} cells {}", rule as u32, answer.stages, answer.words, answer.cells),
         Some(refusal) => println!("rule {}: {refusal}", rule as u32),
     }
 }
@@ -101,7 +101,7 @@ fn merging() {
     let groups = Groups { indices: &mut indices, lengths: &mut lengths, stages: &mut stages };
     let areas = Areas { plan: &mut plan, words: &mut words, counts: &mut counts, work: &mut work };
     let answer = merge(6, &[E; 6], &[], &[1, 2, 1, 4], groups, 0, areas);
-    println!("number {} partitions {} trials {}", answer.number, answer.partitions, answer.trials);
+    println!("number {} partitions {} trials {} cells {}", answer.number, answer.partitions, answer.trials, answer.cells);
     println!("groups {} {} stages {}", indices[0], indices[1], stages[0]);
 }
 

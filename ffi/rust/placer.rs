@@ -225,7 +225,8 @@ pub enum WordRule {
     EveryRun = 1,
 }
 
-/// The numbers that a build answers: 0 and the plan's stages and words, or what refuses it and where; with 23 the smallest pin on any loop.
+/// The numbers that a build answers: 0 and the plan's stages, words and filled cells, or what refuses it and where; with 23 the smallest pin on any
+/// loop.
 #[derive(Clone, Copy, Debug, Default, PartialEq, Eq)]
 pub struct Answer {
     pub number: u32,
@@ -233,6 +234,7 @@ pub struct Answer {
     pub words: usize,
     pub stage: usize,
     pub pin: usize,
+    pub cells: usize,
 }
 
 /// The areas that a build or a merge writes. Each counts at its own size; numbers past it are never changed.
@@ -243,7 +245,7 @@ pub struct Areas<'a> {
     pub work: &'a mut [u32],
 }
 
-/// The numbers that a merge answers: 0, the sums of the stages and words, the partitions left and the unions examined; or what refuses it,
+/// The numbers that a merge answers: 0, the sums of the stages, words and filled cells, the partitions left and the unions examined; or what refuses it,
 /// in which stage, and which partition from 1; with 23 the smallest pin on any loop.
 #[derive(Clone, Copy, Debug, PartialEq, Eq)]
 pub struct Merged {
@@ -255,6 +257,7 @@ pub struct Merged {
     pub trials: usize,
     pub refused: usize,
     pub pin: usize,
+    pub cells: usize,
 }
 
 /// The partitions that a merge is handed and leaves: the indices of their records from 0, partition after partition; a length and a
@@ -512,7 +515,7 @@ pub fn build(height: u32, gates: &[u32], given: &[u32], records: &[u32], areas: 
 
 /// As `build`, by the word rule that is asked for.
 pub fn build_by(rule: WordRule, height: u32, gates: &[u32], given: &[u32], records: &[u32], areas: Areas<'_>) -> Answer {
-    let mut answer = [0usize; 5];
+    let mut answer = [0usize; 6];
     let Areas { plan, words, counts, work } = areas;
     // SAFETY: each pointer and length is a slice's, and no two that are written overlap, since each is borrowed mutably.
     let number = unsafe {
@@ -529,7 +532,7 @@ pub fn build_by(rule: WordRule, height: u32, gates: &[u32], given: &[u32], recor
             answer.as_mut_ptr(), answer.len(),
         )
     };
-    Answer { number, stages: answer[1], words: answer[2], stage: answer[3], pin: answer[4] }
+    Answer { number, stages: answer[1], words: answer[2], stage: answer[3], pin: answer[4], cells: answer[5] }
 }
 
 /// D, for how many rooms to lend: a build of these gates, given pins and records with D + 1 rooms is never refused with `NoRoom`, at any height.
@@ -573,7 +576,7 @@ pub fn merge(height: u32, gates: &[u32], given: &[u32], records: &[u32], groups:
 /// As `merge`, by the word rule that is asked for.
 #[allow(clippy::too_many_arguments)]
 pub fn merge_by(rule: WordRule, height: u32, gates: &[u32], given: &[u32], records: &[u32], groups: Groups<'_>, extra: usize, areas: Areas<'_>) -> Merged {
-    let mut answer = [0usize; 8];
+    let mut answer = [0usize; 9];
     let Groups { indices, lengths, stages } = groups;
     let Areas { plan, words, counts, work } = areas;
     // SAFETY: as for `build_by`.
@@ -595,8 +598,8 @@ pub fn merge_by(rule: WordRule, height: u32, gates: &[u32], given: &[u32], recor
             answer.as_mut_ptr(), answer.len(),
         )
     };
-    let [_, stages, words, stage, partitions, trials, refused, pin] = answer;
-    Merged { number, stages, words, stage, partitions, trials, refused, pin }
+    let [_, stages, words, stage, partitions, trials, refused, pin, cells] = answer;
+    Merged { number, stages, words, stage, partitions, trials, refused, pin, cells }
 }
 
 /// Folds any plan, for the bits of leaves and given pins (a number a pin from pin 0 on, 0 or not 0), to 0 or 1 a position. The work is 0
@@ -623,7 +626,7 @@ pub fn fold(height: u32, plan: &[u32], gates: &[u32], given: &[u32], bits: &[u32
 /// recording cut into two runs, the second starting with the first one's end bits, gives the same bits.
 #[allow(clippy::too_many_arguments)]
 pub fn replay(height: u32, gates: &[u32], given: &[u32], records: &[u32], recording: Recording<'_>, run: Run<'_>, areas: Areas<'_>, tape: Tape<'_>) -> Answer {
-    let mut answer = [0usize; 5];
+    let mut answer = [0usize; 6];
     let Run { out, end } = run;
     let Areas { plan, words, counts, work } = areas;
     let Tape { tape, slots, bits } = tape;
@@ -650,7 +653,7 @@ pub fn replay(height: u32, gates: &[u32], given: &[u32], records: &[u32], record
             answer.as_mut_ptr(), answer.len(),
         )
     };
-    Answer { number, stages: answer[1], words: answer[2], stage: answer[3], pin: answer[4] }
+    Answer { number, stages: answer[1], words: answer[2], stage: answer[3], pin: answer[4], cells: answer[5] }
 }
 
 /// The text of what a build answered and left, to the front of `out`: the listing of its plan, or a refusal's line. `listing_size` bytes are

@@ -108,7 +108,7 @@ pub fn bench(turns: usize) -> bool {
             let (seconds, answer) = measure(&case, 1, AGAIN * turns);
             worst = worst.max(seconds);
             let pin = check::loop_pin(&case.gates);
-            right &= answer == Answer { number: 23, stages: 0, words: 0, stage: 0, pin };
+            right &= answer == Answer { number: 23, stages: 0, words: 0, stage: 0, pin, cells: 0 };
             println!("{name}{}: answer {}, pin {}: {:.2} ms", if shuffled { ", shuffled" } else { "" }, answer.number, answer.pin, 1e3 * seconds);
         }
     }

@@ -50,14 +50,15 @@ fn left(case: &Case, number: u32, outcome: Option<&Outcome>, lent: Sizes, before
 
 /// The answer to expect: the checks, then the Rust's, with the rooms that it doesn't have.
 fn expected(checked: u32, pin: usize, outcome: Option<&Outcome>, rooms: usize) -> Answer {
-    let refused = |number, stage| Answer { number, stages: 0, words: 0, stage, pin };
+    let refused = |number, stage| Answer { number, stages: 0, words: 0, stage, pin, cells: 0 };
     match outcome {
         _ if checked != 0 => refused(checked, 0),
         Some(Outcome::Whole(stages)) if stages.len() > rooms => refused(9, rooms + 1),
         Some(Outcome::Refused { stage, .. }) if *stage > rooms => refused(9, rooms + 1),
         Some(Outcome::Refused { number, stage }) => refused(*number, *stage),
         Some(Outcome::Whole(stages)) => {
-            Answer { number: 0, stages: stages.len(), words: stages.iter().map(|s| s.words.len()).sum(), stage: 0, pin }
+            let (words, cells) = (stages.iter().map(|s| s.words.len()).sum(), stages.iter().map(|s| published::filled(&s.rows)).sum());
+            Answer { number: 0, stages: stages.len(), words, stage: 0, pin, cells }
         }
         _ => unreachable!(),
     }

@@ -26,7 +26,7 @@ pub struct Agreed {
 }
 
 fn refused(number: u32, stage: usize, refused: usize) -> Merged {
-    Merged { number, stages: 0, words: 0, stage, partitions: 0, trials: 0, refused, pin: 0 }
+    Merged { number, stages: 0, words: 0, stage, partitions: 0, trials: 0, refused, pin: 0, cells: 0 }
 }
 
 fn expected(answer: &Answer) -> Merged {
@@ -41,6 +41,7 @@ fn expected(answer: &Answer) -> Merged {
             trials: *trials,
             refused: 0,
             pin: 0,
+            cells: parts.iter().map(|part| part.cells).sum(),
         },
     }
 }

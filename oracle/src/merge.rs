@@ -160,6 +160,7 @@ impl Builds<'_> {
                 records: records.to_vec(),
                 stages: stages.len(),
                 words: stages.iter().map(|stage| stage.words.len()).sum(),
+                cells: stages.iter().map(|stage| published::filled(&stage.rows)).sum(),
             }),
             Outcome::Refused { number, stage } => Err((number, stage)),
             Outcome::Panicked => unreachable!(),

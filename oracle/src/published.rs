@@ -18,12 +18,13 @@ pub enum Outcome {
     Panicked,
 }
 
-/// A partition of a merge: its records, and the stages and words that it takes.
+/// A partition of a merge: its records, and the stages, words and filled cells that it takes.
 #[derive(Clone, Debug, PartialEq)]
 pub struct Part {
     pub records: Vec<usize>,
     pub stages: usize,
     pub words: usize,
+    pub cells: usize,
 }
 
 pub enum Merged {
@@ -40,6 +41,11 @@ pub struct Graph {
     /// From a record's index to its endpoint's, and back.
     endpoint: Vec<usize>,
     record: Vec<usize>,
+}
+
+/// How many cells of a stage are filled.
+pub fn filled(rows: &[Vec<usize>]) -> usize {
+    rows.iter().flatten().filter(|&&pin| pin != usize::MAX).count()
 }
 
 macro_rules! heights {
@@ -68,11 +74,11 @@ macro_rules! heights {
             }
         }
 
-        pub fn process(height: u32, graph: &Graph, parts: Vec<Vec<usize>>, extra: usize) -> Option<Vec<(Vec<usize>, usize, usize)>> {
+        pub fn process(height: u32, graph: &Graph, parts: Vec<Vec<usize>>, extra: usize) -> Option<Vec<(Vec<usize>, usize, usize, usize)>> {
             match height {
                 $($k => gem::$module::process_partitions(&graph.aig, &graph.staged, parts, extra).map(|parts| {
                     parts.into_iter()
-                        .map(|p| (p.endpoints, p.stages.len(), p.stages.iter().map(|s| s.write_outs.len()).sum()))
+                        .map(|p| (p.endpoints, p.stages.len(), p.stages.iter().map(|s| s.write_outs.len()).sum(), p.stages.iter().map(|s| super::filled(&s.hier)).sum()))
                         .collect()
                 }),)*
                 _ => unreachable!()
@@ -103,7 +109,7 @@ pub fn timed(height: u32, graph: &Graph) -> f64 {
     }
 }
 
-fn process(height: u32, graph: &Graph, parts: Vec<Vec<usize>>, extra: usize) -> Option<Vec<(Vec<usize>, usize, usize)>> {
+fn process(height: u32, graph: &Graph, parts: Vec<Vec<usize>>, extra: usize) -> Option<Vec<(Vec<usize>, usize, usize, usize)>> {
     match graph.rule {
         WordRule::EveryRun => every::process(height, graph, parts, extra),
         WordRule::NeededRuns => needed::process(height, graph, parts, extra),
@@ -212,9 +218,9 @@ pub fn merge(height: u32, graph: &Graph, parts: &[Vec<usize>], extra: usize) -> 
         Ok(None) => Merged::Refused,
         Ok(Some(merged)) => Merged::Whole(
             merged.into_iter()
-                .map(|(endpoints, stages, words)| {
+                .map(|(endpoints, stages, words, cells)| {
                     let records = endpoints.into_iter().map(|e| graph.record[e]).collect();
-                    Part { records, stages, words }
+                    Part { records, stages, words, cells }
                 })
                 .collect(),
         ),

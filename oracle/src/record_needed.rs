@@ -141,7 +141,7 @@ fn build_text(name: &str, case: &Case, built: &Built) -> String {
     out + "end\n"
 }
 
-/// The library's answer to a merge. It gives the sum of the words alone; those of a partition are counted by a build of its records.
+/// The library's answer to a merge. It gives the sums of words and cells alone; those of a partition are counted by a build of its records.
 fn merged(rule: WordRule, merge: &Merge) -> Answer {
     let (answer, groups) = compare_merge::merged(rule, merge, ROOMS);
     if answer.number != 0 {
@@ -156,9 +156,10 @@ fn merged(rule: WordRule, merge: &Merge) -> Answer {
         let chosen = part.iter().flat_map(|&record| records[record as usize].clone()).collect();
         let alone = built(rule, &Case { records: chosen, ..merge.case.clone() }, ROOMS).answer;
         assert_eq!((alone.number, alone.stages), (0, stages as usize));
-        parts.push(Part { records: part.iter().map(|&record| record as usize).collect(), stages: alone.stages, words: alone.words });
+        parts.push(Part { records: part.iter().map(|&record| record as usize).collect(), stages: alone.stages, words: alone.words, cells: alone.cells });
     }
     assert_eq!(parts.iter().map(|part| part.words).sum::<usize>(), answer.words);
+    assert_eq!(parts.iter().map(|part| part.cells).sum::<usize>(), answer.cells);
     Answer::Whole { parts, trials: answer.trials }
 }
 

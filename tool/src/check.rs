@@ -66,8 +66,8 @@ pub fn run(args: &Args) -> Done<()> {
         out.flush()?;
         return Err(End::Refused(said));
     }
-    let Answer { stages, words, .. } = built.answer;
-    out.put(format!("placed stages {stages} words {words} cells {}\n", built.cells()))?;
+    let Answer { stages, words, cells, .. } = built.answer;
+    out.put(format!("placed stages {stages} words {words} cells {cells}\n"))?;
     let rooms = built.lent.rooms;
     let plan = plan_size(height, rooms);
     let mut lend = vec![

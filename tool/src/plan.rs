@@ -4,7 +4,7 @@ use crate::end::{Done, End};
 use crate::files::Out;
 use crate::job::{self, Job, Read};
 use crate::memory::{self, lend, Lent, Space};
-use crate::placer::{build, list_answer, listing_size, stage_size, Answer, EMPTY};
+use crate::placer::{build, list_answer, listing_size, stage_size, Answer};
 use crate::sheet;
 use crate::svg;
 use crate::why;
@@ -49,16 +49,11 @@ impl Built {
         self.lent.plan.chunks_exact(stage_size(self.height)).take(self.answer.stages)
     }
 
-    /// The filled cells of all stages.
-    pub fn cells(&self) -> usize {
-        self.stages().map(|stage| stage.iter().filter(|&&pin| pin != EMPTY).count()).sum()
-    }
-
     /// The listing, or the refusal's line.
     pub fn listing(&self) -> Done<Vec<u8>> {
         let Built { height, answer, lent } = self;
         // a line for each filled cell, of at most 17 bytes; the library's own size counts the empty ones too
-        let lines = self.cells().saturating_mul(17);
+        let lines = answer.cells.saturating_mul(17);
         let least = lines.saturating_add(answer.stages.saturating_mul(48)).saturating_add(answer.words.saturating_mul(11)).saturating_add(64);
         for size in [least, listing_size(*height, answer.stages, answer.words)] {
             let mut text = memory::area(0, size)?;
@@ -107,8 +102,8 @@ fn one(path: &PathBuf, args: &Args, out: &mut Out) -> Done<()> {
         }
     };
     if args.quiet && built.answer.number == 0 {
-        let Answer { stages, words, .. } = built.answer;
-        out.put(format!("stages {stages} words {words} cells {} seconds {:.3}\n", built.cells(), from.elapsed().as_secs_f64()))?;
+        let Answer { stages, words, cells, .. } = built.answer;
+        out.put(format!("stages {stages} words {words} cells {cells} seconds {:.3}\n", from.elapsed().as_secs_f64()))?;
     } else {
         out.put(built.listing()?)?;
     }

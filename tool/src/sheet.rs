@@ -3,7 +3,7 @@
 use crate::end::{stopped, Done, End};
 use crate::files;
 use crate::memory::{self, Lent, Space};
-use crate::placer::{read_sheet, sheet_size, words_size, write_sheet, Answer};
+use crate::placer::{read_sheet, sheet_size, words_size, write_sheet, Answer, EMPTY};
 use crate::plan::Built;
 use crate::why;
 use std::path::Path;
@@ -39,7 +39,9 @@ pub fn read(name: &str, bytes: &[u8], space: &Space) -> Done<Read> {
     if read.number != 0 {
         return Ok(Read::Refused { number: read.number, said: why::sheet(name, bytes, read.number, stages, rooms) });
     }
-    let answer = Answer { stages: read.stages, words: read.words, ..Answer::default() };
+    // a sheet tells no build's sum
+    let cells = lent.plan.iter().filter(|&&pin| pin != EMPTY).count();
+    let answer = Answer { stages: read.stages, words: read.words, cells, ..Answer::default() };
     Ok(Read::Plan(Built { height: read.height, answer, lent }))
 }
 

@@ -294,7 +294,7 @@ pub fn draw(name: &str, job: Option<&Job>, built: &Built, out: &mut Out) -> Done
         built.height,
         built.answer.stages,
         built.answer.words,
-        built.cells()
+        built.answer.cells
     ))?;
     out.put(&body)?;
     out.put("</svg>\n")

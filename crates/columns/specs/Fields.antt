@@ -60,5 +60,8 @@ ONES = 256
 abbrev pub PINS : ℕ
 PINS = 257
 
+abbrev pub FILLED : ℕ
+FILLED = 258
+
 abbrev pub RECORDS : ℕ
 RECORDS = 512

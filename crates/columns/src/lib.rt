@@ -65,6 +65,9 @@ pub const ONES: usize = 256;
 // Distinct pins above level 0.
 pub const PINS: usize = 257;
 
+// Filled cells of all levels.
+pub const FILLED: usize = 258;
+
 // From here on 8 numbers a record number.
 pub const RECORDS: usize = 512;
 

@@ -8,7 +8,7 @@ use Rattle.entries.specs.Entry.{Entry, entered}
 
 -- what a reply has behind its number
 unfoldable pub rest : rules.Reply → List ℕ
-rest r = r .stages ∷ r .words ∷ r .stage ∷ r .pin ∷ []
+rest r = r .stages ∷ r .words ∷ r .stage ∷ r .pin ∷ r .cells ∷ []
 
 unfoldable pub built : WordRule → ℕ → (gates given records : List ℕ) → rules.Areas → List ℕ → Entry rules.Areas
 built rule K gates given records a xs =

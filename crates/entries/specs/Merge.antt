@@ -18,7 +18,7 @@ lent xs ls st pl ws cs w = record { groups = groupList xs ls st; areas = areas p
 
 -- what a reply has behind its number
 unfoldable pub rest : MergeReply → List ℕ
-rest r = r .stages ∷ r .words ∷ r .stage ∷ r .partitions ∷ r .trials ∷ r .refused ∷ r .pin ∷ []
+rest r = r .stages ∷ r .words ∷ r .stage ∷ r .partitions ∷ r .trials ∷ r .refused ∷ r .pin ∷ r .cells ∷ []
 
 unfoldable pub merged : WordRule → ℕ → (gates given records : List ℕ) → ℕ → Lent → List ℕ → Entry Lent
 merged rule K gates given records extra l xs =

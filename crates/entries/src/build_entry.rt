@@ -26,7 +26,7 @@ fn enter(
 ) -> u32
     ensures { λ r. ⌜ entry r (areas (now (plan .exit)) (now (words .exit)) (now (counts .exit)) (now (work .exit))) (now (answer .exit)) ≡ built (ruleOf rule) height (now (gates .entry)) (now (given .entry)) (now (records .entry)) (areas (now (plan .entry)) (now (words .entry)) (now (counts .entry)) (now (work .entry))) (now (answer .entry)) ⌝ }
 {
-    if answer.len() < 5 {
+    if answer.len() < 6 {
         return WRONG_SIZE;
     }
     let a = build_by(
@@ -42,12 +42,12 @@ fn enter(
     );
     let pin = a.pin;
     let shown = pin.index();
-    let numbers = [wide(a.number), a.stages, a.words, a.stage, shown];
+    let numbers = [wide(a.number), a.stages, a.words, a.stage, shown, a.cells];
     tell(&numbers, answer);
     a.number
 }
 
-// As `build_by`, by the number of a word rule, 0 or 1, with the answer in the first five numbers of `answer`. Returns the number. Where `answer` is
+// As `build_by`, by the number of a word rule, 0 or 1, with the answer in the first six numbers of `answer`. Returns the number. Where `answer` is
 // shorter that is 2, and nothing is changed; another word rule gives 2 before anything else. C's header has the same without a rule.
 #[no_mangle]
 pub extern "C" fn placer_build_by(
@@ -66,7 +66,7 @@ pub extern "C" fn placer_build_by(
 {
     match rule_named(rule) {
         MaybeRule::Unknown => {
-            let numbers = [wide(WRONG_SIZE), 0, 0, 0, 0];
+            let numbers = [wide(WRONG_SIZE), 0, 0, 0, 0, 0];
             tell(&numbers, answer);
             WRONG_SIZE
         }

@@ -29,7 +29,7 @@ fn enter(
 ) -> u32
     ensures { λ r. ⌜ entry r (lent (now (indices .exit)) (now (lengths .exit)) (now (stages .exit)) (now (plan .exit)) (now (words .exit)) (now (counts .exit)) (now (work .exit))) (now (answer .exit)) ≡ merged (ruleOf rule) height (now (gates .entry)) (now (given .entry)) (now (records .entry)) extra (lent (now (indices .entry)) (now (lengths .entry)) (now (stages .entry)) (now (plan .entry)) (now (words .entry)) (now (counts .entry)) (now (work .entry))) (now (answer .entry)) ⌝ }
 {
-    if answer.len() < 8 {
+    if answer.len() < 9 {
         return WRONG_SIZE;
     }
     let a = merge_by(
@@ -58,12 +58,13 @@ fn enter(
         a.trials,
         a.refused,
         shown,
+        a.cells,
     ];
     tell(&numbers, answer);
     a.number
 }
 
-// As `merge_by`, by the number of a word rule, 0 or 1, with the answer in the first eight numbers of `answer`. Returns the number. Where `answer` is
+// As `merge_by`, by the number of a word rule, 0 or 1, with the answer in the first nine numbers of `answer`. Returns the number. Where `answer` is
 // shorter that is 2, and nothing is changed; another word rule gives 2 before anything else. C's header has the same without a rule.
 #[no_mangle]
 pub extern "C" fn merge_partitions_by(
@@ -86,7 +87,7 @@ pub extern "C" fn merge_partitions_by(
 {
     match rule_named(rule) {
         MaybeRule::Unknown => {
-            let numbers = [wide(WRONG_SIZE), 0, 0, 0, 0, 0, 0, 0];
+            let numbers = [wide(WRONG_SIZE), 0, 0, 0, 0, 0, 0, 0, 0];
             tell(&numbers, answer);
             WRONG_SIZE
         }

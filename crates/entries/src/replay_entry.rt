@@ -8,7 +8,7 @@ ghost use Rattle.replay.specs.Answers.{job, lent};
 ghost use Rattle.entries.specs.Entry.{entry};
 ghost use Rattle.entries.specs.Replay.{recordingReplayed};
 
-// As `replay::replay`, with the answer in the first five numbers of `answer`, as of a build. Returns the number. Where `answer` is shorter that is
+// As `replay::replay`, with the answer in the first six numbers of `answer`, as of a build. Returns the number. Where `answer` is shorter that is
 // 2, and nothing is changed.
 #[no_mangle]
 pub extern "C" fn replay_recording(
@@ -33,7 +33,7 @@ pub extern "C" fn replay_recording(
 ) -> u32
     ensures { λ r. ⌜ entry r (lent (now (plan .exit)) (now (words .exit)) (now (counts .exit)) (now (work .exit)) (now (tape .exit)) (now (slots .exit)) (now (bits .exit)) (now (out .exit)) (now (end .exit))) (now (answer .exit)) ≡ recordingReplayed (job height (now (gates .entry)) (now (given .entry)) (now (records .entry)) (now (driven .entry)) (now (start .entry)) lines (now (recording .entry))) (lent (now (plan .entry)) (now (words .entry)) (now (counts .entry)) (now (work .entry)) (now (tape .entry)) (now (slots .entry)) (now (bits .entry)) (now (out .entry)) (now (end .entry))) (now (answer .entry)) ⌝ }
 {
-    if answer.len() < 5 {
+    if answer.len() < 6 {
         return WRONG_SIZE;
     }
     let a = replay(
@@ -57,7 +57,7 @@ pub extern "C" fn replay_recording(
     );
     let pin = a.pin;
     let shown = pin.index();
-    let numbers = [wide(a.number), a.stages, a.words, a.stage, shown];
+    let numbers = [wide(a.number), a.stages, a.words, a.stage, shown, a.cells];
     tell(&numbers, answer);
     a.number
 }

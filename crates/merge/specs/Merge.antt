@@ -16,10 +16,10 @@ use Rattle.merge.specs.declared.Answer.{Answer}
 
 -- an answer as the scope document has it
 unfoldable pub told : Answer → MergeReply
-told a = record { number = a .number; stages = a .stages; words = a .words; stage = a .stage; partitions = a .partitions; trials = a .trials; refused = a .refused; pin = a .pin .0 }
+told a = record { number = a .number; stages = a .stages; words = a .words; stage = a .stage; partitions = a .partitions; trials = a .trials; refused = a .refused; pin = a .pin .0; cells = a .cells }
 
 unfoldable pub refusedFor : (number stage part : ℕ) → Answer
-refusedFor n k i = record { number = n; stages = 0; words = 0; stage = k; partitions = 0; trials = 0; refused = i; pin = record { 0 = 0 } }
+refusedFor n k i = record { number = n; stages = 0; words = 0; stage = k; partitions = 0; trials = 0; refused = i; pin = record { 0 = 0 }; cells = 0 }
 
 unfoldable pub outcome : Answer → (indices lengths stages plan words counts work : List ℕ) → MergeOutcome
 outcome a xs ls st pl ws cs w = record { reply = told a; groups = groupList xs ls st; areas = areas pl ws cs w }

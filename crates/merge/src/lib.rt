@@ -20,7 +20,7 @@ ghost use Rattle.merge_checks.specs.Values.{groupList, areas};
 ghost use Rattle.merge.specs.Merge.{JoinAt, Joined, PlaceAt, Placed, refusedFor, outcome};
 
 // The scope document's number, the sums of stages and words, the refused stage, the partitions left, the unions examined, the refused
-// partition from 1, and with 23 the smallest pin on any loop.
+// partition from 1, with 23 the smallest pin on any loop, and the sum of the filled cells.
 pub struct Answer {
     pub number: u32,
     pub stages: usize,
@@ -30,6 +30,7 @@ pub struct Answer {
     pub trials: usize,
     pub refused: usize,
     pub pin: Pin,
+    pub cells: usize,
 }
 
 fn refuse(number: u32, stage: usize, refused: usize) -> Answer
@@ -44,6 +45,7 @@ fn refuse(number: u32, stage: usize, refused: usize) -> Answer
         trials: 0,
         refused: refused,
         pin: Pin(0),
+        cells: 0,
     }
 }
 
@@ -117,6 +119,7 @@ fn join(
                 trials: trials,
                 refused: 0,
                 pin: Pin(0),
+                cells: left.cells,
             }
         }
     }
@@ -212,6 +215,7 @@ pub fn merge_by(
             trials: 0,
             refused: 0,
             pin: pin,
+            cells: 0,
         };
     }
     let limit = Height(height).word_limit();

@@ -4,7 +4,7 @@ use mathlib.Core.List.{List, [], map}
 use mathlib.Core.Path.{_≡_}
 use lib.ListN.{length, getD, take, drop}
 use Rattle.rules.specs.Lists.{sum, padded}
-use Rattle.rules.specs.Merge.{Part, addPart, splitBy, indicesOf, lengthsOf, stagesIn, wordsFor, joined}
+use Rattle.rules.specs.Merge.{Part, addPart, splitBy, indicesOf, lengthsOf, stagesIn, wordsFor, cellsFor, joined}
 use Rattle.merge_slots.specs.Slots.{gathered, own, full, held}
 use Rattle.merge_slots.specs.Sorts.{order}
 use Rattle.merge_layout.specs.declared.Totals.{Totals}
@@ -16,9 +16,9 @@ pub record OrderAt (ls o : List ℕ) : Type 0 where
 
 pub record Ordered (ls o o′ : List ℕ) (r : ℕ) : Type 0 where
   pub size : length o′ ≡ length o
-  pub kept : (x : ℕ) → x < 3 * length ls → getD o′ x 0 ≡ getD o x 0
+  pub kept : (x : ℕ) → x < 4 * length ls → getD o′ x 0 ≡ getD o x 0
   pub few : r ≤ length ls
-  pub slots : (k : ℕ) → k < r → own 6 (length ls) o′ k < length ls
+  pub slots : (k : ℕ) → k < r → own 7 (length ls) o′ k < length ls
   pub is : (P : ℕ → Part) → ((s : ℕ) → s < length ls → P s .stages ≡ own 1 (length ls) o s) → gathered addPart P (full ls) (length ls) 0 ≡ map P (order (length ls) o′ r)
 
 pub record GatherAt (xs ls ord : List ℕ) (k : ℕ) (to : List ℕ) : Type 0 where
@@ -35,36 +35,36 @@ pub record TableAt (ls : List ℕ) (k : ℕ) (o : List ℕ) : Type 0 where
   pub few : length ls ≤ 1024
   pub room : length o ≡ 8 * length ls
   pub inside : k ≤ length ls
-  pub slots : (i : ℕ) → i < k → own 6 (length ls) o i < length ls
+  pub slots : (i : ℕ) → i < k → own 7 (length ls) o i < length ls
 
 -- the first k numbers of columns 4 and 5 are 0
 pub record Cleared (n k : ℕ) (o o′ : List ℕ) : Type 0 where
   pub size : length o′ ≡ length o
-  pub below : (x : ℕ) → x < 4 * n → getD o′ x 0 ≡ getD o x 0
-  pub above : (x : ℕ) → 6 * n ≤ x → getD o′ x 0 ≡ getD o x 0
-  pub fourth : (i : ℕ) → i < k → own 4 n o′ i ≡ 0
+  pub below : (x : ℕ) → x < 5 * n → getD o′ x 0 ≡ getD o x 0
+  pub above : (x : ℕ) → 7 * n ≤ x → getD o′ x 0 ≡ getD o x 0
   pub fifth : (i : ℕ) → i < k → own 5 n o′ i ≡ 0
+  pub sixth : (i : ℕ) → i < k → own 6 n o′ i ≡ 0
 
 pub record FillAt (ls : List ℕ) (k : ℕ) (o : List ℕ) : Type 0 where
   pub table : TableAt ls k o
-  pub fourth : (i : ℕ) → i < length ls → own 4 (length ls) o i ≡ 0
   pub fifth : (i : ℕ) → i < length ls → own 5 (length ls) o i ≡ 0
+  pub sixth : (i : ℕ) → i < length ls → own 6 (length ls) o i ≡ 0
 
 pub record Tabled (ls : List ℕ) (k : ℕ) (o o′ : List ℕ) : Type 0 where
   pub size : length o′ ≡ length o
-  pub below : (x : ℕ) → x < 4 * length ls → getD o′ x 0 ≡ getD o x 0
-  pub above : (x : ℕ) → 6 * length ls ≤ x → getD o′ x 0 ≡ getD o x 0
-  pub lengths : (i : ℕ) → i < k → own 4 (length ls) o′ i ≡ getD ls (own 6 (length ls) o i) 0
-  pub stages : (i : ℕ) → i < k → own 5 (length ls) o′ i ≡ own 1 (length ls) o (own 6 (length ls) o i)
-  pub no-lengths : (i : ℕ) → k ≤ i → i < length ls → own 4 (length ls) o′ i ≡ 0
-  pub no-stages : (i : ℕ) → k ≤ i → i < length ls → own 5 (length ls) o′ i ≡ 0
+  pub below : (x : ℕ) → x < 5 * length ls → getD o′ x 0 ≡ getD o x 0
+  pub above : (x : ℕ) → 7 * length ls ≤ x → getD o′ x 0 ≡ getD o x 0
+  pub lengths : (i : ℕ) → i < k → own 5 (length ls) o′ i ≡ getD ls (own 7 (length ls) o i) 0
+  pub stages : (i : ℕ) → i < k → own 6 (length ls) o′ i ≡ own 1 (length ls) o (own 7 (length ls) o i)
+  pub no-lengths : (i : ℕ) → k ≤ i → i < length ls → own 5 (length ls) o′ i ≡ 0
+  pub no-stages : (i : ℕ) → k ≤ i → i < length ls → own 6 (length ls) o′ i ≡ 0
 
 pub record TotalAt (n f k : ℕ) (o : List ℕ) : Type 0 where
   pub few : n ≤ 1024
   pub room : length o ≡ 8 * n
   pub column : f < 8
   pub inside : k ≤ n
-  pub slots : (i : ℕ) → i < k → own 6 n o i < n
+  pub slots : (i : ℕ) → i < k → own 7 n o i < n
 
 -- the sum of a column along the order
 unfoldable pub sums : ℕ → ℕ → List ℕ → ℕ → ℕ
@@ -86,6 +86,7 @@ pub record Written (ls : List ℕ) (k : ℕ) (o ls′ st′ : List ℕ) (r : Tot
   pub partitions : r .partitions ≡ k
   pub all-stages : r .stages ≡ sums (length ls) 1 o k
   pub all-words : r .words ≡ sums (length ls) 2 o k
+  pub all-cells : r .cells ≡ sums (length ls) 3 o k
 
 -- ---- the whole
 
@@ -126,4 +127,5 @@ pub record Laid (spare base : ℕ) (xs ls w xs′ ls′ st′ w′ : List ℕ) (
   pub partitions : r .partitions ≡ length (sorted base xs ls w)
   pub all-stages : r .stages ≡ sum (stagesIn (sorted base xs ls w))
   pub all-words : r .words ≡ sum (wordsFor (sorted base xs ls w))
+  pub all-cells : r .cells ≡ sum (cellsFor (sorted base xs ls w))
   pub elsewhere : Elsewhere spare base xs ls w w′

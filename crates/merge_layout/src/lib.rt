@@ -1,5 +1,6 @@
 // The merged partitions in their final order, laid out in the caller's group list.
 use columns::wide;
+use merge_slots::CELLS;
 use merge_slots::GROWS;
 use merge_slots::ORDER;
 use merge_slots::STAGES;
@@ -18,6 +19,7 @@ pub struct Totals {
     pub partitions: usize,
     pub stages: usize,
     pub words: usize,
+    pub cells: usize,
 }
 
 // The full slots in their final order, in column ORDER. Returns how many.
@@ -113,12 +115,14 @@ fn write_lists(lengths: &mut [u32], stages: &mut [u32], own: &mut [u32], k: usiz
     let c = ORDER * n;
     let stages_sum = total(own, n, STAGES, k);
     let words_sum = total(own, n, WORDS, k);
+    let cells_sum = total(own, n, CELLS, k);
     copy(lengths, &own[a..b]);
     copy(stages, &own[b..c]);
     Totals {
         partitions: k,
         stages: stages_sum,
         words: words_sum,
+        cells: cells_sum,
     }
 }
 

@@ -52,18 +52,19 @@ pub record Changes (m table base n : ℕ) (w w′ : List ℕ) : Type 0 where
 
 -- ---- one slot
 
-pub record NoteAt (m table base n s stages words : ℕ) (gates given records part w : List ℕ) : Type 0 where
+pub record NoteAt (m table base n s stages words cells : ℕ) (gates given records part w : List ℕ) : Type 0 where
   pub K : ℕ
   pub ground : Ground K m table base n gates given records w
   pub groups : Grouped m table records part
   pub inside : s < n
   pub stages-fit : stages < 4294967296
   pub words-fit : words < 4294967296
+  pub cells-fit : cells < 4294967296
 
-pub record Noted (m table base n s stages words : ℕ) (gates given records part w w′ : List ℕ) : Type 0 where
+pub record Noted (m table base n s stages words cells : ℕ) (gates given records part w w′ : List ℕ) : Type 0 where
   pub changes : Changes m table base n w w′
   pub size : ℕ
-  pub stored : Stored n s size stages words (owned base n w) (owned base n w′)
+  pub stored : Stored n s size stages words cells (owned base n w) (owned base n w′)
   pub measured : (J : Common) → Shares gates given records J → size ≡ sizeFor J part
 
 pub record MeasureAt (K m table base n s : ℕ) (gates given records part pl ws cs w : List ℕ) : Type 0 where
@@ -79,7 +80,7 @@ pub record Measures (rule : WordRule) (K m table base n s : ℕ) (gates given re
   pub changes : Changes m table base n w w′
   pub few : a .stages ≤ m
   pub reply : (J : Common) → Places rule K (length pl) gates given records J → told a ≡ rules.reply (builtOf J part)
-  pub noted : a .number ≡ 0 → Noted m table base n s (a .stages) (a .words) gates given records part w w′
+  pub noted : a .number ≡ 0 → Noted m table base n s (a .stages) (a .words) (a .cells) gates given records part w w′
 
 -- ---- every slot
 

@@ -18,7 +18,7 @@ pub enum Originals {
     Built(usize),
 }
 
-// The size of a built partition's traversal, its stages and words become the own numbers of slot s.
+// The size of a built partition's traversal, its stages, words and filled cells become the own numbers of slot s.
 fn note(
     gates: &[u32],
     given: &[u32],
@@ -32,13 +32,14 @@ fn note(
     s: usize,
     stages: usize,
     words: usize,
+    cells: usize,
 )
-    requires { ⌜ NoteAt m table base n s stages words (now gates) (now given) (now records) (now part) (now work) ⌝ }
-    ensures { λ _. ⌜ Noted m table base n s stages words (now (gates .entry)) (now (given .entry)) (now (records .entry)) (now (part .entry)) (now (work .entry)) (now (work .exit)) ⌝ }
+    requires { ⌜ NoteAt m table base n s stages words cells (now gates) (now given) (now records) (now part) (now work) ⌝ }
+    ensures { λ _. ⌜ Noted m table base n s stages words cells (now (gates .entry)) (now (given .entry)) (now (records .entry)) (now (part .entry)) (now (work .entry)) (now (work .exit)) ⌝ }
 {
     let size = size_union(gates, given, records, part, &part[0..0], work, m, table);
     let end = base + 8 * n;
-    store_built(&mut work[base..end], n, s, size, stages, words);
+    store_built(&mut work[base..end], n, s, size, stages, words, cells);
 }
 
 // Slot s built and measured, or its refusal.
@@ -93,6 +94,7 @@ pub fn measure(
         s,
         a.stages,
         a.words,
+        a.cells,
     );
     a
 }

@@ -44,7 +44,7 @@ pub record RoundAt (K m table base i cap ranks trials : ℕ) (gates given record
   pub blank : Blank K pl ws cs
   pub first : i < length ls
   pub full-first : full ls i ≡ true
-  pub cap-fits : cap < 4294967296
+  pub cap-fits : cap < 262144
   pub trials-fit : trials + ranks ≤ 4294967295
   pub ready : (J : Common) → Shares gates given records J → (s : ℕ) → i < s → s < length ls → opensIn base ls w s ≡ true
       → Ready J (partsIn base xs ls w i) (partsIn base xs ls w) (length ls) (owned base (length ls) w) s
@@ -82,7 +82,7 @@ pub record IntoAt (K m table base i cap ranks fuel trials : ℕ) (gates given re
   pub blank : Blank K pl ws cs
   pub first : i < length ls
   pub full-first : full ls i ≡ true
-  pub cap-fits : cap < 4294967296
+  pub cap-fits : cap < 262144
   pub few : ranks ≤ 260
   pub trials-fit : trials + 260 * fuel ≤ 4294967295
   pub opens : (s : ℕ) → i < s → s < length ls → opensIn base ls w s ≡ full ls s
@@ -103,7 +103,7 @@ pub record SlotAt (K m table base i cap ranks fuel trials : ℕ) (gates given re
   pub at : Stands K m table base gates given records xs ls w
   pub blank : Blank K pl ws cs
   pub first : i < length ls
-  pub cap-fits : cap < 4294967296
+  pub cap-fits : cap < 262144
   pub few : ranks ≤ 260
   pub fuel-few : fuel ≤ 1024
   pub trials-fit : trials + 266240 * fuel ≤ 4294967295
@@ -120,7 +120,7 @@ pub record Stepped (rule : WordRule) (K m table base i cap ranks fuel trials : �
 pub record SlotsAt (K m table base cap ranks : ℕ) (gates given records xs ls pl ws cs w : List ℕ) : Type 0 where
   pub at : Stands K m table base gates given records xs ls w
   pub blank : Blank K pl ws cs
-  pub cap-fits : cap < 4294967296
+  pub cap-fits : cap < 262144
   pub few : ranks ≤ 260
 
 pub record Slotted (rule : WordRule) (K m table base cap ranks : ℕ) (gates given records xs ls pl w : List ℕ) (r : ℕ) (xs′ ls′ pl′ ws′ cs′ w′ : List ℕ) : Type 0 where

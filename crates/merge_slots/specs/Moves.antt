@@ -59,7 +59,7 @@ pub record Only (f n : ℕ) (o o′ : List ℕ) : Type 0 where
   pub above : (x : ℕ) → f * n + n ≤ x → getD o′ x 0 ≡ getD o x 0
 
 pub record Opened (ls o o′ : List ℕ) : Type 0 where
-  pub only : Only 3 (length ls) o o′
+  pub only : Only 4 (length ls) o o′
   pub bars : (s : ℕ) → s < length ls → free (length ls) o′ s ≡ full ls s
 
 -- ---- the best slot

@@ -10,8 +10,8 @@ use Rattle.merge_slots.specs.Slots.{own, gathered, listed}
 
 -- slot s has the keys of its union with p
 pub record Ready (J : Common) (p : Part) (P : ℕ → Part) (n : ℕ) (o : List ℕ) (s : ℕ) : Type 0 where
-  pub grows : own 4 n o s ≡ rankOf J p (P s) .grows
-  pub union : own 5 n o s ≡ rankOf J p (P s) .union
+  pub grows : own 5 n o s ≡ rankOf J p (P s) .grows
+  pub union : own 6 n o s ≡ rankOf J p (P s) .union
 
 -- of the k slots from i on those are open that are full and not barred
 pub record Bars (full opens : ℕ → Bool) (k i : ℕ) (barred : List ℕ) : Type 0 where

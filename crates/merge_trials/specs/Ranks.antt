@@ -48,7 +48,7 @@ pub record Stays (m table base : ℕ) (w w′ : List ℕ) : Type 0 where
 
 -- every slot from `from` on is barred where none was found
 pub record Looked (base c from : ℕ) (w : List ℕ) (r : Bool) : Type 0 where
-  pub barred : r ≡ false → (s : ℕ) → from ≤ s → s < c → getD w (base + (3 * c + s)) 0 ≢ 0
+  pub barred : r ≡ false → (s : ℕ) → from ≤ s → s < c → getD w (base + (4 * c + s)) 0 ≢ 0
 
 -- what a change of keys leaves while a cone stands
 pub record Keeps (table base : ℕ) (w w′ : List ℕ) : Type 0 where
@@ -68,9 +68,9 @@ pub record RankAt (x : Of) (m table base c i s n k : ℕ) (gates records names w
 pub record SlotRanked (x : Of) (m table base c i s n k : ℕ) (gates records names w w′ : List ℕ) : Type 0 where
   pub keeps : Keeps table base w w′
   pub cone : Cone m table n k gates (x .given) records (x .names) w′
-  pub others : (y : ℕ) → y ≢ 4 * c + s → y ≢ 5 * c + s → getD (owned base c w′) y 0 ≡ getD (owned base c w) y 0
-  pub grows : (J : Common) → Shares gates (x .given) records J → free c (owned base c w) s ≡ true → own 4 c (owned base c w′) s ≡ sizeFor J (x .names ++ names) - max (own 0 c (owned base c w) i) (own 0 c (owned base c w) s)
-  pub union : (J : Common) → Shares gates (x .given) records J → free c (owned base c w) s ≡ true → own 5 c (owned base c w′) s ≡ sizeFor J (x .names ++ names)
+  pub others : (y : ℕ) → y ≢ 5 * c + s → y ≢ 6 * c + s → getD (owned base c w′) y 0 ≡ getD (owned base c w) y 0
+  pub grows : (J : Common) → Shares gates (x .given) records J → free c (owned base c w) s ≡ true → own 5 c (owned base c w′) s ≡ sizeFor J (x .names ++ names) - max (own 0 c (owned base c w) i) (own 0 c (owned base c w) s)
+  pub union : (J : Common) → Shares gates (x .given) records J → free c (owned base c w) s ≡ true → own 6 c (owned base c w′) s ≡ sizeFor J (x .names ++ names)
 
 -- the cone of slot i stands, whose groups end at `from`
 pub record LaterAt (given : List ℕ) (m table base i from n k : ℕ) (gates records xs ls w : List ℕ) : Type 0 where
@@ -88,8 +88,8 @@ pub record LaterAt (given : List ℕ) (m table base i from n k : ℕ) (gates rec
 pub record Keyed (given : List ℕ) (m table base i s n k : ℕ) (gates records xs ls w w′ : List ℕ) : Type 0 where
   pub keeps : Keeps table base w w′
   pub cone : Cone m table n k gates given records (groupsAt ls xs i) w′
-  pub low : (x : ℕ) → x < 4 * length ls → getD (owned base (length ls) w′) x 0 ≡ getD (owned base (length ls) w) x 0
-  pub high : (x : ℕ) → 6 * length ls ≤ x → getD (owned base (length ls) w′) x 0 ≡ getD (owned base (length ls) w) x 0
+  pub low : (x : ℕ) → x < 5 * length ls → getD (owned base (length ls) w′) x 0 ≡ getD (owned base (length ls) w) x 0
+  pub high : (x : ℕ) → 7 * length ls ≤ x → getD (owned base (length ls) w′) x 0 ≡ getD (owned base (length ls) w) x 0
   pub ready : (J : Common) → Shares gates given records J → (t : ℕ) → i < t → t < s → free (length ls) (owned base (length ls) w) t ≡ true
       → Ready J (held (length ls) ls xs (owned base (length ls) w) i) (held (length ls) ls xs (owned base (length ls) w)) (length ls) (owned base (length ls) w′) t
 
@@ -101,7 +101,7 @@ pub record AllAt (m table base i : ℕ) (gates given records xs ls w : List ℕ)
 -- only keys changed, and those of the open slots after i stand for their ranks
 pub record AllRanked (m table base i : ℕ) (gates given records xs ls w w′ : List ℕ) : Type 0 where
   pub stays : Stays m table base w w′
-  pub low : (x : ℕ) → x < 4 * length ls → getD (owned base (length ls) w′) x 0 ≡ getD (owned base (length ls) w) x 0
-  pub high : (x : ℕ) → 6 * length ls ≤ x → getD (owned base (length ls) w′) x 0 ≡ getD (owned base (length ls) w) x 0
+  pub low : (x : ℕ) → x < 5 * length ls → getD (owned base (length ls) w′) x 0 ≡ getD (owned base (length ls) w) x 0
+  pub high : (x : ℕ) → 7 * length ls ≤ x → getD (owned base (length ls) w′) x 0 ≡ getD (owned base (length ls) w) x 0
   pub ready : (J : Common) → Shares gates given records J → (s : ℕ) → i < s → s < length ls → free (length ls) (owned base (length ls) w) s ≡ true
       → Ready J (held (length ls) ls xs (owned base (length ls) w) i) (held (length ls) ls xs (owned base (length ls) w)) (length ls) (owned base (length ls) w′) s

@@ -23,7 +23,7 @@ pub record BuildAt (K m table i j : ℕ) (gates given records xs ls pl ws cs w :
   pub order : i < j
   pub second : j < length ls
 
-pub record JoinAt (m table base i j stages words : ℕ) (xs ls w : List ℕ) : Type 0 where
+pub record JoinAt (m table base i j stages words cells : ℕ) (xs ls w : List ℕ) : Type 0 where
   pub idle : Idle m w
   pub all : sum ls ≡ length xs
   pub short : length xs ≤ 4294967295
@@ -35,29 +35,30 @@ pub record JoinAt (m table base i j stages words : ℕ) (xs ls w : List ℕ) : T
   pub second : j < length ls
   pub stages-fit : stages < 4294967296
   pub words-fit : words < 4294967296
+  pub cells-fit : cells < 4294967296
 
-pub record Joins (m table base i j stages words : ℕ) (xs ls w xs′ ls′ w′ : List ℕ) : Type 0 where
+pub record Joins (m table base i j stages words cells : ℕ) (xs ls w xs′ ls′ w′ : List ℕ) : Type 0 where
   pub taken : Taken i j xs ls xs′ ls′
   pub stays : Stays m table base w w′
-  pub joined : Joined (length ls) i j stages words (owned base (length ls) w) (owned base (length ls) w′)
+  pub joined : Joined (length ls) i j stages words cells (owned base (length ls) w) (owned base (length ls) w′)
 
 pub record TryAt (K m table base i j cap : ℕ) (gates given records xs ls pl ws cs w : List ℕ) : Type 0 where
   pub at : Stands K m table base gates given records xs ls w
   pub blank : Blank K pl ws cs
   pub order : i < j
   pub second : j < length ls
-  pub cap-fits : cap < 4294967296
+  pub cap-fits : cap < 262144
 
 -- a union that failed
 pub record Barred (base j : ℕ) (xs ls w xs′ ls′ w′ : List ℕ) : Type 0 where
   pub indices : xs′ ≡ xs
   pub lengths : ls′ ≡ ls
-  pub bar : owned base (length ls) w′ ≡ set (owned base (length ls) w) (3 * length ls + j) 1
+  pub bar : owned base (length ls) w′ ≡ set (owned base (length ls) w) (4 * length ls + j) 1
 
 -- one that was taken
-pub record Takes (base i j stages words : ℕ) (xs ls w xs′ ls′ w′ : List ℕ) : Type 0 where
+pub record Takes (base i j stages words cells : ℕ) (xs ls w xs′ ls′ w′ : List ℕ) : Type 0 where
   pub taken : Taken i j xs ls xs′ ls′
-  pub joined : Joined (length ls) i j stages words (owned base (length ls) w) (owned base (length ls) w′)
+  pub joined : Joined (length ls) i j stages words cells (owned base (length ls) w) (owned base (length ls) w′)
 
 pub record Tried (rule : WordRule) (K m table base i j cap : ℕ) (gates given records xs ls pl w : List ℕ) (r : Bool) (xs′ ls′ pl′ ws′ cs′ w′ : List ℕ) : Type 0 where
   pub stands : Stands K m table base gates given records xs′ ls′ w′
@@ -67,4 +68,4 @@ pub record Tried (rule : WordRule) (K m table base i j cap : ℕ) (gates given r
   pub is : (J : Common) → Places rule K (length pl) gates given records J → J .cap ≡ cap → r ≡ accepted (J .cap) (builtOf J (groupsAt ls xs i ++ groupsAt ls xs j))
   pub no : r ≡ false → Barred base j xs ls w xs′ ls′ w′
   pub yes : r ≡ true → (J : Common) → Places rule K (length pl) gates given records J
-      → Takes base i j (reply (builtOf J (groupsAt ls xs i ++ groupsAt ls xs j)) .stages) (reply (builtOf J (groupsAt ls xs i ++ groupsAt ls xs j)) .words) xs ls w xs′ ls′ w′
+      → Takes base i j (reply (builtOf J (groupsAt ls xs i ++ groupsAt ls xs j)) .stages) (reply (builtOf J (groupsAt ls xs i ++ groupsAt ls xs j)) .words) (reply (builtOf J (groupsAt ls xs i ++ groupsAt ls xs j)) .cells) xs ls w xs′ ls′ w′

@@ -237,15 +237,16 @@ fn join(
     j: usize,
     stages: usize,
     words: usize,
+    cells: usize,
 )
-    requires { ⌜ JoinAt m table base i j stages words (now indices) (now lengths) (now work) ⌝ }
-    ensures { λ _. ⌜ Joins m table base i j stages words (now (indices .entry)) (now (lengths .entry)) (now (work .entry)) (now (indices .exit)) (now (lengths .exit)) (now (work .exit)) ⌝ }
+    requires { ⌜ JoinAt m table base i j stages words cells (now indices) (now lengths) (now work) ⌝ }
+    ensures { λ _. ⌜ Joins m table base i j stages words cells (now (indices .entry)) (now (lengths .entry)) (now (work .entry)) (now (indices .exit)) (now (lengths .exit)) (now (work .exit)) ⌝ }
 {
     let n = lengths.len();
     let spare = 16 * m + RECORDS;
     take_in(indices, lengths, &mut work[spare..table], i, j);
     let end = base + 8 * n;
-    store_union(&mut work[base..end], n, i, j, stages, words);
+    store_union(&mut work[base..end], n, i, j, stages, words, cells);
 }
 
 // Slot j's union with slot i, taken if it is accepted; otherwise slot j is barred. Was it accepted?
@@ -300,6 +301,7 @@ pub fn try_union(
             j,
             a.stages,
             a.words,
+            a.cells,
         );
         return true;
     }

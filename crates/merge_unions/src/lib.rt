@@ -80,6 +80,7 @@ fn attempt(
             words: 0,
             stage: 0,
             pin: Pin(0),
+            cells: 0,
         },
         Opening::Ready(reserved, n) => {
             let rooms = counts.len();

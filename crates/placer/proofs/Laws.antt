@@ -4,3 +4,4 @@ pub mod Next
 pub mod Build
 pub mod Outcome
 pub mod Unique
+pub mod Filled

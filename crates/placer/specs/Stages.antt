@@ -3,8 +3,8 @@ use mathlib.Core.Path.{_≡_}
 use mathlib.Core.List.{List}
 use Prim.Native.Nat.{ℕ, suc, _+_, _-_, _*_, _^_, _<_, _≤_}
 use lib.ListN.{length, getD}
-use Rattle.rules.specs.Lists.{padded}
-use Rattle.rules.specs.Cells.{empty, wordLimit, rowAt, stageSize}
+use Rattle.rules.specs.Lists.{count, padded}
+use Rattle.rules.specs.Cells.{empty, filled, wordLimit, rowAt, stageSize}
 use Rattle.rules.specs.Graph.{Node, graphOf}
 use Rattle.rules.specs.Traversal.{WordRule}
 use Rattle.rules.specs.Build as rules
@@ -47,7 +47,7 @@ pub record Between (m n : ℕ) (ds ps w : List ℕ) : Type 0 where
   pub fresh : Fresh m w
   pub cells : Clear CELLS m w
   pub marks : Clear MARK m w
-  pub tail : (j : ℕ) → j < 258 → getD w (16 * m + j) 0 ≡ 0
+  pub tail : (j : ℕ) → j < 259 → getD w (16 * m + j) 0 ≡ 0
 
 -- what the program has of the course
 pub record Known (C : Course) (m K half : ℕ) (asked : Asked) (gates : List ℕ) : Type 0 where
@@ -92,10 +92,11 @@ pub record OneAt (C : Course) (m K half : ℕ) (asked : Asked) (k n at room : �
   pub waits : 0 < n
   pub more : k < C .rooms
 
-pub record One (C : Course) (m k at : ℕ) (pl ws cs w : List ℕ) (number written n : ℕ) (pl′ ws′ cs′ w′ : List ℕ) : Type 0 where
+pub record One (C : Course) (m k at : ℕ) (pl ws cs w : List ℕ) (number written cells n : ℕ) (pl′ ws′ cs′ w′ : List ℕ) : Type 0 where
   pub kept : Kept pl ws cs w pl′ ws′ cs′ w′
   pub refused : 0 < number → answer C ≡ rules.refusal number (suc k)
   pub on : number ≡ 0 → Underway C m (suc k) (at + written) n pl′ ws′ cs′ w′
+  pub more : number ≡ 0 → count filled pl′ ≡ count filled pl + cells
 
 -- ---- from stage k + 1 on
 

@@ -22,13 +22,15 @@ ghost use Rattle.placer.specs.Build.{PlaceAt, TryAt, Tried, Placed};
 pub mod areas;
 pub mod stages;
 
-// The scope document's number, the stages and words of a whole plan, the refused stage, and with 23 the smallest pin on any loop.
+// The scope document's number, the stages and words of a whole plan, the refused stage, with 23 the smallest pin on any loop, and the
+// cells that the pins of a whole plan fill.
 pub struct Answer {
     pub number: u32,
     pub stages: usize,
     pub words: usize,
     pub stage: usize,
     pub pin: Pin,
+    pub cells: usize,
 }
 
 // The reservation and the stages, in empty areas.
@@ -57,6 +59,7 @@ fn attempt(
             words: 0,
             stage: 0,
             pin: Pin(0),
+            cells: 0,
         },
         Opening::Ready(reserved, n) => {
             let room = limit - reserved;
@@ -141,6 +144,7 @@ pub fn build_by(
             words: 0,
             stage: 0,
             pin: pin,
+            cells: 0,
         };
     }
     let limit = Height(height).word_limit();

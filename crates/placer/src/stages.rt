@@ -28,7 +28,7 @@ fn next_stage(
     tally: Tally,
 ) -> Outcome
     requires { ⌜ Counted tally × Some (λ C. OneAt C m (height .0) (rowAt (height .0) 1) rule k n (tally .spent) (room tally) (now gates) (now plan) (now words) (now counts) (now work)) ⌝ }
-    ensures { λ r. ⌜ Every (λ C. OneAt C m (height .0) (rowAt (height .0) 1) rule k n (tally .spent) (room tally) (now (gates .entry)) (now (plan .entry)) (now (words .entry)) (now (counts .entry)) (now (work .entry))) (λ C. One C m k (tally .spent) (now (plan .entry)) (now (words .entry)) (now (counts .entry)) (now (work .entry)) (r .number) (r .words) (r .waiting) (now (plan .exit)) (now (words .exit)) (now (counts .exit)) (now (work .exit))) ⌝ }
+    ensures { λ r. ⌜ Every (λ C. OneAt C m (height .0) (rowAt (height .0) 1) rule k n (tally .spent) (room tally) (now (gates .entry)) (now (plan .entry)) (now (words .entry)) (now (counts .entry)) (now (work .entry))) (λ C. One C m k (tally .spent) (now (plan .entry)) (now (words .entry)) (now (counts .entry)) (now (work .entry)) (r .number) (r .words) (r .cells) (r .waiting) (now (plan .exit)) (now (words .exit)) (now (counts .exit)) (now (work .exit))) ⌝ }
 {
     let size = 4 * height.level_one_size();
     let a = k * size;
@@ -76,6 +76,7 @@ pub fn stages(
     };
     let mut k = 0;
     let mut left = n;
+    let mut cells = 0;
     while left > 0 {
         if k == rooms {
             return Answer {
@@ -84,6 +85,7 @@ pub fn stages(
                 words: 0,
                 stage: k + 1,
                 pin: Pin(0),
+                cells: 0,
             };
         }
         let s = next_stage(
@@ -107,10 +109,12 @@ pub fn stages(
                 words: 0,
                 stage: k + 1,
                 pin: Pin(0),
+                cells: 0,
             };
         }
         tally = spend(tally, s.words);
         left = s.waiting;
+        cells = cells + s.cells;
         k += 1;
     }
     Answer {
@@ -119,5 +123,6 @@ pub fn stages(
         words: tally.spent,
         stage: 0,
         pin: Pin(0),
+        cells: cells,
     }
 }

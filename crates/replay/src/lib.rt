@@ -18,7 +18,7 @@ ghost use Rattle.replay_form.specs.Calls.{replay};
 ghost use Rattle.replay.specs.Answers.{job, lent, outcome, BuiltIn};
 
 fn refused(number: u32, pin: Pin) -> Answer
-    ensures { λ r. ⌜ r ≡ record { number = number; stages = 0; words = 0; stage = 0; pin = pin } ⌝ }
+    ensures { λ r. ⌜ r ≡ record { number = number; stages = 0; words = 0; stage = 0; pin = pin; cells = 0 } ⌝ }
 {
     Answer {
         number: number,
@@ -26,6 +26,7 @@ fn refused(number: u32, pin: Pin) -> Answer
         words: 0,
         stage: 0,
         pin: pin,
+        cells: 0,
     }
 }
 

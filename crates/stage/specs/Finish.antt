@@ -3,8 +3,8 @@ use mathlib.Core.Path.{_≡_}
 use mathlib.Core.List.{List, [], _∷_, _++_}
 use Prim.Native.Nat.{ℕ, _+_, _*_, _^_, _<_, _≤_}
 use lib.ListN.{length, getD}
-use Rattle.rules.specs.Lists.{found, laidAt, In}
-use Rattle.rules.specs.Cells.{rowAt, row, firstEmpty}
+use Rattle.rules.specs.Lists.{found, count, laidAt, In}
+use Rattle.rules.specs.Cells.{filled, rowAt, row, firstEmpty}
 use Rattle.rules.specs.Traversal.{levelAt}
 use Rattle.rules.specs.Placing.{tree, neededOf}
 use Rattle.rules.specs.Ending.{plan, Stage?, refused, stage, close, inNeed, lastStage, written, rest, finish}
@@ -37,17 +37,18 @@ pub record FinishAt (C : Context) (m K half o n q : ℕ) (asked : Asked) (at roo
 -- only the columns fs, the tail's first numbers, the stage and `room` words behind `at` changed
 pub record Changed (fs : List ℕ) (m at room : ℕ) (pl w words pl′ w′ words′ : List ℕ) : Type 0 where
   pub frame : Frame fs m w w′
-  pub past : (j : ℕ) → 258 ≤ j → getD w′ (16 * m + j) 0 ≡ getD w (16 * m + j) 0
+  pub past : (j : ℕ) → 259 ≤ j → getD w′ (16 * m + j) 0 ≡ getD w (16 * m + j) 0
   pub size : length pl′ ≡ length pl
   pub len : length words′ ≡ length words
   pub before : (i : ℕ) → i < at → getD words′ i 0 ≡ getD words i 0
   pub behind : (i : ℕ) → at + room ≤ i → getD words′ i 0 ≡ getD words i 0
 
--- a stage s with words ws and the pins `left` waiting: the words stand behind `at`, realised pins are marked, counts and marks are gone
+-- a stage s with words ws and the pins `left` waiting: its filled cells are told, the words stand behind `at`, realised pins are marked, counts and marks are gone
 pub record Whole (C : Context) (m at room : ℕ) (s : Stage?) (words : List ℕ) (e : Outcome) (pl′ w′ words′ : List ℕ) : Type 0 where
   pub ws : List ℕ
   pub left : List ℕ
   pub is : s ≡ stage pl′ ws (tree (C .X .K) pl′) left
+  pub total : e .cells ≡ count filled pl′
   pub count : e .words ≡ length ws
   pub fit : length ws ≤ room
   pub wrote : words′ ≡ laidAt at ws words
@@ -56,16 +57,17 @@ pub record Whole (C : Context) (m at room : ℕ) (s : Stage?) (words : List ℕ)
   pub cells : Clear CELLS m w′
   pub marks : Clear MARK m w′
   pub spare : Clear SPARE m w′
-  pub tail : (j : ℕ) → j < 258 → getD w′ (16 * m + j) 0 ≡ 0
+  pub tail : (j : ℕ) → j < 259 → getD w′ (16 * m + j) 0 ≡ 0
 
 abbrev pub touched : List ℕ
 touched = DONE ∷ WAITING ∷ CELLS ∷ STACK ∷ PHASE ∷ PLACE ∷ MARK ∷ SPARE ∷ TAIL ∷ []
 
--- what refuses the stage; no words and no waiting pins are told
+-- what refuses the stage; no words, waiting pins or cells are told
 pub record Refuses (s : Stage?) (e : Outcome) : Type 0 where
   pub is : s ≡ refused (e .number)
   pub words : e .words ≡ 0
   pub waiting : e .waiting ≡ 0
+  pub cells : e .cells ≡ 0
 
 -- s is the stage, or what refuses it
 pub record Finished (C : Context) (m at room : ℕ) (s : Stage?) (pl w words : List ℕ) (e : Outcome) (pl′ w′ words′ : List ℕ) : Type 0 where

@@ -20,7 +20,7 @@ pub record StageAt (C : Context) (m K half n : ℕ) (asked : Asked) (at room : �
   pub fresh : Fresh m w
   pub cells : Clear CELLS m w
   pub marks : Clear MARK m w
-  pub tail : (j : ℕ) → j < 258 → getD w (16 * m + j) 0 ≡ 0
+  pub tail : (j : ℕ) → j < 259 → getD w (16 * m + j) 0 ≡ 0
   pub ruled : C .X .rule ≡ ruleOf asked
   pub height : K ≡ C .X .K
   pub row : half ≡ rowAt K 1

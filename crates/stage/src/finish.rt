@@ -1,5 +1,7 @@
 // Rules 8 to 11 in order after the loop of rules 2 to 7, with tests 7 and 8. m = N + 1; o pins are listed, n wait, q are needed; the words go behind `at`, where there is `room` for so many.
 use cells::Height;
+use columns::FILLED;
+use columns::tail_get;
 use refusals::NO_CELL;
 use refusals::OVER_WORDS;
 use stage_ending::close::close_stage;
@@ -20,11 +22,12 @@ ghost use Rattle.rules.specs.Inside.Some.{Some, Every};
 ghost use Rattle.stage_walk.specs.Stands.{SomePlan, EveryPlan};
 ghost use Rattle.stage.specs.Finish.{FinishAt, Finished, RestingAt, LastingAt, Lasting, Ends};
 
-// 0, or the number that refuses the stage; for 0 how many words it has and how many pins wait then.
+// 0, or the number that refuses the stage; for 0 how many words it has, how many pins wait then and how many cells those kept filled.
 pub struct Outcome {
     pub number: u32,
     pub words: usize,
     pub waiting: usize,
+    pub cells: usize,
 }
 
 // Rule 10 where nothing is untouched.
@@ -70,11 +73,13 @@ fn finish_last(
     ensures { λ r. ⌜ EveryPlan (λ C pl. LastingAt C pl m (height .0) (rowAt (height .0) 1) o n at room s (now (stage .entry)) (now (work .entry)) (now (words .entry))) (λ C pl. Ends C pl m at room s (now (stage .entry)) (now (work .entry)) (now (words .entry)) r (now (stage .entry)) (now (work .exit)) (now (words .exit))) ⌝ }
 {
     let kept = write_last(stage, work, words, m, height, o, n, at, room, s);
+    let cells = tail_get(work, m, FILLED);
     let left = close_stage(work, m, o, n, kept.real);
     Outcome {
         number: 0,
         words: kept.words,
         waiting: left,
+        cells: cells,
     }
 }
 
@@ -103,6 +108,7 @@ fn finish_rest(
         number: NO_CELL,
         words: 0,
         waiting: 0,
+        cells: 0,
     }
 }
 
@@ -131,6 +137,7 @@ pub fn finish(
             number: OVER_WORDS,
             words: 0,
             waiting: 0,
+            cells: 0,
         };
     }
     finish_rest(gates, stage, work, words, m, height, o, n, q, at, room, s)

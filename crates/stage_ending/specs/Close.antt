@@ -105,10 +105,10 @@ pub record CloseAt (m o n r : ℕ) (w : List ℕ) : Type 0 where
 
 pub record Closed (m o n r : ℕ) (w w′ : List ℕ) (e : ℕ) : Type 0 where
   pub frame : Frame (DONE ∷ WAITING ∷ CELLS ∷ PLACE ∷ MARK ∷ SPARE ∷ TAIL ∷ []) m w w′
-  pub past : (j : ℕ) → 258 ≤ j → getD w′ (16 * m + j) 0 ≡ getD w (16 * m + j) 0
+  pub past : (j : ℕ) → 259 ≤ j → getD w′ (16 * m + j) 0 ≡ getD w (16 * m + j) 0
   pub done : (p : ℕ) → p < m → getD w′ (DONE * m + p) 0 ≡ either (mem p (list ORDER m o w) && not (eqb (getD w (CELLS * m + p) 0) 0)) 1 (getD w (DONE * m + p) 0)
   pub waiting : Placed WAITING PLACE m e (swapOutAll (list STACK m r w) (list WAITING m n w)) w′
   pub cells : Clear CELLS m w′
   pub marks : Clear MARK m w′
   pub spare : Clear SPARE m w′
-  pub tail : (j : ℕ) → j < 258 → getD w′ (16 * m + j) 0 ≡ 0
+  pub tail : (j : ℕ) → j < 259 → getD w′ (16 * m + j) 0 ≡ 0

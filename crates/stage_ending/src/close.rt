@@ -103,6 +103,6 @@ pub fn close_stage(work: &mut [u32], m: usize, o: usize, n: usize, r: usize) -> 
 {
     let left = leave_all(work, m, n, r);
     retire_all(work, m, o);
-    fill_tail(work, m, 258, 0);
+    fill_tail(work, m, 259, 0);
     left
 }

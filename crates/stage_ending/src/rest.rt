@@ -6,7 +6,7 @@ use columns::is_in;
 use columns::pin_at;
 use graph::Pin;
 use stage_tree::first_empty;
-use stage_tree::place_bit;
+use stage_tree::place_pin;
 ghost use Rattle.rules.specs.Inside.Some.{Some, Every};
 ghost use Rattle.stage_ending.specs.Rest.{PinAt, Pinned, RestAt, Rested, Filled};
 
@@ -34,7 +34,7 @@ fn put_pin(
     if 2 * half <= c {
         return c + 1;
     }
-    place_bit(gates, stage, work, m, 1, half, c, p);
+    place_pin(gates, stage, work, m, 1, half, c, p);
     c + 1
 }
 

@@ -7,7 +7,7 @@ use Rattle.rules.specs.Traversal.{levelAt, greatest}
 use Rattle.rules.specs.Placing.{neededOf, filledPlan}
 use Rattle.rules.specs.Inside.Lean.{blank, leanPlan}
 use Rattle.rules.specs.Inside.Plans.{Fair}
-use Rattle.columns.specs.Fields.{CELLS, NEEDED, STACK, MARK, ONES, PINS}
+use Rattle.columns.specs.Fields.{CELLS, NEEDED, STACK, MARK, ONES, PINS, FILLED}
 use Rattle.columns.specs.Lists.{Holds, Marks, Clear}
 use Rattle.stage_walk.specs.Stands.{Context, Set, Tally}
 use Rattle.stage_tree.specs.Bits.{Standing}
@@ -46,6 +46,7 @@ pub record FillAt (C : Context) (m n k top K : ℕ) (gates pl w : List ℕ) : Ty
   pub cells : Clear CELLS m w
   pub ones : getD w (16 * m + ONES) 0 ≡ 0
   pub pins : getD w (16 * m + PINS) 0 ≡ 0
+  pub total : getD w (16 * m + FILLED) 0 ≡ 0
   pub most : top ≡ greatest (map (levelAt (C .X)) (C .X .order)) 0
   pub height : K ≡ C .X .K
 

@@ -10,7 +10,7 @@ use Rattle.rules.specs.Placing.{placed}
 use Rattle.rules.specs.Inside.Lean.{wanted, recount, lean, onward}
 use Rattle.rules.specs.Inside.Plans.{Fair, Placeable, Going}
 use Rattle.columns.specs.Area.{Frame}
-use Rattle.columns.specs.Fields.{CELLS, NEEDED, STACK, MARK, TAIL, ONES, PINS}
+use Rattle.columns.specs.Fields.{CELLS, NEEDED, STACK, MARK, TAIL, ONES, PINS, FILLED}
 use Rattle.columns.specs.Lists.{Marks}
 use Rattle.stage_walk.specs.Stands.{Context, Begun, Levelled, Listed, Tally, ranked}
 use Rattle.stage_needed.specs.Needed.{Asking}
@@ -21,12 +21,12 @@ use Rattle.stage_loop.specs.declared.lean.Step.the-variants.{On, Stop}
 -- only the counts and the needed pins changed
 pub record Kept (m : ℕ) (w w′ : List ℕ) : Type 0 where
   pub frame : Frame (CELLS ∷ NEEDED ∷ TAIL ∷ []) m w w′
-  pub rest : (j : ℕ) → 16 * m ≤ j → j ≢ 16 * m + ONES → j ≢ 16 * m + PINS → getD w′ j 0 ≡ getD w j 0
+  pub rest : (j : ℕ) → 16 * m ≤ j → j ≢ 16 * m + ONES → j ≢ 16 * m + PINS → j ≢ 16 * m + FILLED → getD w′ j 0 ≡ getD w j 0
 
 -- or the noted pins too
 pub record Changed (m : ℕ) (w w′ : List ℕ) : Type 0 where
   pub frame : Frame (CELLS ∷ NEEDED ∷ STACK ∷ TAIL ∷ []) m w w′
-  pub rest : (j : ℕ) → 16 * m ≤ j → j ≢ 16 * m + ONES → j ≢ 16 * m + PINS → getD w′ j 0 ≡ getD w j 0
+  pub rest : (j : ℕ) → 16 * m ≤ j → j ≢ 16 * m + ONES → j ≢ 16 * m + PINS → j ≢ 16 * m + FILLED → getD w′ j 0 ≡ getD w j 0
 
 -- what the loop reads: the k noted pins stand for the order
 pub record NotedSet (C : Context) (m n k : ℕ) (gates w : List ℕ) : Type 0 where

@@ -12,9 +12,9 @@ use columns::pin_at;
 use graph::Pin;
 use stage_needed::counted;
 use stage_tree::first_empty;
-use stage_tree::place_bit;
-use stage_tree::purge_bit;
+use stage_tree::place_pin;
 use stage_tree::room;
+use stage_tree::take_back;
 ghost use Prim.Native.Nat.{_+_, _*_, _<_};
 ghost use Rattle.rules.specs.Inside.Some.{Some, Every};
 ghost use Rattle.stage_loop.specs.Bounds.{asFound};
@@ -74,11 +74,11 @@ fn attempt(
     requires { ⌜ Some (λ C. TryAt C m n k h w half c (p .0) most (now gates) (now stage) (now work)) ⌝ }
     ensures { λ r. ⌜ Every (λ C. TryAt C m n k h w half c (p .0) most (now (gates .entry)) (now (stage .entry)) (now (work .entry))) (λ C. Tried C m h c (p .0) most (now (stage .entry)) (now (work .entry)) (now (stage .exit)) (now (work .exit)) (asFound r)) ⌝ }
 {
-    place_bit(gates, stage, work, m, h, w, c, p);
+    place_pin(gates, stage, work, m, h, w, c, p);
     let bound = settle(gates, stage, work, m, n, k, half, most);
     match bound {
         Bound::NoRoom => {
-            purge_bit(stage, work, m, h, w, c);
+            take_back(stage, work, m, h, w, c);
             Bound::NoRoom
         }
         Bound::AtMost(b) => Bound::AtMost(b),

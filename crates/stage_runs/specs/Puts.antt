@@ -10,7 +10,7 @@ use Rattle.rules.specs.Cells.{rowAt}
 use Rattle.rules.specs.Traversal.{levelAt}
 use Rattle.rules.specs.Ending as rules
 use Rattle.rules.specs.Lists.{In}
-use Rattle.columns.specs.Fields.{WAITING, CELLS, STACK, PHASE, PLACE, MARK, TAIL, ONES, PINS}
+use Rattle.columns.specs.Fields.{WAITING, CELLS, STACK, PHASE, PLACE, MARK, TAIL, ONES, PINS, FILLED}
 use Rattle.columns.specs.Area.{Frame}
 use Rattle.columns.specs.Lists.{list, span, Holds, Marked, Placed}
 use Rattle.stage_runs.specs.declared.WordRule.{WordRule}
@@ -27,7 +27,7 @@ use Rattle.stage_runs.specs.Rule.{ruleOf}
 -- only what placing counts, and the realised pins, changed
 pub record Moved (m : ℕ) (w w′ : List ℕ) : Type 0 where
   pub frame : Frame (CELLS ∷ STACK ∷ MARK ∷ TAIL ∷ []) m w w′
-  pub rest : (j : ℕ) → 16 * m ≤ j → j ≢ 16 * m + ONES → j ≢ 16 * m + PINS → getD w′ j 0 ≡ getD w j 0
+  pub rest : (j : ℕ) → 16 * m ≤ j → j ≢ 16 * m + ONES → j ≢ 16 * m + PINS → j ≢ 16 * m + FILLED → getD w′ j 0 ≡ getD w j 0
 
 -- what the numbers s stand for; the words are kept elsewhere
 unfoldable pub putOf : ℕ → ℕ → Puts → List ℕ → List ℕ → List ℕ → rules.Put

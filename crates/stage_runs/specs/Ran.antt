@@ -7,7 +7,7 @@ use lib.ListN.{length, getD}
 use Rattle.rules.specs.Cells.{rowAt}
 use Rattle.rules.specs.Ending.{inNeed, lastStage, written}
 use Rattle.rules.specs.Lists.{In}
-use Rattle.columns.specs.Fields.{CELLS, STACK, PHASE, MARK, SPARE, TAIL, ONES, PINS}
+use Rattle.columns.specs.Fields.{CELLS, STACK, PHASE, MARK, SPARE, TAIL, ONES, PINS, FILLED}
 use Rattle.columns.specs.Area.{Frame}
 use Rattle.columns.specs.Lists.{Marks, Marked}
 use Rattle.stage_walk.specs.Stands.{Context, Begun}
@@ -30,7 +30,7 @@ pub record EndAt (C : Context) (m K half n : ℕ) (rule : WordRule) (at room : �
 -- what rule 8 changes
 pub record Touched (m : ℕ) (w w′ : List ℕ) : Type 0 where
   pub frame : Frame (CELLS ∷ STACK ∷ PHASE ∷ MARK ∷ SPARE ∷ TAIL ∷ []) m w w′
-  pub rest : (j : ℕ) → 16 * m ≤ j → j ≢ 16 * m + ONES → j ≢ 16 * m + PINS → getD w′ j 0 ≡ getD w j 0
+  pub rest : (j : ℕ) → 16 * m ≤ j → j ≢ 16 * m + ONES → j ≢ 16 * m + PINS → j ≢ 16 * m + FILLED → getD w′ j 0 ≡ getD w j 0
 
 pub record Ran (C : Context) (m at room : ℕ) (gates pl w words : List ℕ) (e : Spent) (pl′ w′ words′ : List ℕ) : Type 0 where
   pub touched : Touched m w w′

@@ -11,7 +11,7 @@ use columns::wide;
 use graph::EMPTY;
 use graph::Pin;
 use stage_sparse::Runs;
-use stage_tree::place_bit;
+use stage_tree::place_pin;
 ghost use mathlib.Core.Path.{_≡_};
 ghost use mathlib.Core.Bool.{_||_};
 ghost use Prim.Native.Nat.{_+_, _-_, _≤_};
@@ -49,7 +49,7 @@ fn put_cell(
     let p = Pin(stage[c]);
     if p.0 == EMPTY {
         let q = pin_at(work, m, next, PHASE);
-        place_bit(gates, stage, work, m, 1, half, c, q);
+        place_pin(gates, stage, work, m, 1, half, c, q);
         let more = enlist(work, m, real, STACK, MARK, q);
         return Puts {
             next: next + 1,

@@ -5,3 +5,4 @@ pub mod Empties
 pub mod Places
 pub mod Purges
 pub mod Standing
+pub mod Totals

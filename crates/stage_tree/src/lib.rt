@@ -1,18 +1,22 @@
 // Placing a pin in the tree with all that it pulls in below, and taking it back. Cells above level 0 are counted by pin; the filled
-// cells of level 1 and the distinct pins above level 0 are kept as numbers. m = N + 1, and w is where the row of the cell c begins.
+// cells of level 1, the distinct pins above level 0 and the filled cells of all levels are kept as numbers. m = N + 1, and w is where the
+// row of the cell c begins.
 use columns::CELLS;
+use columns::FILLED;
 use columns::LEVEL;
 use columns::ONES;
 use columns::PINS;
 use columns::get;
 use columns::tail_get;
+use columns::tail_set;
 use graph::EMPTY;
 use graph::Pin;
 use graph::operand;
 ghost use mathlib.Core.Path.{_≡_};
+ghost use Prim.Native.Nat.{_+_};
 ghost use Rattle.rules.specs.Inside.Some.{Some, Every};
 ghost use Rattle.stage_tree.specs.Counts.{CountAt, UncountAt, OneMore, RoomAt, roomIn};
-ghost use Rattle.stage_tree.specs.Bits.{FillAt, Filled, EmptyAt, Emptied, PlaceAt, SplitAt, Placed, PurgeAt, Purged};
+ghost use Rattle.stage_tree.specs.Bits.{FillAt, Filled, EmptyAt, Emptied, BitAt, SplitAt, BitPlaced, BackAt, BitPurged, PlaceAt, Placed, PurgeAt, Purged};
 ghost use Rattle.stage_tree.specs.Search.{SearchAt, First};
 
 // The lowest empty cell from a to e, e if there is none.
@@ -107,8 +111,76 @@ fn empty_cell(stage: &mut [u32], work: &mut [u32], m: usize, h: usize, c: usize,
     work[ones] = work[ones] - 1;
 }
 
-// Rule 5: places pin p at the cell c of level h.
-pub fn place_bit(
+// Rule 5: places pin p at the cell c of level h. Returns how many cells it filled, at every level down to 0.
+fn place_bit(
+    gates: &[u32],
+    stage: &mut [u32],
+    work: &mut [u32],
+    m: usize,
+    h: usize,
+    w: usize,
+    c: usize,
+    p: Pin,
+) -> usize
+    requires { ⌜ Some (λ C. BitAt C m h w c (p .0) (now gates) (now stage) (now work)) ⌝ }
+    ensures { λ r. ⌜ Every (λ C. BitAt C m h w c (p .0) (now (gates .entry)) (now (stage .entry)) (now (work .entry))) (λ C. BitPlaced C m h w c (p .0) r (now (stage .entry)) (now (work .entry)) (now (stage .exit)) (now (work .exit))) ⌝ }
+{
+    fill_cell(stage, work, m, h, c, p);
+    if h == 0 {
+        return 1;
+    }
+    if get(work, m, p, LEVEL) < h {
+        return 1 + place_bit(gates, stage, work, m, h - 1, 2 * w, c + w, p);
+    }
+    1 + split_gate(gates, stage, work, m, h, w, c, p)
+}
+
+// Places the operands of the gate p, which stands at c, at the two lower cells. Returns how many cells they filled.
+fn split_gate(
+    gates: &[u32],
+    stage: &mut [u32],
+    work: &mut [u32],
+    m: usize,
+    h: usize,
+    w: usize,
+    c: usize,
+    p: Pin,
+) -> usize
+    requires { ⌜ Some (λ C. SplitAt C m h w c (p .0) (now gates) (now stage) (now work)) ⌝ }
+    ensures { λ r. ⌜ Every (λ C. SplitAt C m h w c (p .0) (now (gates .entry)) (now (stage .entry)) (now (work .entry))) (λ C. BitPlaced C m h w c (p .0) (1 + r) (now (stage .entry)) (now (work .entry)) (now (stage .exit)) (now (work .exit))) ⌝ }
+{
+    let at = 2 * p.index();
+    let a = operand(gates, at);
+    let b = operand(gates, at + 1);
+    let next = h - 1;
+    let low = 2 * w;
+    let first = place_bit(gates, stage, work, m, next, low, c + w, a);
+    let second = place_bit(gates, stage, work, m, next, low, c + low, b);
+    first + second
+}
+
+// Rule 7: takes back what stands at the cell c of level h, with everything under it. Returns how many cells it emptied.
+fn purge_bit(stage: &mut [u32], work: &mut [u32], m: usize, h: usize, w: usize, c: usize) -> usize
+    requires { ⌜ Some (λ C. BackAt C m h w c (now stage) (now work)) ⌝ }
+    ensures { λ r. ⌜ Every (λ C. BackAt C m h w c (now (stage .entry)) (now (work .entry))) (λ C. BitPurged C m h w c r (now (stage .entry)) (now (work .entry)) (now (stage .exit)) (now (work .exit))) ⌝ }
+{
+    let v = stage[c];
+    if v == EMPTY {
+        return 0;
+    }
+    empty_cell(stage, work, m, h, c, Pin(v));
+    if h == 0 {
+        return 1;
+    }
+    let next = h - 1;
+    let low = 2 * w;
+    let first = purge_bit(stage, work, m, next, low, c + w);
+    let second = purge_bit(stage, work, m, next, low, c + low);
+    1 + first + second
+}
+
+// Places pin p at the cell c of level h, and adds what that filled to the stage's filled cells.
+pub fn place_pin(
     gates: &[u32],
     stage: &mut [u32],
     work: &mut [u32],
@@ -121,55 +193,17 @@ pub fn place_bit(
     requires { ⌜ Some (λ C. PlaceAt C m h w c (p .0) (now gates) (now stage) (now work)) ⌝ }
     ensures { λ _. ⌜ Every (λ C. PlaceAt C m h w c (p .0) (now (gates .entry)) (now (stage .entry)) (now (work .entry))) (λ C. Placed C m h w c (p .0) (now (stage .entry)) (now (work .entry)) (now (stage .exit)) (now (work .exit))) ⌝ }
 {
-    fill_cell(stage, work, m, h, c, p);
-    if h == 0 {
-        return;
-    }
-    if get(work, m, p, LEVEL) < h {
-        place_bit(gates, stage, work, m, h - 1, 2 * w, c + w, p);
-        return;
-    }
-    split_gate(gates, stage, work, m, h, w, c, p);
+    let n = place_bit(gates, stage, work, m, h, w, c, p);
+    let total = tail_get(work, m, FILLED);
+    tail_set(work, m, FILLED, (total + n) as u32);
 }
 
-// Places the operands of the gate p, which stands at c, at the two lower cells.
-fn split_gate(
-    gates: &[u32],
-    stage: &mut [u32],
-    work: &mut [u32],
-    m: usize,
-    h: usize,
-    w: usize,
-    c: usize,
-    p: Pin,
-)
-    requires { ⌜ Some (λ C. SplitAt C m h w c (p .0) (now gates) (now stage) (now work)) ⌝ }
-    ensures { λ _. ⌜ Every (λ C. SplitAt C m h w c (p .0) (now (gates .entry)) (now (stage .entry)) (now (work .entry))) (λ C. Placed C m h w c (p .0) (now (stage .entry)) (now (work .entry)) (now (stage .exit)) (now (work .exit))) ⌝ }
-{
-    let at = 2 * p.index();
-    let a = operand(gates, at);
-    let b = operand(gates, at + 1);
-    let next = h - 1;
-    let low = 2 * w;
-    place_bit(gates, stage, work, m, next, low, c + w, a);
-    place_bit(gates, stage, work, m, next, low, c + low, b);
-}
-
-// Rule 7: takes back what stands at the cell c of level h, with everything under it.
-pub fn purge_bit(stage: &mut [u32], work: &mut [u32], m: usize, h: usize, w: usize, c: usize)
+// Takes back what stands at the cell c, and what that emptied from the stage's filled cells.
+pub fn take_back(stage: &mut [u32], work: &mut [u32], m: usize, h: usize, w: usize, c: usize)
     requires { ⌜ Some (λ C. PurgeAt C m h w c (now stage) (now work)) ⌝ }
     ensures { λ _. ⌜ Every (λ C. PurgeAt C m h w c (now (stage .entry)) (now (work .entry))) (λ C. Purged C m h w c (now (stage .entry)) (now (work .entry)) (now (stage .exit)) (now (work .exit))) ⌝ }
 {
-    let v = stage[c];
-    if v == EMPTY {
-        return;
-    }
-    empty_cell(stage, work, m, h, c, Pin(v));
-    if h == 0 {
-        return;
-    }
-    let next = h - 1;
-    let low = 2 * w;
-    purge_bit(stage, work, m, next, low, c + w);
-    purge_bit(stage, work, m, next, low, c + low);
+    let n = purge_bit(stage, work, m, h, w, c);
+    let total = tail_get(work, m, FILLED);
+    tail_set(work, m, FILLED, (total - n) as u32);
 }

@@ -12,7 +12,7 @@ use Rattle.rules.specs.Inside.Lean.{startLevels, candidates, cellsHolding}
 use Rattle.rules.specs.Inside.Some.{Some, Every}
 use Rattle.rules.specs.Inside.Walks.{Graph, Sound, Marked, Ready}
 use Rattle.columns.specs.Area.{Room, col}
-use Rattle.columns.specs.Fields.{ORDER, DONE, LEVEL, WAITING, CELLS, RANKED, STARTS, ENDS, REVERSE, PLACE, ONES, PINS, LISTED, SPARE}
+use Rattle.columns.specs.Fields.{ORDER, DONE, LEVEL, WAITING, CELLS, RANKED, STARTS, ENDS, REVERSE, PLACE, ONES, PINS, FILLED, LISTED, SPARE}
 use Rattle.columns.specs.Lists.{Holds, Marks, Placed, Clear}
 
 -- a stage's setting, with what is known of it. The graph's rank falls along operands
@@ -78,11 +78,12 @@ pub record Set (C : Context) (m n k : ℕ) (gates w : List ℕ) : Type 0 where
   pub levelled : Levelled C m w
   pub listed : Listed C m w
 
--- the counts of a plan: cells by pin; in the tail the filled cells of level 1 and the pins in the tree
+-- the counts of a plan: cells by pin; in the tail the filled cells of level 1, the pins in the tree and the filled cells of all levels
 pub record Tally (C : Context) (m : ℕ) (pl w : List ℕ) : Type 0 where
   pub cells : (x : ℕ) → x < m → getD w (CELLS * m + x) 0 ≡ cellsHolding (C .X .K) pl x
   pub ones : getD w (16 * m + ONES) 0 ≡ count filled (row (C .X .K) 1 pl)
   pub pins : getD w (16 * m + PINS) 0 ≡ length (treeOf (C .X) pl)
+  pub total : getD w (16 * m + FILLED) 0 ≡ count filled pl
 
 -- what is read of the graph: the lent numbers, and the marks of pins to stop at
 pub record Reads (C : Context) (m : ℕ) (gates w : List ℕ) : Type 0 where

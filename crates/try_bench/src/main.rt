@@ -28,6 +28,7 @@ fn tell(a: Answer) {
     say(a.stages as u64);
     say(a.words as u64);
     say(a.stage as u64);
+    say(a.cells as u64);
     end();
 }
 

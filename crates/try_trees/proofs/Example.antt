@@ -112,7 +112,7 @@ module _ (K : ℕ) (low : 6 ≤ K) (high : K ≤ 13) where
   pub trial : (w : ℕ) (pl u : List ℕ) → w ≡ rowAt K 2 → pl ≡ replicate (2 ^ (K + 1)) empty → u ≡ begun 640 → Trial C 8 2 w 7 gates pl u
   unfolding example setting traverse thread visit below operands pinOf mem levels over levelAt blank
   trial w pl u row e d = record {
-    stands = rw (e, d) (first-stands C 8 2 gates (begun 640) base levelled (λ x h. zero-at (32 + x) (omega arith) (omega arith)) (zero-at 384 (omega arith) (omega arith)) (zero-at 385 (omega arith) (omega arith)));
+    stands = rw (e, d) (first-stands C 8 2 gates (begun 640) base levelled (λ x h. zero-at (32 + x) (omega arith) (omega arith)) (zero-at 384 (omega arith) (omega arith)) (zero-at 385 (omega arith) (omega arith)) (zero-at 386 (omega arith) (omega arith)));
     row = row;
     low = omega arith;
     high = omega arith;

@@ -1,7 +1,8 @@
-// Places a pin with what it pulls in in an empty tree of height 6, 10 and 13, lists the filled cells and the two counts, takes the pin
+// Places a pin with what it pulls in in an empty tree of height 6, 10 and 13, lists the filled cells and the three counts, takes the pin
 // back and lists again.
 use cells::Height;
 use cells::is_height;
+use columns::FILLED;
 use columns::LEVEL;
 use columns::ONES;
 use columns::PINS;
@@ -13,8 +14,8 @@ use graph::Pin;
 use io::print_decimal;
 use io::write_all;
 use stage_tree::first_empty;
-use stage_tree::place_bit;
-use stage_tree::purge_bit;
+use stage_tree::place_pin;
+use stage_tree::take_back;
 ghost use mathlib.Core.Path.{_≡_};
 ghost use Prim.Native.Nat.{_≤_};
 ghost use lib.ListN.{length};
@@ -50,6 +51,8 @@ fn list_counts(work: &[u32], m: usize)
     print_decimal(OUT, tail_get(work, m, ONES) as u64);
     write_all(OUT, b" pins ");
     print_decimal(OUT, tail_get(work, m, PINS) as u64);
+    write_all(OUT, b" cells ");
+    print_decimal(OUT, tail_get(work, m, FILLED) as u64);
     write_all(OUT, b"\n");
 }
 
@@ -78,9 +81,9 @@ fn there_and_back(
     if c >= end {
         return;
     }
-    place_bit(gates, stage, work, m, h, w, c, p);
+    place_pin(gates, stage, work, m, h, w, c, p);
     list(stage, work, m);
-    purge_bit(stage, work, m, h, w, c);
+    take_back(stage, work, m, h, w, c);
     list(stage, work, m);
 }
 

@@ -51,7 +51,7 @@ fn recorded_build(
 }
 
 fn answer_agrees(own: &[u8], a: Answer) -> bool {
-    answered(own, a.number, a.stages, a.words, a.stage)
+    answered(own, a.number, a.stages, a.words, a.stage) && a.cells == number(own, CELLS)
 }
 
 fn words_agree(own: &[u8], rest: &[u8], words: &[u32]) -> bool {

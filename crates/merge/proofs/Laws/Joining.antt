@@ -139,6 +139,6 @@ module _ {K m table base extra : ℕ} {gates given records xs ls st pl ws cs w :
 
           -- the merged slots laid out are the definition's answer
           pub join-merged : {spare : ℕ} {xs₃ ls₃ st₃ w₃ : List ℕ} {t : Totals} → Laid spare base xs₂ ls₂ w₂ xs₃ ls₃ st₃ w₃ t
-              → Joined rule K extra gates given records xs ls st pl (record { number = 0; stages = t .stages; words = t .words; stage = 0; partitions = t .partitions; trials = trials; refused = 0; pin = record { 0 = 0 } }) xs₃ ls₃ st₃
+              → Joined rule K extra gates given records xs ls st pl (record { number = 0; stages = t .stages; words = t .words; stage = 0; partitions = t .partitions; trials = trials; refused = 0; pin = record { 0 = 0 }; cells = t .cells }) xs₃ ls₃ st₃
           unfolding told mergeReply groupList groupListAfter
-          join-merged L = record { reply = rw (merges, L .partitions, L .all-stages, L .all-words) refl; groups = rw (merges, L .indices, L .lengths, L .stages, T .keeps .count) refl }
+          join-merged L = record { reply = rw (merges, L .partitions, L .all-stages, L .all-words, L .all-cells) refl; groups = rw (merges, L .indices, L .lengths, L .stages, T .keeps .count) refl }

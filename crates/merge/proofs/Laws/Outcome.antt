@@ -44,14 +44,14 @@ module _ (K : ℕ) (gates given records xs ls st : List ℕ) (extra : ℕ) (pl w
   lent = areas pl ws cs w
 
   refused-at : (rule : WordRule) (n : ℕ) → n ≡ mergeRefusal K gates given records l extra lent → n ≢ 0 → (p : Pin) → p .0 ≡ pinShown n gates
-      → outcome (record { number = n; stages = 0; words = 0; stage = 0; partitions = 0; trials = 0; refused = 0; pin = p }) xs ls st pl ws cs w ≡ merger rule K gates given records l extra lent
+      → outcome (record { number = n; stages = 0; words = 0; stage = 0; partitions = 0; trials = 0; refused = 0; pin = p; cells = 0 }) xs ls st pl ws cs w ≡ merger rule K gates given records l extra lent
   unfolding outcome told refuseMergeChecked merger
   refused-at rule zero e h p d = absurd (h refl)
   refused-at rule (suc n) e h p d = rw (← e, merger, d) refl
 
   -- what the checks refuse changes nothing
   pub outcome-refused : (rule : WordRule) (v : Verdict) → Says (mergeRefusal K gates given records l extra lent) gates v → v .number ≢ 0
-      → outcome (record { number = v .number; stages = 0; words = 0; stage = 0; partitions = 0; trials = 0; refused = 0; pin = v .pin }) xs ls st pl ws cs w ≡ merger rule K gates given records l extra lent
+      → outcome (record { number = v .number; stages = 0; words = 0; stage = 0; partitions = 0; trials = 0; refused = 0; pin = v .pin; cells = 0 }) xs ls st pl ws cs w ≡ merger rule K gates given records l extra lent
   outcome-refused rule v S h = refused-at rule (v .number) (S .number) h (v .pin) (S .pin ∙ ap (λ (n : ℕ). pinShown n gates) (sym (S .number)))
 
   both : (k : ℕ) → refusalOf K (mergeSized K gates records l lent) gates given records ≡ k → mergeRefusal K gates given records l extra lent ≡ 0 → (refusalOf K (mergeSized K gates records l lent) gates given records ≡ 0) × (mergeable records l extra ≡ true)

@@ -17,6 +17,7 @@ pub record Same (a b : Answer) (xs ls st pl ws cs w xs′ ls′ st′ pl′ ws�
   pub trials : a .trials ≡ b .trials
   pub refused : a .refused ≡ b .refused
   pub pin : a .pin .0 ≡ b .pin .0
+  pub all-cells : a .cells ≡ b .cells
   pub indices : xs ≡ xs′
   pub lengths : ls ≡ ls′
   pub stages : st ≡ st′
@@ -39,6 +40,7 @@ one-outcome o a b xs ls st pl ws cs w xs′ ls′ st′ pl′ ws′ cs′ w′ d
       trials = ap (λ (x : MergeOutcome). x .reply .trials) s;
       refused = ap (λ (x : MergeOutcome). x .reply .refused) s;
       pin = ap (λ (x : MergeOutcome). x .reply .pin) s;
+      all-cells = ap (λ (x : MergeOutcome). x .reply .cells) s;
       indices = ap (λ (x : MergeOutcome). x .groups .indices) s;
       lengths = ap (λ (x : MergeOutcome). x .groups .lengths) s;
       stages = ap (λ (x : MergeOutcome). x .groups .stages) s;

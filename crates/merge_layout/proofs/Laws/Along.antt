@@ -1,4 +1,4 @@
--- The partitions along an order: their groups, lengths, stages and words. Assumes nothing.
+-- The partitions along an order: their groups, lengths, stages, words and filled cells. Assumes nothing.
 use Prim.Native.Nat.{ℕ, zero, suc, _+_, _<_, _≤_}
 use mathlib.Core.Bool.{false}
 use mathlib.Core.List.{List, [], _∷_, _++_, map}
@@ -9,7 +9,7 @@ use lib.ListN.{length, getD, take, drop, length-map, List·getD-map}
 use lib.Seq.{drop-cons, take-all}
 use borrow.Author.Tests.{eqb-true, not-false}
 use Rattle.rules.specs.Lists.{sum}
-use Rattle.rules.specs.Merge.{Part, addPart, splitBy, indicesOf, lengthsOf, stagesIn, wordsFor, joined}
+use Rattle.rules.specs.Merge.{Part, addPart, splitBy, indicesOf, lengthsOf, stagesIn, wordsFor, cellsFor, joined}
 use Rattle.rules.proofs.Lists.Members.{split}
 use Rattle.merge_slots.specs.Slots.{gathered, own, full, held}
 use Rattle.merge_slots.proofs.Laws.Best.{gathered-in, gathered-out}
@@ -76,6 +76,11 @@ module _ (base : ℕ) (xs ls w : List ℕ) (all : sum ls ≡ length xs) where
     pub words-along : wordsFor (sorted base xs ls w) ≡ map (λ s. own 2 (length ls) (owned base (length ls) w) s) ks
     unfolding wordsFor held
     words-along = ap wordsFor e ∙ map-map (λ (p : Part). p .words) P (λ s. own 2 (length ls) (owned base (length ls) w) s) (λ s. refl) ks
+
+    -- and the filled cells
+    pub cells-along : cellsFor (sorted base xs ls w) ≡ map (λ s. own 3 (length ls) (owned base (length ls) w) s) ks
+    unfolding cellsFor held
+    cells-along = ap cellsFor e ∙ map-map (λ (p : Part). p .cells) P (λ s. own 3 (length ls) (owned base (length ls) w) s) (λ s. refl) ks
 
     -- there are as many partitions as slots along it
     pub count-along : length (sorted base xs ls w) ≡ length ks

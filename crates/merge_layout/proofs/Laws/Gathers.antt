@@ -117,7 +117,7 @@ totalling-none = record { upto = omega arith; few = omega arith; is = refl }
 pub mul-under : (f n : ℕ) → f < 8 → f * n ≤ 7 * n
 mul-under f n h = mul-le-mul-right n (omega arith)
 
-module _ {n f k : ℕ} {o : List ℕ} {a i : ℕ} (A : TotalAt n f k o) (N : Totalling n f k o a i) (h : i < k) {s : ℕ} (es : s ≡ getD o (6 * n + i) 0) where
+module _ {n f k : ℕ} {o : List ℕ} {a i : ℕ} (A : TotalAt n f k o) (N : Totalling n f k o a i) (h : i < k) {s : ℕ} (es : s ≡ getD o (7 * n + i) 0) where
   -- the slot's number stands in the columns
   pub totalling-slot : f * n + s < 8 * n
   unfolding own
@@ -127,11 +127,11 @@ module _ {n f k : ℕ} {o : List ℕ} {a i : ℕ} (A : TotalAt n f k o) (N : Tot
   pub totalling-more : {v : ℕ} → v ≡ getD o (f * n + s) 0 → v ≤ 4294967295 → Totalling n f k o (a + v) (i + 1)
   unfolding sums order sum own
   totalling-more {v} ev b =
-      let t : take (i + 1) (drop (6 * n) o) ≡ take i (drop (6 * n) o) ++ (s ∷ []) = rw (add-one i) (take-suc (drop (6 * n) o) i 0 (rw length-drop (omega (arith, A .room, A .inside))) ∙ rw (getD-drop (6 * n) o i 0, ← es) refl) in
+      let t : take (i + 1) (drop (7 * n) o) ≡ take i (drop (7 * n) o) ++ (s ∷ []) = rw (add-one i) (take-suc (drop (7 * n) o) i 0 (rw length-drop (omega (arith, A .room, A .inside))) ∙ rw (getD-drop (7 * n) o i 0, ← es) refl) in
       record {
         upto = omega arith;
         few = omega (arith, N .few);
-        is = rw (t, map-append (λ s. getD o (f * n + s) 0) (take i (drop (6 * n) o)) (s ∷ []), sum-append (map (λ s. getD o (f * n + s) 0) (take i (drop (6 * n) o))) (getD o (f * n + s) 0 ∷ [])) (omega (arith, N .is));
+        is = rw (t, map-append (λ s. getD o (f * n + s) 0) (take i (drop (7 * n) o)) (s ∷ []), sum-append (map (λ s. getD o (f * n + s) 0) (take i (drop (7 * n) o))) (getD o (f * n + s) 0 ∷ [])) (omega (arith, N .is));
       }
 
 -- past the last slot the column is summed

@@ -25,15 +25,15 @@ module _ (n k : ℕ) (o : List ℕ) (few : k ≤ n) (room : length o ≡ 8 * n) 
   -- the order of k slots has k entries
   pub length-order : length (order n o k) ≡ k
   unfolding order
-  length-order = length-take-le k (drop (6 * n) o) (rw length-drop (omega arith))
+  length-order = length-take-le k (drop (7 * n) o) (rw length-drop (omega arith))
 
   -- entry i stands at place i of its column
-  pub order-at : (i : ℕ) → i < k → getD (order n o k) i 0 ≡ own 6 n o i
+  pub order-at : (i : ℕ) → i < k → getD (order n o k) i 0 ≡ own 7 n o i
   unfolding order own
-  order-at i h = getD-take k (drop (6 * n) o) i 0 h ∙ getD-drop (6 * n) o i 0
+  order-at i h = getD-take k (drop (7 * n) o) i 0 h ∙ getD-drop (7 * n) o i 0
 
   -- each entry of the order is a slot
-  pub order-below : ((i : ℕ) → i < k → own 6 n o i < n) → (i : ℕ) → i < length (order n o k) → getD (order n o k) i 0 < n
+  pub order-below : ((i : ℕ) → i < k → own 7 n o i < n) → (i : ℕ) → i < length (order n o k) → getD (order n o k) i 0 < n
   order-below b i h = let l : i < k = omega (arith, length-order) in rw (order-at i l) (b i l)
 
 -- ---- a list filled up with 0
@@ -66,17 +66,17 @@ module _ {ls st : List ℕ} {k : ℕ} {o : List ℕ} (A : WriteAt ls st k o) {o�
   abbrev n : ℕ
   n = length ls
 
-  sixth : (i : ℕ) → own 6 n o₁ i ≡ own 6 n o i
+  seventh : (i : ℕ) → own 7 n o₁ i ≡ own 7 n o i
   unfolding own
-  sixth i = T .above (6 * n + i) (omega arith)
+  seventh i = T .above (7 * n + i) (omega arith)
 
   -- a column may be summed along the order
   pub total-at : (f : ℕ) → f < 8 → TotalAt n f k o₁
-  total-at f h = record { few = A .table .few; room = T .size ∙ A .table .room; column = h; inside = A .table .inside; slots = λ i b. rw (sixth i) (A .table .slots i b) }
+  total-at f h = record { few = A .table .few; room = T .size ∙ A .table .room; column = h; inside = A .table .inside; slots = λ i b. rw (seventh i) (A .table .slots i b) }
 
   same-order : order n o₁ k ≡ order n o k
   unfolding order
-  same-order = ap (take k) (drop-same (6 * n) o₁ o (T .size) (λ x h. T .above x h))
+  same-order = ap (take k) (drop-same (7 * n) o₁ o (T .size) (λ x h. T .above x h))
 
   abbrev ks : List ℕ
   ks = order n o k
@@ -84,7 +84,7 @@ module _ {ls st : List ℕ} {k : ℕ} {o : List ℕ} (A : WriteAt ls st k o) {o�
   long : length ks ≡ k
   long = length-order n k o (A .table .inside) (A .table .room)
 
-  same-sums : (f : ℕ) → f * n + n ≤ 4 * n → sums n f o₁ k ≡ sums n f o k
+  same-sums : (f : ℕ) → f * n + n ≤ 5 * n → sums n f o₁ k ≡ sums n f o k
   unfolding sums own
   same-sums f h = rw same-order (ap sum (map-below (λ s. getD o₁ (f * n + s) 0) (λ s. getD o (f * n + s) 0) n ks (order-below n k o (A .table .inside) (A .table .room) (A .table .slots)) (λ s l. T .below (f * n + s) (omega arith))))
 
@@ -96,28 +96,29 @@ module _ {ls st : List ℕ} {k : ℕ} {o : List ℕ} (A : WriteAt ls st k o) {o�
   column-long f l = length-take-le n (drop (f * n) o₁) (rw length-drop (omega (arith, T .size, A .table .room)))
 
   -- the column of lengths is as long as the caller's list
-  pub lengths-inside : length ls ≡ length (take (5 * n - 4 * n) (drop (4 * n) o₁))
-  lengths-inside = let z : 5 * n - 4 * n ≡ n = omega arith in rw z (sym (column-long 4 (omega arith)))
+  pub lengths-inside : length ls ≡ length (take (6 * n - 5 * n) (drop (5 * n) o₁))
+  lengths-inside = let z : 6 * n - 5 * n ≡ n = omega arith in rw z (sym (column-long 5 (omega arith)))
 
   -- the column of stages is as long as the caller's list
-  pub stages-inside : length st ≡ length (take (6 * n - 5 * n) (drop (5 * n) o₁))
-  stages-inside = let z : 6 * n - 5 * n ≡ n = omega arith in rw z (A .same ∙ sym (column-long 5 (omega arith)))
+  pub stages-inside : length st ≡ length (take (7 * n - 6 * n) (drop (6 * n) o₁))
+  stages-inside = let z : 7 * n - 6 * n ≡ n = omega arith in rw z (A .same ∙ sym (column-long 6 (omega arith)))
 
-  module _ {ls′ st′ : List ℕ} {t₁ t₂ : ℕ} (el : ls′ ≡ take (5 * n - 4 * n) (drop (4 * n) o₁)) (es : st′ ≡ take (6 * n - 5 * n) (drop (5 * n) o₁)) (e₁ : t₁ ≡ sums n 1 o₁ k) (e₂ : t₂ ≡ sums n 2 o₁ k) where
+  module _ {ls′ st′ : List ℕ} {t₁ t₂ t₃ : ℕ} (el : ls′ ≡ take (6 * n - 5 * n) (drop (5 * n) o₁)) (es : st′ ≡ take (7 * n - 6 * n) (drop (6 * n) o₁)) (e₁ : t₁ ≡ sums n 1 o₁ k) (e₂ : t₂ ≡ sums n 2 o₁ k) (e₃ : t₃ ≡ sums n 3 o₁ k) where
     -- both copied, the lists hold lengths and stages in the final order, with the sums
-    pub written : Written ls k o ls′ st′ (record { partitions = k; stages = t₁; words = t₂ })
+    pub written : Written ls k o ls′ st′ (record { partitions = k; stages = t₁; words = t₂; cells = t₃ })
     written =
-        let z : 5 * n - 4 * n ≡ n = omega arith in
-        let y : 6 * n - 5 * n ≡ n = omega arith in
+        let z : 6 * n - 5 * n ≡ n = omega arith in
+        let y : 7 * n - 6 * n ≡ n = omega arith in
         let few : length ks ≤ n = omega (arith, long, A .table .inside) in
         record {
-          lengths = el ∙ rw z (column-is n (λ s. getD ls s 0) ks few (take n (drop (4 * n) o₁)) (column-long 4 (omega arith))
-              (λ i h. let b : i < k = omega (arith, long) in part-of 4 i (omega (arith, A .table .inside)) (omega arith) ∙ T .lengths i b ∙ ap (λ (s : ℕ). getD ls s 0) (sym (order-at n k o (A .table .inside) (A .table .room) i b)))
-              (λ i h l. part-of 4 i l (omega arith) ∙ T .no-lengths i (omega (arith, long)) l));
-          stages = es ∙ rw y (column-is n (λ s. own 1 n o s) ks few (take n (drop (5 * n) o₁)) (column-long 5 (omega arith))
-              (λ i h. let b : i < k = omega (arith, long) in part-of 5 i (omega (arith, A .table .inside)) (omega arith) ∙ T .stages i b ∙ ap (λ (s : ℕ). own 1 n o s) (sym (order-at n k o (A .table .inside) (A .table .room) i b)))
-              (λ i h l. part-of 5 i l (omega arith) ∙ T .no-stages i (omega (arith, long)) l));
+          lengths = el ∙ rw z (column-is n (λ s. getD ls s 0) ks few (take n (drop (5 * n) o₁)) (column-long 5 (omega arith))
+              (λ i h. let b : i < k = omega (arith, long) in part-of 5 i (omega (arith, A .table .inside)) (omega arith) ∙ T .lengths i b ∙ ap (λ (s : ℕ). getD ls s 0) (sym (order-at n k o (A .table .inside) (A .table .room) i b)))
+              (λ i h l. part-of 5 i l (omega arith) ∙ T .no-lengths i (omega (arith, long)) l));
+          stages = es ∙ rw y (column-is n (λ s. own 1 n o s) ks few (take n (drop (6 * n) o₁)) (column-long 6 (omega arith))
+              (λ i h. let b : i < k = omega (arith, long) in part-of 6 i (omega (arith, A .table .inside)) (omega arith) ∙ T .stages i b ∙ ap (λ (s : ℕ). own 1 n o s) (sym (order-at n k o (A .table .inside) (A .table .room) i b)))
+              (λ i h l. part-of 6 i l (omega arith) ∙ T .no-stages i (omega (arith, long)) l));
           partitions = refl;
           all-stages = e₁ ∙ same-sums 1 (omega arith);
           all-words = e₂ ∙ same-sums 2 (omega arith);
+          all-cells = e₃ ∙ same-sums 3 (omega arith);
         }

@@ -25,14 +25,14 @@ module _ {ls o : List ℕ} (A : OrderAt ls o) where
     keys-at = record { area = record { few = A .few; room = B .only .size ∙ A .room } }
 
     module _ {o₂ : List ℕ} (K : Keyed n n o₁ o₂) where
-      same : (x : ℕ) → x < 3 * n → getD o₂ x 0 ≡ getD o x 0
+      same : (x : ℕ) → x < 4 * n → getD o₂ x 0 ≡ getD o x 0
       same x h = K .kept x (omega arith) ∙ B .only .below x h
 
       stages : (s : ℕ) → s < n → own 1 n o₂ s ≡ own 1 n o s
       unfolding own
       stages s h = same (1 * n + s) (omega arith)
 
-      keyed : (s : ℕ) → s < n → own 4 n o₂ s ≡ 4294967295 - own 1 n o₂ s
+      keyed : (s : ℕ) → s < n → own 5 n o₂ s ≡ 4294967295 - own 1 n o₂ s
       unfolding own
       keyed s h = K .grows s h ∙ ap (λ (x : ℕ). 4294967295 - x) (sym (K .kept (1 * n + s) (omega arith)))
 
@@ -42,7 +42,7 @@ module _ {ls o : List ℕ} (A : OrderAt ls o) where
 
       bars : (s : ℕ) → s < n → free n o₂ s ≡ free n o₁ s
       unfolding free own
-      bars s h = rw (K .kept (3 * n + s) (omega arith)) refl
+      bars s h = rw (K .kept (4 * n + s) (omega arith)) refl
 
       -- the three leave the full slots in their final order
       pub ordered : {o₃ : List ℕ} {r : ℕ} → Sorted n o₂ o₃ r → Ordered ls o o₃ r

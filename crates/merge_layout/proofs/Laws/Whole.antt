@@ -13,13 +13,13 @@ use Rattle.merge_layout.specs.declared.Totals.{Totals}
 use Rattle.merge_layout.specs.Layout.{OrderAt, Ordered, GatherAt, Gathered, sums, WriteAt, column, Written, owned, LayAt, Arranged, sorted, Laid}
 use Rattle.merge_layout.proofs.Laws.Owned.{lent, own-length, back-owned, part-length, part-below, part-above}
 use Rattle.merge_layout.proofs.Laws.Lists.{map-below, length-order, order-below}
-use Rattle.merge_layout.proofs.Laws.Along.{groups-along, lengths-along, stages-along, words-along, count-along, fits-along}
+use Rattle.merge_layout.proofs.Laws.Along.{groups-along, lengths-along, stages-along, words-along, cells-along, count-along, fits-along}
 
 same-stages : (n : ℕ) (ls xs o : List ℕ) (s : ℕ) → s < n → held n ls xs o s .stages ≡ own 1 n o s
 unfolding held
 same-stages n ls xs o s h = refl
 
-same-own : (f n : ℕ) (o′ o : List ℕ) → f * n + n ≤ 3 * n → ((x : ℕ) → x < 3 * n → getD o′ x 0 ≡ getD o x 0) → (s : ℕ) → s < n → own f n o′ s ≡ own f n o s
+same-own : (f n : ℕ) (o′ o : List ℕ) → f * n + n ≤ 4 * n → ((x : ℕ) → x < 4 * n → getD o′ x 0 ≡ getD o x 0) → (s : ℕ) → s < n → own f n o′ s ≡ own f n o s
 unfolding own
 same-own f n o′ o l e s h = e (f * n + s) (omega arith)
 
@@ -64,6 +64,7 @@ module _ {spare base : ℕ} {xs ls st w : List ℕ} (A : LayAt spare base xs ls 
         let b : (i : ℕ) → i < length js → getD js i 0 < m = order-below m r o′ (R .order-is .few) room′ (R .order-is .slots) in
         let s₁ : map (λ s. own 1 m o′ s) js ≡ map (λ s. own 1 m (owned base m w) s) js = map-below (λ s. own 1 m o′ s) (λ s. own 1 m (owned base m w) s) m js b (same-own 1 m o′ (owned base m w) (omega arith) (R .order-is .kept)) in
         let s₂ : map (λ s. own 2 m o′ s) js ≡ map (λ s. own 2 m (owned base m w) s) js = map-below (λ s. own 2 m o′ s) (λ s. own 2 m (owned base m w) s) m js b (same-own 2 m o′ (owned base m w) (omega arith) (R .order-is .kept)) in
+        let s₃ : map (λ s. own 3 m o′ s) js ≡ map (λ s. own 3 m (owned base m w) s) js = map-below (λ s. own 3 m o′ s) (λ s. own 3 m (owned base m w) s) m js b (same-own 3 m o′ (owned base m w) (omega arith) (R .order-is .kept)) in
         record {
           indices = R .groups ∙ sym (groups-along base xs ls w (A .all) js e);
           lengths = W .lengths ∙ ap (padded m 0) (sym (lengths-along base xs ls w (A .all) js e));
@@ -71,6 +72,7 @@ module _ {spare base : ℕ} {xs ls st w : List ℕ} (A : LayAt spare base xs ls 
           partitions = W .partitions ∙ sym (length-order m r o′ (R .order-is .few) room′) ∙ sym (count-along base xs ls w (A .all) js e);
           all-stages = W .all-stages ∙ ap sum (s₁ ∙ sym (stages-along base xs ls w (A .all) js e));
           all-words = W .all-words ∙ ap sum (s₂ ∙ sym (words-along base xs ls w (A .all) js e));
+          all-cells = W .all-cells ∙ ap sum (s₃ ∙ sym (cells-along base xs ls w (A .all) js e));
           elsewhere =
               let E = R .elsewhere in
               record {
@@ -105,31 +107,31 @@ module _ {spare base : ℕ} {xs ls st w : List ℕ} (A : LayAt spare base xs ls 
     pub same-size : length w₁ ≡ length w
     same-size = part-length base (base + 8 * c) w (omega arith) (A .room) ys (O .size)
 
-    module _ {from to : ℕ} (ef : from ≡ base + 6 * c) (et : to ≡ from + c) where
-      column-six : take (to - from) (drop from w₁) ≡ take c (drop (6 * c) ys)
+    module _ {from to : ℕ} (ef : from ≡ base + 7 * c) (et : to ≡ from + c) where
+      column-six : take (to - from) (drop from w₁) ≡ take c (drop (7 * c) ys)
       column-six =
           let z : to - from ≡ c = omega arith in
-          let d : drop from w₁ ≡ drop (6 * c) ys ++ drop size (drop base w) = rw ef (sym (drop-drop (6 * c) base w₁) ∙ rw behind (drop-append-le (6 * c) ys (drop size (drop base w)) (omega (arith, ys-length)))) in
-          rw (z, d) (take-append-le c (drop (6 * c) ys) (drop size (drop base w)) (rw length-drop (omega (arith, ys-length))))
+          let d : drop from w₁ ≡ drop (7 * c) ys ++ drop size (drop base w) = rw ef (sym (drop-drop (7 * c) base w₁) ∙ rw behind (drop-append-le (7 * c) ys (drop size (drop base w)) (omega (arith, ys-length)))) in
+          rw (z, d) (take-append-le c (drop (7 * c) ys) (drop size (drop base w)) (rw length-drop (omega (arith, ys-length))))
 
       -- the order fits the caller's list of stages
       pub stages-ready : length st ≡ length (take (to - from) (drop from w₁))
-      stages-ready = rw column-six (A .same ∙ sym (length-take-le c (drop (6 * c) ys) (rw length-drop (omega (arith, ys-length)))))
+      stages-ready = rw column-six (A .same ∙ sym (length-take-le c (drop (7 * c) ys) (rw length-drop (omega (arith, ys-length)))))
 
       module _ {st₁ : List ℕ} (es : st₁ ≡ take (to - from) (drop from w₁)) where
-        as-column : st₁ ≡ take c (drop (6 * c) ys)
+        as-column : st₁ ≡ take c (drop (7 * c) ys)
         as-column = es ∙ column-six
 
         in-order : take k st₁ ≡ order c ys k
         unfolding order
-        in-order = ap (take k) as-column ∙ take-take k c (drop (6 * c) ys) (O .few)
+        in-order = ap (take k) as-column ∙ take-take k c (drop (7 * c) ys) (O .few)
 
         along : sorted base xs ls w ≡ map (held c ls xs (owned base c w)) (order c ys k)
         unfolding sorted
         along = O .is (held c ls xs (owned base c w)) (λ s h. same-stages c ls xs (owned base c w) s h ∙ ap (λ (o : List ℕ). own 1 c o s) (sym (lent base c w (A .room))))
 
         st-length : length st₁ ≡ c
-        st-length = ap length as-column ∙ length-take-le c (drop (6 * c) ys) (rw length-drop (omega (arith, ys-length)))
+        st-length = ap length as-column ∙ length-take-le c (drop (7 * c) ys) (rw length-drop (omega (arith, ys-length)))
 
         abbrev gap : ℕ
         gap = spare + length xs - spare
@@ -147,7 +149,7 @@ module _ {spare base : ℕ} {xs ls st w : List ℕ} (A : LayAt spare base xs ls 
           all = A .all;
           few = A .short;
           inside = omega (arith, st-length, O .few);
-          slots = λ i h. rw (as-column, getD-take c (drop (6 * c) ys) i 0 (omega (arith, O .few)), getD-drop (6 * c) ys i 0) (O .slots i h);
+          slots = λ i h. rw (as-column, getD-take c (drop (7 * c) ys) i 0 (omega (arith, O .few)), getD-drop (7 * c) ys i 0) (O .slots i h);
           fits = ap (λ (l : List ℕ). sum (map (λ s. getD ls s 0) l)) in-order ∙ fits-along base xs ls w (A .all) (order c ys k) along ∙ sym to-length;
         }
 

@@ -37,19 +37,20 @@ in-part i a k xs e =
 
 -- ---- one slot's own numbers stored
 
-module _ {n s size stages words : ℕ} {o o′ : List ℕ} (S : Stored n s size stages words o o′) (inside : s < n) (ls xs : List ℕ) where
+module _ {n s size stages words cells : ℕ} {o o′ : List ℕ} (S : Stored n s size stages words cells o o′) (inside : s < n) (ls xs : List ℕ) where
   stored-other : (t : ℕ) → t < n → t ≢ s → held n ls xs o′ t ≡ held n ls xs o t
   unfolding held own
   stored-other t h d =
-      let a : getD o′ (0 * n + t) 0 ≡ getD o (0 * n + t) 0 = S .others (0 * n + t) (λ z. d (omega arith)) (λ z. omega arith) (λ z. omega arith) in
-      let b : getD o′ (1 * n + t) 0 ≡ getD o (1 * n + t) 0 = S .others (1 * n + t) (λ z. omega arith) (λ z. d (omega arith)) (λ z. omega arith) in
-      let c : getD o′ (2 * n + t) 0 ≡ getD o (2 * n + t) 0 = S .others (2 * n + t) (λ z. omega arith) (λ z. omega arith) (λ z. d (omega arith)) in
-      rw (a, b, c) refl
+      let a : getD o′ (0 * n + t) 0 ≡ getD o (0 * n + t) 0 = S .others (0 * n + t) (λ z. d (omega arith)) (λ z. omega arith) (λ z. omega arith) (λ z. omega arith) in
+      let b : getD o′ (1 * n + t) 0 ≡ getD o (1 * n + t) 0 = S .others (1 * n + t) (λ z. omega arith) (λ z. d (omega arith)) (λ z. omega arith) (λ z. omega arith) in
+      let c : getD o′ (2 * n + t) 0 ≡ getD o (2 * n + t) 0 = S .others (2 * n + t) (λ z. omega arith) (λ z. omega arith) (λ z. d (omega arith)) (λ z. omega arith) in
+      let e : getD o′ (3 * n + t) 0 ≡ getD o (3 * n + t) 0 = S .others (3 * n + t) (λ z. omega arith) (λ z. omega arith) (λ z. omega arith) (λ z. d (omega arith)) in
+      rw (a, b, c, e) refl
 
-  stored-this : (J : Common) → size ≡ sizeFor J (getD (splitBy ls xs) s []) → stages ≡ rules.reply (builtOf J (getD (splitBy ls xs) s [])) .stages → words ≡ rules.reply (builtOf J (getD (splitBy ls xs) s [])) .words
+  stored-this : (J : Common) → size ≡ sizeFor J (getD (splitBy ls xs) s []) → stages ≡ rules.reply (builtOf J (getD (splitBy ls xs) s [])) .stages → words ≡ rules.reply (builtOf J (getD (splitBy ls xs) s [])) .words → cells ≡ rules.reply (builtOf J (getD (splitBy ls xs) s [])) .cells
       → held n ls xs o′ s ≡ partOf s (getD (splitBy ls xs) s []) (sizeFor J (getD (splitBy ls xs) s [])) (builtOf J (getD (splitBy ls xs) s []))
   unfolding held partOf
-  stored-this J e f g = rw (S .size-is, S .stages-are, S .words-are, ← e, ← f, ← g) refl
+  stored-this J e f g h = rw (S .size-is, S .stages-are, S .words-are, S .cells-are, ← e, ← f, ← g, ← h) refl
 
 -- ---- the first s slots are built
 
@@ -131,6 +132,10 @@ module _ {K m table base : ℕ} {gates given records xs ls pl ws cs w : List ℕ
         unfolding told
         words-are J f = ap (λ (r : rules.Reply). r .words) (replied J f)
 
+        cells-are : (J : Common) → Places rule K (length pl) gates given records J → a .cells ≡ rules.reply (builtOf J (getD hs s [])) .cells
+        unfolding told
+        cells-are J f = ap (λ (r : rules.Reply). r .cells) (replied J f)
+
         changed : Changes m table base n w w₂
         changed = changes-then (N .changes) (M .changes)
 
@@ -148,7 +153,7 @@ module _ {K m table base : ℕ} {gates given records xs ls pl ws cs w : List ℕ
         }
 
         module _ (z : a .number ≡ 0) where
-          O : Noted m table base n s (a .stages) (a .words) gates given records part w₁ w₂
+          O : Noted m table base n s (a .stages) (a .words) (a .cells) gates given records part w₁ w₂
           O = M .noted z
 
           size-is : (J : Common) → Places rule K (length pl) gates given records J → O .size ≡ sizeFor J (getD hs s [])
@@ -171,7 +176,7 @@ module _ {K m table base : ℕ} {gates given records xs ls pl ws cs w : List ℕ
             counts = M .counts ∙ N .counts;
             changes = changed;
             right = λ J f t b. split (eqb t s)
-                (λ c. let d : t ≡ s = eqb-true t s c in rw d (record { whole = sym (number-is J f) ∙ z; part = stored-this (O .stored) h ls xs J (size-is J f) (stages-are J f) (words-are J f) }))
+                (λ c. let d : t ≡ s = eqb-true t s c in rw d (record { whole = sym (number-is J f) ∙ z; part = stored-this (O .stored) h ls xs J (size-is J f) (stages-are J f) (words-are J f) (cells-are J f) }))
                 (λ c. let d : t ≢ s = eqb-false t s c in rw (same t (omega arith) d) (N .right J f t (omega arith)));
             greatest =
                 let y : 0 + s ≡ s = omega arith in

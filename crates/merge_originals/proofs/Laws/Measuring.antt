@@ -20,6 +20,7 @@ use Rattle.rules.proofs.Build.Bounds.{Few}
 use Rattle.placer.specs.declared.Answer.{Answer}
 use Rattle.placer.specs.Answers.{told}
 use Rattle.placer.proofs.Laws.Course.{limit-small}
+use Rattle.placer.proofs.Laws.Filled.{cells-few}
 use Rattle.merge_unions.specs.Names.{picked}
 use Rattle.merge_unions.specs.Unions.{UnionAt, Leaves, SizeAt, Measured, TryAt, Places, Built}
 use Rattle.merge_unions.proofs.Laws.Names.{group-ends}
@@ -80,7 +81,7 @@ module _ {K m table base n : ℕ} {gates given records w : List ℕ} (G : Ground
 
 -- ---- the size and the own numbers
 
-module _ {m table base n s stages words : ℕ} {gates given records part w : List ℕ} (A : NoteAt m table base n s stages words gates given records part w) where
+module _ {m table base n s stages words cells : ℕ} {gates given records part w : List ℕ} (A : NoteAt m table base n s stages words cells gates given records part w) where
   -- the partition's traversal may be measured
   pub note-size : SizeAt m table gates given records part [] w
   note-size = record { K = A .K; at = union-at (A .ground) (A .groups) }
@@ -91,19 +92,20 @@ module _ {m table base n s stages words : ℕ} {gates given records part w : Lis
     note-end = omega (arith, A .ground .room, M .leaves .len)
 
     -- the slot's may be stored
-    pub note-store : BuiltAt n s size stages words (take (base + 8 * n - base) (drop base w₁))
+    pub note-store : BuiltAt n s size stages words cells (take (base + 8 * n - base) (drop base w₁))
     note-store = rw (lent base n w₁ note-end) (record {
       area = record { few = A .ground .few; room = own-length base n w₁ note-end };
       inside = A .inside;
       size-fits = omega (arith, M .few, A .ground .idle .area .small);
       stages-fit = A .stages-fit;
       words-fit = A .words-fit;
+      cells-fit = A .cells-fit;
     })
 
-    -- the slot's size, stages and words are stored
-    pub noted : {ys : List ℕ} → Stored n s size stages words (take (base + 8 * n - base) (drop base w₁)) ys → Noted m table base n s stages words gates given records part w (take base w₁ ++ (ys ++ drop (base + 8 * n - base) (drop base w₁)))
+    -- the slot's size, stages, words and filled cells are stored
+    pub noted : {ys : List ℕ} → Stored n s size stages words cells (take (base + 8 * n - base) (drop base w₁)) ys → Noted m table base n s stages words cells gates given records part w (take base w₁ ++ (ys ++ drop (base + 8 * n - base) (drop base w₁)))
     noted {ys} S₀ =
-        let S : Stored n s size stages words (owned base n w₁) ys = rw (lent base n w₁ note-end) at S₀ in
+        let S : Stored n s size stages words cells (owned base n w₁) ys = rw (lent base n w₁ note-end) at S₀ in
         let l : length ys ≡ length (take (base + 8 * n - base) (drop base w₁)) = S₀ .long in
         record {
           changes = record {
@@ -160,8 +162,14 @@ module _ {K m table base n s : ℕ} {gates given records part pl ws cs w : List 
     unfolding told
     words-most = let e : a .words ≡ rules.reply (builtOf J₀ part) .words = ap (λ (r : rules.Reply). r .words) (replied J₀ fits₀) in omega (arith, few₀ .words-most, limit-fits K (A .ground .passed .height))
 
+    cells-most : a .cells ≤ 65536 * 16384
+    unfolding told builtOf
+    cells-most =
+        let e : a .cells ≡ rules.reply (builtOf J₀ part) .cells = ap (λ (r : rules.Reply). r .cells) (replied J₀ fits₀) in
+        omega (arith, cells-few rule K (tall-height K (A .ground .passed .height) .high) (graphOf gates) given (named J₀ part) (rooms K (length pl)) 65536 (omega (arith, few₀ .stages-most, A .ground .passed .pins, A .ground .passed .few)))
+
     -- a built partition may be measured
-    pub measure-note : NoteAt m table base n s (a .stages) (a .words) gates given records part w₁
+    pub measure-note : NoteAt m table base n s (a .stages) (a .words) (a .cells) gates given records part w₁
     measure-note = record {
       K = K;
       ground = ground-changes (A .ground) (leaves-changes (A .ground) (B .leaves));
@@ -169,9 +177,10 @@ module _ {K m table base n s : ℕ} {gates given records part pl ws cs w : List 
       inside = A .inside;
       stages-fit = omega (arith, stages-most, A .ground .idle .area .small);
       words-fit = omega (arith, words-most);
+      cells-fit = omega (arith, cells-most);
     }
 
-    measures : {w₂ : List ℕ} → Changes m table base n w w₂ → (a .number ≡ 0 → Noted m table base n s (a .stages) (a .words) gates given records part w w₂) → Measures rule K m table base n s gates given records part pl ws cs w a pl₁ ws₁ cs₁ w₂
+    measures : {w₂ : List ℕ} → Changes m table base n w w₂ → (a .number ≡ 0 → Noted m table base n s (a .stages) (a .words) (a .cells) gates given records part w w₂) → Measures rule K m table base n s gates given records part pl ws cs w a pl₁ ws₁ cs₁ w₂
     measures C N = record {
       plan = B .plan ∙ sym (A .blank .plan);
       words = B .words ∙ sym (A .blank .words);
@@ -186,8 +195,8 @@ module _ {K m table base n s : ℕ} {gates given records part pl ws cs w : List 
     pub measure-refused : a .number ≢ 0 → Measures rule K m table base n s gates given records part pl ws cs w a pl₁ ws₁ cs₁ w₁
     measure-refused h = measures (leaves-changes (A .ground) (B .leaves)) (λ z. absurd (h z))
 
-    -- for a whole one its size, stages and words are stored
-    pub measure-whole : {w₂ : List ℕ} → Noted m table base n s (a .stages) (a .words) gates given records part w₁ w₂ → Measures rule K m table base n s gates given records part pl ws cs w a pl₁ ws₁ cs₁ w₂
+    -- for a whole one its numbers are stored
+    pub measure-whole : {w₂ : List ℕ} → Noted m table base n s (a .stages) (a .words) (a .cells) gates given records part w₁ w₂ → Measures rule K m table base n s gates given records part pl ws cs w a pl₁ ws₁ cs₁ w₂
     measure-whole N =
         let C = changes-then (leaves-changes (A .ground) (B .leaves)) (N .changes) in
         measures C (λ z. record { changes = C; size = N .size; stored = rw (leaves-own (A .ground) (B .leaves)) at (N .stored); measured = N .measured })

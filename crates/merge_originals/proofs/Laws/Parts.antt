@@ -83,7 +83,7 @@ occupied-none p ps e = rw (e, occupied) refl
 
 occupied-some : (p : Part) (ps : List Part) (i : ℕ) (is : List ℕ) → p .has ≡ i ∷ is → occupied (p ∷ ps) ≡ p ∷ occupied ps
 unfolding occupied
-occupied-some p ps i is e = rw (e, occupied) (ap (λ (h : List ℕ). record { nr = p .nr; has = h; size = p .size; stages = p .stages; words = p .words } ∷ occupied ps) e)
+occupied-some p ps i is e = rw (e, occupied) (ap (λ (h : List ℕ). record { nr = p .nr; has = h; size = p .size; stages = p .stages; words = p .words; cells = p .cells } ∷ occupied ps) e)
 
 module _ (P : ℕ → Part) (ls : List ℕ) (sizes : (t : ℕ) → length (P t .has) ≡ getD ls t 0) where
   one-occupied : (k i : ℕ) (h : List ℕ) → P i .has ≡ h → occupied (listed P (λ _. true) k (suc i)) ≡ listed P (full ls) k (suc i) → occupied (listed P (λ _. true) (suc k) i) ≡ listed P (full ls) (suc k) i

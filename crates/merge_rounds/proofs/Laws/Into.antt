@@ -29,9 +29,9 @@ numbered : (n : ℕ) (ls xs o : List ℕ) (s : ℕ) → held n ls xs o s .nr ≡
 unfolding held
 numbered n ls xs o s = refl
 
-free-same : (n : ℕ) (o o′ : List ℕ) → ((x : ℕ) → x < 4 * n → getD o′ x 0 ≡ getD o x 0) → (s : ℕ) → s < n → free n o′ s ≡ free n o s
+free-same : (n : ℕ) (o o′ : List ℕ) → ((x : ℕ) → x < 5 * n → getD o′ x 0 ≡ getD o x 0) → (s : ℕ) → s < n → free n o′ s ≡ free n o s
 unfolding free own
-free-same n o o′ e s h = rw (e (3 * n + s) (omega arith)) refl
+free-same n o o′ e s h = rw (e (4 * n + s) (omega arith)) refl
 
 -- ---- the definition's rounds
 

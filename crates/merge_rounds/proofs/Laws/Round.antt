@@ -69,8 +69,8 @@ pub record Trying (rule : WordRule) (K m table base i cap ranks trials : ℕ) (g
   pub words : length ws₁ ≡ length ws
   pub counts : length cs₁ ≡ length cs
   pub area : length w₁ ≡ length w
-  pub low : (x : ℕ) → x < 3 * length ls → getD (owned base (length ls) w₁) x 0 ≡ getD (owned base (length ls) w) x 0
-  pub high : (x : ℕ) → 4 * length ls ≤ x → getD (owned base (length ls) w₁) x 0 ≡ getD (owned base (length ls) w) x 0
+  pub low : (x : ℕ) → x < 4 * length ls → getD (owned base (length ls) w₁) x 0 ≡ getD (owned base (length ls) w) x 0
+  pub high : (x : ℕ) → 5 * length ls ≤ x → getD (owned base (length ls) w₁) x 0 ≡ getD (owned base (length ls) w) x 0
   pub shrinks : (s : ℕ) → s < length ls → opensIn base ls w₁ s ≡ true → opensIn base ls w s ≡ true
   pub total : t + left ≡ trials + ranks
   pub is : (J : Common) → Tries rule K (length pl) cap gates given records J → (bs : List ℕ) → Bars (full ls) (opensIn base ls w) (length ls - suc i) (suc i) bs
@@ -191,7 +191,7 @@ module _ {K m table base i cap ranks trials : ℕ} {gates given records xs ls pl
             unfolding own
             ready s a =
                 let q = A .ready J (S .places .shares) s (omega (arith, a .low)) (omega (arith, a .high, A .first)) (N .shrinks s (omega (arith, a .high, A .first)) (a .free)) in
-                record { grows = N .high (4 * n + s) (omega arith) ∙ q .grows; union = N .high (5 * n + s) (omega arith) ∙ q .union }
+                record { grows = N .high (5 * n + s) (omega arith) ∙ q .grows; union = N .high (6 * n + s) (omega arith) ∙ q .union }
 
             agrees : (s u : ℕ) → s < u → Among (free n o₁) k (suc i) s → Among (free n o₁) k (suc i) u → ahead n o₁ u s ≡ before (rankOf J (part i) (part u)) (rankOf J (part i) (part s))
             agrees s u h a b = keys-agree J (part i) part numbered n o₁ s u (ready s a) (ready u b)
@@ -210,7 +210,7 @@ module _ {K m table base i cap ranks trials : ℕ} {gates given records xs ls pl
             unfolding held
             wins e bs =
                 let U = R .yes e J places in
-                let u : held n ls₂ xs₂ o₂ i ≡ partOf i (part i .has ++ part j .has) (own 5 n o₁ j) (builtOf J (part i .has ++ part j .has)) = taken-part order inside (U .taken) n o₁ o₂ (builtOf J (part i .has ++ part j .has)) (U .joined .size-is) (U .joined .stages-are) (U .joined .words-are) in
+                let u : held n ls₂ xs₂ o₂ i ≡ partOf i (part i .has ++ part j .has) (own 6 n o₁ j) (builtOf J (part i .has ++ part j .has)) = taken-part order inside (U .taken) n o₁ o₂ (builtOf J (part i .has ++ part j .has)) (U .joined .size-is) (U .joined .stages-are) (U .joined .words-are) (U .joined .cells-are) in
                 ap (λ (a : ℕ). goes-on J (free n o₁) a bs t) one-less
                 ∙ round-takes J (part i) part k (suc i) (ahead n o₁) (free n o₁) agrees j found-j (left - 1) bs t (sym tested ∙ e)
                 ∙ ap (λ (a : ℕ). some j (partOf i (part i .has ++ part j .has) (rankOf J (part i) (part j) .union) (builtOf J (part i .has ++ part j .has))) bs a) one-more
@@ -224,7 +224,7 @@ module _ {K m table base i cap ranks trials : ℕ} {gates given records xs ls pl
               let D = R .no e in
               let opens : (s : ℕ) → s < n → free n o₂ s ≡ but j (free n o₁) s = λ s h. ap (λ (o : List ℕ). free n o s) (D .bar) ∙ barred n j o₁ inside (own-length base n w₁ own-room) s h in
               let later : (s : ℕ) → suc i ≤ s → s < suc i + k → free n o₂ s ≡ but j (free n o₁) s = λ s a b. opens s (omega (arith, A .first)) in
-              let other : (x : ℕ) → x ≢ 3 * n + j → getD o₂ x 0 ≡ getD o₁ x 0 = λ x h. ap (λ (o : List ℕ). getD o x 0) (D .bar) ∙ getD-set-other o₁ (3 * n + j) x 1 0 h in
+              let other : (x : ℕ) → x ≢ 4 * n + j → getD o₂ x 0 ≡ getD o₁ x 0 = λ x h. ap (λ (o : List ℕ). getD o x 0) (D .bar) ∙ getD-set-other o₁ (4 * n + j) x 1 0 h in
               record {
                 indices = D .indices;
                 lengths = D .lengths;

@@ -28,7 +28,7 @@ same-order o u a b s t ag au an bg bu bn = rw (← ag, ← au, ← an, ← bg, �
 -- slots rank by their keys as the rules rank their partitions
 pub keys-agree : (J : Common) (p : Part) (P : ℕ → Part) → ((s : ℕ) → P s .nr ≡ s) → (n : ℕ) (o : List ℕ) (s t : ℕ) → Ready J p P n o s → Ready J p P n o t → ahead n o t s ≡ before (rankOf J p (P t)) (rankOf J p (P s))
 unfolding ahead rankOf
-keys-agree J p P numbered n o s t x y = same-order (λ z. own 4 n o z) (λ z. own 5 n o z) (rankOf J p (P s)) (rankOf J p (P t)) s t (x .grows) (x .union) (sym (numbered s)) (y .grows) (y .union) (sym (numbered t))
+keys-agree J p P numbered n o s t x y = same-order (λ z. own 5 n o z) (λ z. own 6 n o z) (rankOf J p (P s)) (rankOf J p (P t)) s t (x .grows) (x .union) (sym (numbered s)) (y .grows) (y .union) (sym (numbered t))
 
 -- ---- the slots afterwards
 
@@ -65,14 +65,14 @@ module _ {i j : ℕ} {xs ls xs′ ls′ : List ℕ} (order : i < j) (inside : j 
       nonzero : getD ls i 0 ≡ 0 → ⊥
       nonzero z = let q : not (eqb (getD ls i 0) 0) ≡ false = rw (eq-eqb (getD ls i 0) 0 z) refl in let y : _≡_ {A = Bool} true false = sym f ∙ q in let x : _≡_ {A = ℕ} 0 1 = cc in omega arith
 
-  -- own numbers n to a column: the union's size, stages and words stand for slot i, the other slots' stay
-  module _ (n : ℕ) (o o′ : List ℕ) (a : Answer) (size : own 0 n o′ i ≡ own 5 n o j) (stages : own 1 n o′ i ≡ reply a .stages) (words : own 2 n o′ i ≡ reply a .words) where
+  -- own numbers n to a column: the union's size, stages, words and cells stand for slot i, the other slots' stay
+  module _ (n : ℕ) (o o′ : List ℕ) (a : Answer) (size : own 0 n o′ i ≡ own 6 n o j) (stages : own 1 n o′ i ≡ reply a .stages) (words : own 2 n o′ i ≡ reply a .words) (cells : own 3 n o′ i ≡ reply a .cells) where
     -- slot i's partition is the union
-    pub taken-part : held n ls′ xs′ o′ i ≡ partOf i both (own 5 n o j) a
+    pub taken-part : held n ls′ xs′ o′ i ≡ partOf i both (own 6 n o j) a
     unfolding held partOf
-    taken-part = rw (taken-has, size, stages, words) refl
+    taken-part = rw (taken-has, size, stages, words, cells) refl
 
   -- other slots' partitions stay
-  pub other-part : (n : ℕ) (o o′ : List ℕ) (s : ℕ) → s ≢ i → s ≢ j → ((f : ℕ) → f < 3 → own f n o′ s ≡ own f n o s) → held n ls′ xs′ o′ s ≡ held n ls xs o s
+  pub other-part : (n : ℕ) (o o′ : List ℕ) (s : ℕ) → s ≢ i → s ≢ j → ((f : ℕ) → f < 4 → own f n o′ s ≡ own f n o s) → held n ls′ xs′ o′ s ≡ held n ls xs o s
   unfolding held
-  other-part n o o′ s a b e = rw (other-has s a b, e 0 (omega arith), e 1 (omega arith), e 2 (omega arith)) refl
+  other-part n o o′ s a b e = rw (other-has s a b, e 0 (omega arith), e 1 (omega arith), e 2 (omega arith), e 3 (omega arith)) refl

@@ -36,12 +36,12 @@ module _ {x : Of} {m table base c i s n k : ℕ} {gates records names w : List �
   o = owned base c w
 
   -- a barred slot gets no keys
-  pub rank-barred : getD w (base + (3 * c + s)) 0 ≢ 0 → SlotRanked x m table base c i s n k gates records names w w
+  pub rank-barred : getD w (base + (4 * c + s)) 0 ≢ 0 → SlotRanked x m table base c i s n k gates records names w w
   unfolding free own
   rank-barred h = record { keeps = record { len = refl; kept = λ j a b. refl }; cone = A .extend .cone; others = λ y a b. refl; grows = λ J S f. never f; union = λ J S f. never f }
     where
       never : {P : Type 0} → free c o s ≡ true → P
-      never f = true-false f (rw (own-at base c w (A .room) (3 * c + s) (omega (arith, A .second))) (ne-eqb (getD w (base + (3 * c + s)) 0) 0 h))
+      never f = true-false f (rw (own-at base c w (A .room) (4 * c + s) (omega (arith, A .second))) (ne-eqb (getD w (base + (4 * c + s)) 0) 0 h))
 
   module _ {u : ℕ} {w₁ : List ℕ} (M : Measures x m table n k gates records names w u w₁) where
     -- the own numbers lie in the area after the measure
@@ -90,10 +90,10 @@ module _ {x : Of} {m table base c i s n k : ℕ} {gates records names w : List �
 
 -- ---- slot after slot
 
--- the first three columns say what the partitions are
-pub held-same : (n : ℕ) (ls xs o o′ : List ℕ) → ((x : ℕ) → x < 3 * n → getD o′ x 0 ≡ getD o x 0) → (s : ℕ) → s < n → held n ls xs o′ s ≡ held n ls xs o s
+-- the first four columns say what the partitions are
+pub held-same : (n : ℕ) (ls xs o o′ : List ℕ) → ((x : ℕ) → x < 4 * n → getD o′ x 0 ≡ getD o x 0) → (s : ℕ) → s < n → held n ls xs o′ s ≡ held n ls xs o s
 unfolding held own
-held-same n ls xs o o′ e s h = rw (e (0 * n + s) (omega arith), e (1 * n + s) (omega arith), e (2 * n + s) (omega arith)) refl
+held-same n ls xs o o′ e s h = rw (e (0 * n + s) (omega arith), e (1 * n + s) (omega arith), e (2 * n + s) (omega arith), e (3 * n + s) (omega arith)) refl
 
 -- the slots after i and before s have keys, and slot s starts at `at`
 pub record Keying (given : List ℕ) (m table base i at s n k : ℕ) (gates records xs ls w w′ : List ℕ) : Type 0 where
@@ -150,7 +150,7 @@ module _ {given : List ℕ} {m table base i from n k : ℕ} {gates records xs ls
 
         free-low : free c o₁ s ≡ free c o₀ s
         unfolding free own
-        free-low = rw (N .keyed .low (3 * c + s) (omega arith)) refl
+        free-low = rw (N .keyed .low (4 * c + s) (omega arith)) refl
 
         size-low : (t : ℕ) → t < c → own 0 c o₁ t ≡ own 0 c o₀ t
         unfolding own
@@ -174,7 +174,7 @@ module _ {given : List ℕ} {m table base i from n k : ℕ} {gates records xs ls
             high = λ x l. R .others x (λ z. omega arith) (λ z. omega arith) ∙ N .keyed .high x l;
             ready = λ J S t a b f. elim (same-or t s b) [
               | inl e ↦ rw e (this J S (rw e at f))
-              | inr l ↦ let r = N .keyed .ready J S t a l f in record { grows = R .others (4 * c + t) (λ z. omega arith) (λ z. omega arith) ∙ r .grows; union = R .others (5 * c + t) (λ z. omega arith) (λ z. omega arith) ∙ r .union }
+              | inr l ↦ let r = N .keyed .ready J S t a l f in record { grows = R .others (5 * c + t) (λ z. omega arith) (λ z. omega arith) ∙ r .grows; union = R .others (6 * c + t) (λ z. omega arith) (λ z. omega arith) ∙ r .union }
             ];
           };
         }
@@ -193,7 +193,7 @@ module _ {m table base i : ℕ} {gates given records xs ls w : List ℕ} (A : Al
     stays = record { len = refl; idle = A .at .idle; kept = λ j h l. refl };
     low = λ x h. refl;
     high = λ x h. refl;
-    ready = λ J S s a b f. true-false f (rw (own-at base (length ls) w (A .at .room) (3 * length ls + s) (omega arith)) (ne-eqb (getD w (base + (3 * length ls + s)) 0) 0 (L .barred e s (omega arith) b)));
+    ready = λ J S s a b f. true-false f (rw (own-at base (length ls) w (A .at .room) (4 * length ls + s) (omega arith)) (ne-eqb (getD w (base + (4 * length ls + s)) 0) 0 (L .barred e s (omega arith) b)));
   }
 
   module _ {a b : ℕ} (ea : a ≡ sum (take i ls)) (eb : b ≡ sum (take (i + 1) ls)) where
@@ -256,7 +256,7 @@ module _ {m table base i : ℕ} {gates given records xs ls w : List ℕ} (A : Al
 
 -- the slots from `from` to s are barred
 pub record Looking (base c from s : ℕ) (w : List ℕ) : Type 0 where
-  pub barred : (t : ℕ) → from ≤ t → t < s → getD w (base + (3 * c + t)) 0 ≢ 0
+  pub barred : (t : ℕ) → from ≤ t → t < s → getD w (base + (4 * c + t)) 0 ≢ 0
 
 module _ {base c from : ℕ} {w : List ℕ} where
   -- before the first none is
@@ -269,7 +269,7 @@ module _ {base c from : ℕ} {w : List ℕ} where
 
   module _ {s : ℕ} (N : Looking base c from s w) where
     -- one more is barred
-    pub looking-more : getD w (base + (3 * c + s)) 0 ≢ 0 → Looking base c from (s + 1) w
+    pub looking-more : getD w (base + (4 * c + s)) 0 ≢ 0 → Looking base c from (s + 1) w
     looking-more h = record { barred = λ t a b. elim (same-or t s b) [ inl e ↦ rw e h | inr l ↦ N .barred t a l ] }
 
     -- past the last all are

@@ -29,11 +29,12 @@ use Rattle.merge_trials.specs.Ranks.{groupsAt, Stands, Stays}
 use Rattle.merge_trials.specs.Trials.{BuildAt, JoinAt, Joins, TryAt, Tried}
 use Rattle.merge_layout.proofs.Laws.Owned.{lent, own-length, back-owned, set-owned, owned-same, part-above}
 use Rattle.merge_trials.proofs.Laws.Standing.{stands-stays, stays-leaves, leaves-owned, part-stays, stays-more}
+use Rattle.placer.proofs.Laws.Filled.{cells-few}
 use Rattle.merge_trials.proofs.Laws.Answers.{accepts-is, words-few}
 
 -- ---- joined slots
 
-module _ {m table base i j stages words : ℕ} {xs ls w : List ℕ} (A : JoinAt m table base i j stages words xs ls w) where
+module _ {m table base i j stages words cells : ℕ} {xs ls w : List ℕ} (A : JoinAt m table base i j stages words cells xs ls w) where
   abbrev n : ℕ
   n = length ls
 
@@ -64,7 +65,7 @@ module _ {m table base i j stages words : ℕ} {xs ls w : List ℕ} (A : JoinAt 
     lent-now = lent base n w₁ join-room ∙ same
 
     -- with groups taken and numbers stored slot i is the union
-    pub joins : {xs′ ls′ ys : List ℕ} → Taken i j xs ls xs′ ls′ → Joined n i j stages words (take (base + 8 * n - base) (drop base w₁)) ys → Joins m table base i j stages words xs ls w xs′ ls′ (take base w₁ ++ (ys ++ drop (base + 8 * n - base) (drop base w₁)))
+    pub joins : {xs′ ls′ ys : List ℕ} → Taken i j xs ls xs′ ls′ → Joined n i j stages words cells (take (base + 8 * n - base) (drop base w₁)) ys → Joins m table base i j stages words cells xs ls w xs′ ls′ (take base w₁ ++ (ys ++ drop (base + 8 * n - base) (drop base w₁)))
     joins {xs′} {ls′} {ys} T U = record {
       taken = T;
       stays = stays-more stays (part-stays m table base base (base + 8 * n) w₁ (stays .idle) (omega arith) join-room (omega (arith, A .spare, A .behind)) ys (U .long) (inr (omega arith)));
@@ -120,6 +121,13 @@ module _ {K m table base i j cap : ℕ} {gates given records xs ls pl ws cs w : 
     unfolding told builtOf
     words-fit = let e : a .words ≡ rules.reply (builtOf J₀ both) .words = ap (λ (r : rules.Reply). r .words) (B .reply J₀ P₀) in omega (arith, words-few rule K high (graphOf gates) given (named J₀ both) (rooms K (length pl)))
 
+    cells-fit : a .stages ≤ cap → a .cells ≤ cap * 16384
+    unfolding told builtOf
+    cells-fit h =
+        let x : a .stages ≡ rules.reply (builtOf J₀ both) .stages = ap (λ (r : rules.Reply). r .stages) (B .reply J₀ P₀) in
+        let e : a .cells ≡ rules.reply (builtOf J₀ both) .cells = ap (λ (r : rules.Reply). r .cells) (B .reply J₀ P₀) in
+        omega (arith, cells-few rule K high (graphOf gates) given (named J₀ both) (rooms K (length pl)) cap (omega arith))
+
     -- the test says what the rules say
     module _ {t : Bool} (et : t ≡ (eqb (a .number) 0 && leb (a .stages) cap)) where
       decides : (J : Common) → Places rule K (length pl) gates given records J → J .cap ≡ cap → t ≡ accepted (J .cap) (builtOf J both)
@@ -132,7 +140,7 @@ module _ {K m table base i j cap : ℕ} {gates given records xs ls pl ws cs w : 
 
       module _ (yes : t ≡ true) where
         -- an accepted union may be joined
-        pub try-join : JoinAt m table base i j (a .stages) (a .words) xs ls w₁
+        pub try-join : JoinAt m table base i j (a .stages) (a .words) (a .cells) xs ls w₁
         try-join =
             let h = leb-true (a .stages) cap (and-true (eqb (a .number) 0) (leb (a .stages) cap) (sym et ∙ yes) .1) in
             record {
@@ -147,10 +155,11 @@ module _ {K m table base i j cap : ℕ} {gates given records xs ls pl ws cs w : 
               second = A .second;
               stages-fit = omega (arith, A .cap-fits);
               words-fit = omega (arith, words-fit);
+              cells-fit = omega (arith, cells-fit h, A .cap-fits);
             }
 
         -- with the slots joined the trial is won
-        pub tried-yes : {xs′ ls′ w₂ : List ℕ} → Joins m table base i j (a .stages) (a .words) xs ls w₁ xs′ ls′ w₂ → Tried rule K m table base i j cap gates given records xs ls pl w true xs′ ls′ pl₁ ws₁ cs₁ w₂
+        pub tried-yes : {xs′ ls′ w₂ : List ℕ} → Joins m table base i j (a .stages) (a .words) (a .cells) xs ls w₁ xs′ ls′ w₂ → Tried rule K m table base i j cap gates given records xs ls pl w true xs′ ls′ pl₁ ws₁ cs₁ w₂
         unfolding told
         tried-yes {xs′} {ls′} {w₂} U =
             let T = U .taken in
@@ -180,17 +189,18 @@ module _ {K m table base i j cap : ℕ} {gates given records xs ls pl ws cs w : 
                   let e = B .reply J P in
                   let x : a .stages ≡ rules.reply (builtOf J both) .stages = ap (λ (r : rules.Reply). r .stages) e in
                   let y : a .words ≡ rules.reply (builtOf J both) .words = ap (λ (r : rules.Reply). r .words) e in
-                  record { taken = T; joined = rw (← x, ← y, ← own-same) (U .joined) };
+                  let v : a .cells ≡ rules.reply (builtOf J both) .cells = ap (λ (r : rules.Reply). r .cells) e in
+                  record { taken = T; joined = rw (← x, ← y, ← v, ← own-same) (U .joined) };
             }
 
       -- slot j's bar lies in the area
-      pub try-place : base + (3 * length ls + j) < length w₁
+      pub try-place : base + (4 * length ls + j) < length w₁
       try-place = omega (arith, now .room, A .second)
 
       -- a union that is not accepted bars slot j
-      pub tried-no : t ≡ false → Tried rule K m table base i j cap gates given records xs ls pl w false xs ls pl₁ ws₁ cs₁ (set w₁ (base + (3 * length ls + j)) 1)
+      pub tried-no : t ≡ false → Tried rule K m table base i j cap gates given records xs ls pl w false xs ls pl₁ ws₁ cs₁ (set w₁ (base + (4 * length ls + j)) 1)
       tried-no failed =
-          let at : ℕ = base + (3 * length ls + j) in
+          let at : ℕ = base + (4 * length ls + j) in
           let l : length (set w₁ at 1) ≡ length w₁ = length-set w₁ at 1 in
           let U : Stays m table base w₁ (set w₁ at 1) = record {
             len = l;
@@ -203,6 +213,6 @@ module _ {K m table base i j cap : ℕ} {gates given records xs ls pl ws cs w : 
             plan = plan-same;
             count = refl;
             is = λ J P e. sym failed ∙ decides J P e;
-            no = λ z. record { indices = refl; lengths = refl; bar = set-owned base (length ls) w₁ (now .room) (3 * length ls + j) 1 (omega (arith, A .second)) ∙ ap (λ (o : List ℕ). set o (3 * length ls + j) 1) own-same };
+            no = λ z. record { indices = refl; lengths = refl; bar = set-owned base (length ls) w₁ (now .room) (4 * length ls + j) 1 (omega (arith, A .second)) ∙ ap (λ (o : List ℕ). set o (4 * length ls + j) 1) own-same };
             yes = λ z. true-false z refl;
           }

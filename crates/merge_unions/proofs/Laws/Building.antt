@@ -50,7 +50,7 @@ module _ {K m table : ℕ} {gates given records first second pl ws cs w : List �
 
   module _ {limit : ℕ} (lim : limit ≡ length ws) {r : Opening} {w₁ : List ℕ} (B : Begins m limit table given gs w r w₁) (asked : Asked) where
     -- a reservation that is over answers 6
-    pub try-over : r ≡ Over → Tried (ruleOf asked) K m table gates given records first second pl ws cs w (record { number = 6; stages = 0; words = 0; stage = 0; pin = record { 0 = 0 } }) pl ws cs w₁
+    pub try-over : r ≡ Over → Tried (ruleOf asked) K m table gates given records first second pl ws cs w (record { number = 6; stages = 0; words = 0; stage = 0; pin = record { 0 = 0 }; cells = 0 }) pl ws cs w₁
     try-over e = let T = build.built-over (A .union .passed) (A .blank) (A .union .pins) lim B asked e in record { kept = T .kept; past = B .past; reply = T .reply }
 
     module _ {res n : ℕ} (ready : r ≡ Ready res n) where

@@ -1,4 +1,5 @@
 -- `merge_unions::build_union` meets its contract: an attempt, and every area emptied. Assumes nothing.
+use native.Mathlib.Omega.{arith}
 use Rattle.merge_unions.proofs.Laws.Building.{built-part, built}
 use borrow.Author.Needs.{needs}
 use Rattle.merge_unions.proofs.build_union.Statement.{statement}
@@ -8,10 +9,10 @@ attempt-requires : tie.Need-attempt-requires
 attempt-requires c κs = search needs
 
 mul-size : tie.Need-mul-size
-mul-size c = search needs
+mul-size c = omega (arith, c .before .before .before .before .before .before .before .before .before .before .before .before .before .before .before .before .before .before .before .before .before .before .pre .union .idle .area .small)
 
 add-size : tie.Need-add-size
-add-size c = search needs
+add-size c = omega (arith, c .before .before .before .before .before .before .before .before .before .before .before .before .before .before .before .before .before .before .before .before .before .before .pre .union .idle .area .small)
 
 sub-empty-all : tie.Need-sub-empty-all
 sub-empty-all c = search needs

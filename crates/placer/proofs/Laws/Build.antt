@@ -64,7 +64,7 @@ module _ {K : ℕ} {sized : Bool} {gates given records : List ℕ} (P : Passed K
   limit-is = lim ∙ A .words-size
 
   -- a reservation that is over answers 6, with plan, words and counts as they were
-  pub built-over : r ≡ Over → Tried (rules.build (ruleOf asked) K (graphOf gates) given gs (rooms K (length pl))) pl ws cs w (record { number = 6; stages = 0; words = 0; stage = 0; pin = record { 0 = 0 } }) pl ws cs w₁
+  pub built-over : r ≡ Over → Tried (rules.build (ruleOf asked) K (graphOf gates) given gs (rooms K (length pl))) pl ws cs w (record { number = 6; stages = 0; words = 0; stage = 0; pin = record { 0 = 0 }; cells = 0 }) pl ws cs w₁
   unfolding rules.build told rules.reply rules.refuse reservationFor
   built-over e =
       let f = over-refused K gs (ap reservationFor (sym e) ∙ B .answer K limit-is) in

@@ -10,10 +10,13 @@ use lib.ListN.{length}
 use Rattle.rules.specs.Graph.{Node}
 use Rattle.rules.specs.Traversal.{WordRule}
 use Rattle.rules.specs.Ending.{refused, stage, oneStage}
-use Rattle.rules.specs.Cells.{empty, wordLimit}
+use Rattle.rules.specs.Lists.{count}
+use Rattle.rules.specs.Cells.{empty, filled, wordLimit}
 use Rattle.rules.specs.Build.{Stage, Answer, refusal, whole, more, before, stages, cellsOf, wordsOf, countsOf, refuse, reply, stagesOf}
+use Rattle.rules.proofs.Stage.Fuel.{count-length}
 use Rattle.rules.proofs.Stage.Refusals.{before-refusal}
 use Rattle.rules.proofs.Build.Lengths.{length-padded}
+use Rattle.rules.proofs.Build.Costs.{padded-count}
 use Rattle.stage_runs.specs.declared.WordRule.{WordRule as Asked}
 use Rattle.placer.specs.Answers.{told}
 use Rattle.placer.specs.Stages.{Course, answer, OneAt, One, StagesAt, Whole}
@@ -85,6 +88,10 @@ empty-list : (xs : List ℕ) → length xs ≡ 0 → xs ≡ []
 empty-list [] e = refl
 empty-list (x ∷ xs) e = absurd (omega arith)
 
+no-stages : (ss : List Stage) → length ss ≡ 0 → ss ≡ []
+no-stages [] e = refl
+no-stages (s ∷ ss) e = absurd (omega arith)
+
 -- at most 256 words may be written
 pub limit-small : (K : ℕ) → K ≤ 13 → 2 ^ (K - 5) ≤ 256
 limit-small K h = pow-mono {i = K - 5} {j = 8} (omega arith)
@@ -126,24 +133,37 @@ module _ {C : Course} {m K half : ℕ} {asked : Asked} {rooms k at n room : ℕ}
       ∙ before-whole (A .now .ss) []
       ∙ ap whole (append-nil (A .now .ss))
 
+  -- the filled cells of the area are the stages'
+  pub cells-count : count filled pl ≡ count filled (cellsOf (A .now .ss))
+  cells-count = ap (count filled) (A .now .plan) ∙ padded-count _ (cellsOf (A .now .ss))
+
+  -- before the first stage none is filled
+  pub none-filled : k ≡ 0 → 0 ≡ count filled pl
+  unfolding cellsOf count
+  none-filled e = sym (cells-count ∙ ap (λ (ss : List Stage). count filled (cellsOf ss)) (no-stages (A .now .ss) (A .now .count ∙ e)))
+
   -- a room is left where not all are used
   pub still-rooms : 0 < n → k ≢ rooms → k < rooms
   still-rooms h r = omega (arith, A .now .few, A .all)
 
   -- after a whole stage the build goes on with the next
-  pub one-on : {number written left : ℕ} {pl′ ws′ cs′ w′ : List ℕ} → One C m k at pl ws cs w number written left pl′ ws′ cs′ w′ → number ≡ 0 → {spent : ℕ} → spent ≡ at + written → StagesAt C m K half asked rooms (k + 1) spent left room gates pl′ ws′ cs′ w′
+  pub one-on : {number written cells left : ℕ} {pl′ ws′ cs′ w′ : List ℕ} → One C m k at pl ws cs w number written cells left pl′ ws′ cs′ w′ → number ≡ 0 → {spent : ℕ} → spent ≡ at + written → StagesAt C m K half asked rooms (k + 1) spent left room gates pl′ ws′ cs′ w′
   one-on O z e = rw (e, add-one k) (record { known = A .known; now = O .on z; all = A .all; short = A .short; left = A .left })
 
+-- with the stage's the filled cells are no more than the plan has
+pub cells-within : {C : Course} {m k at number written cells left : ℕ} {pl ws cs w pl′ ws′ cs′ w′ : List ℕ} → One C m k at pl ws cs w number written cells left pl′ ws′ cs′ w′ → number ≡ 0 → {t : ℕ} → t ≡ count filled pl → t + cells ≤ length pl
+cells-within {pl′ = pl′} O z e = omega (arith, O .more z, O .kept .plan, count-length filled pl′)
+
 -- what the answers tell
-pub refused-told : (C : Course) (number k : ℕ) → answer C ≡ refusal number (suc k) → told (record { number = number; stages = 0; words = 0; stage = k + 1; pin = record { 0 = 0 } }) ≡ reply (answer C)
+pub refused-told : (C : Course) (number k : ℕ) → answer C ≡ refusal number (suc k) → told (record { number = number; stages = 0; words = 0; stage = k + 1; pin = record { 0 = 0 }; cells = 0 }) ≡ reply (answer C)
 unfolding told reply refuse
 refused-told C number k e = rw (e, add-one k, reply)
 
 module _ {C : Course} {m K half : ℕ} {asked : Asked} {rooms k at n room : ℕ} {gates pl ws cs w : List ℕ} (A : StagesAt C m K half asked rooms k at n room gates pl ws cs w) (z : n ≡ 0) where
-  -- the answer tells the stages and words of the whole plan
-  pub whole-told : told (record { number = 0; stages = k; words = at; stage = 0; pin = record { 0 = 0 } }) ≡ reply (answer C)
+  -- the answer tells the stages, words and filled cells of the whole plan
+  pub whole-told : {t : ℕ} → t ≡ count filled pl → told (record { number = 0; stages = k; words = at; stage = 0; pin = record { 0 = 0 }; cells = t }) ≡ reply (answer C)
   unfolding told reply
-  whole-told = rw (all-whole A z, A .now .count, A .now .spent, reply)
+  whole-told e = rw (all-whole A z, A .now .count, A .now .spent, e ∙ cells-count A, reply)
 
   -- the whole plan stands in the areas
   pub whole-stands : Whole C (stagesOf (answer C)) pl ws cs

@@ -9,8 +9,8 @@ use lib.ListN.{length, set, take, drop, length-append, length-replicate, length-
 use lib.Seq.{drop-drop}
 use Rattle.stage_runs.proofs.Laws.Half.{half-is}
 use Rattle.cells.specs.Answers.{orZero}
-use Rattle.rules.specs.Lists.{padded, laidAt}
-use Rattle.rules.specs.Cells.{empty, wordLimit, rowAt, stageSize, isHeight, levelOneSize}
+use Rattle.rules.specs.Lists.{count, padded, laidAt}
+use Rattle.rules.specs.Cells.{empty, filled, wordLimit, rowAt, stageSize, isHeight, levelOneSize}
 use Rattle.rules.specs.Placing.{tree}
 use Rattle.rules.specs.Traversal.{setting}
 use Rattle.rules.specs.Ending.{refused, stage, oneStage}
@@ -19,7 +19,9 @@ use Rattle.rules.specs.Inside.Lean.{blank}
 use Rattle.rules.specs.Inside.Walks.{rank}
 use Rattle.rules.proofs.Demand.{graph}
 use Rattle.rules.proofs.Stage.Depth.{still-ready}
+use Rattle.rules.proofs.Lists.Members.{count-append}
 use Rattle.rules.proofs.Build.Lengths.{length-padded}
+use Rattle.rules.proofs.Build.Costs.{padded-count}
 use Rattle.columns.specs.Fields.{DONE}
 use Rattle.columns.specs.Lists.{Marks}
 use Rattle.columns.proofs.Area.Frames.{frame-room}
@@ -148,19 +150,20 @@ module _ {C : Course} {m K half : ℕ} {asked : Asked} {k n at room : ℕ} {gate
       same : answer C ≡ rules.before (U .ss) (rules.stages (C .rule) (C .K) (C .g) (suc (C .rooms - suc k)) (suc k) (U .done) (U .waiting) room)
       same = let h = U .same in rw (rooms-left, ← A .left) at h
 
-      one-refused : 0 < s .number → One C m k at pl ws cs w (s .number) (s .words) (s .waiting) (laidAt a ys pl) ws′ cs w′
+      one-refused : 0 < s .number → One C m k at pl ws cs w (s .number) (s .words) (s .cells) (s .waiting) (laidAt a ys pl) ws′ cs w′
       unfolding built context setting
       one-refused h = record {
         kept = record { plan = plan-kept; words = S .changed .len; counts = refl; work = S .changed .frame .len };
         refused = λ z. same ∙ ap (rules.before (U .ss)) (stage-refused (C .rule) (C .K) (C .g) (suc k) (U .done) (U .waiting) room waits (C .rooms - suc k) (s .number) (S .refuses h .is)) ∙ before-refusal (U .ss) (s .number) (suc k);
         on = λ z. absurd (omega arith);
+        more = λ z. absurd (omega arith);
       }
 
       abbrev whole-plan : List ℕ
       whole-plan = take a pl ++ (ys ++ drop (e - a) (drop a pl))
 
       -- a refused stage refuses the build
-      pub refused-part : 0 < s .number → One C m k at pl ws cs w (s .number) (s .words) (s .waiting) whole-plan ws′ cs w′
+      pub refused-part : 0 < s .number → One C m k at pl ws cs w (s .number) (s .words) (s .cells) (s .waiting) whole-plan ws′ cs w′
       refused-part h = rw laid (one-refused h)
 
       module _ (z : s .number ≡ 0) where
@@ -187,7 +190,10 @@ module _ {C : Course} {m K half : ℕ} {asked : Asked} {k n at room : ℕ} {gate
         unfolding context setting
         marked = W .done
 
-        one-on-stage : {cs′ : List ℕ} → cs′ ≡ set cs k (s .words) → One C m k at pl ws cs w (s .number) (s .words) (s .waiting) (laidAt a ys pl) ws′ cs′ w′
+        plan-next : laidAt a ys pl ≡ padded (C .rooms * stageSize (C .K)) empty (rules.cellsOf (U .ss) ++ ys)
+        plan-next = ap (laidAt a ys) (U .plan) ∙ laid-next (C .rooms * stageSize (C .K)) empty a (rules.cellsOf (U .ss)) ys (U .cells ∙ sym start) (omega (arith, part-length, part-end, plan-length))
+
+        one-on-stage : {cs′ : List ℕ} → cs′ ≡ set cs k (s .words) → One C m k at pl ws cs w (s .number) (s .words) (s .cells) (s .waiting) (laidAt a ys pl) ws′ cs′ w′
         one-on-stage {cs′} e′ = record {
           kept = record { plan = plan-kept; words = S .changed .len; counts = rw e′ (length-set cs k (s .words)); work = S .changed .frame .len };
           refused = λ h. absurd (omega arith);
@@ -203,11 +209,12 @@ module _ {C : Course} {m K half : ℕ} {asked : Asked} {k n at room : ℕ} {gate
             counted = rw (counts-more (U .ss) next) (length-append (rules.countsOf (U .ss)) (length (W .ws) ∷ []) ∙ omega (arith, U .counted));
             spent = rw (words-more (U .ss) next) (length-append (rules.wordsOf (U .ss)) (W .ws) ∙ omega (arith, U .spent, W .count));
             fits = omega (arith, U .fits, W .count, W .fit, A .left);
-            plan = ap (laidAt a ys) (U .plan) ∙ laid-next (C .rooms * stageSize (C .K)) empty a (rules.cellsOf (U .ss)) ys (U .cells ∙ sym start) (omega (arith, part-length, part-end, plan-length)) ∙ ap (padded (C .rooms * stageSize (C .K)) empty) (sym (cells-more (U .ss) next));
+            plan = plan-next ∙ ap (padded (C .rooms * stageSize (C .K)) empty) (sym (cells-more (U .ss) next));
             words = W .wrote ∙ ap (laidAt at (W .ws)) (U .words) ∙ laid-next (wordLimit (C .K)) empty at (rules.wordsOf (U .ss)) (W .ws) (U .spent) (omega (arith, W .fit, A .left, U .fits, C .limit)) ∙ ap (padded (wordLimit (C .K)) empty) (sym (words-more (U .ss) next));
             counts = e′ ∙ set-laid ∙ ap (λ (i : ℕ). laidAt k (i ∷ []) cs) (W .count) ∙ ap (laidAt k (length (W .ws) ∷ [])) (U .counts) ∙ laid-next (C .rooms) 0 k (rules.countsOf (U .ss)) (length (W .ws) ∷ []) (U .counted) (omega (arith, A .more)) ∙ ap (padded (C .rooms) 0) (sym (counts-more (U .ss) next));
             work = record { area = frame-room (S .changed .frame) (U .work .area); done = marked; waiting = W .waiting; fresh = S .fresh z; cells = W .cells; marks = W .marks; tail = W .tail };
           };
+          more = λ h. omega (arith, ap (count filled) plan-next, padded-count (C .rooms * stageSize (C .K)) (rules.cellsOf (U .ss) ++ ys), count-append filled (rules.cellsOf (U .ss)) ys, ap (count filled) (U .plan), padded-count (C .rooms * stageSize (C .K)) (rules.cellsOf (U .ss)), W .total);
         }
           where
             set-laid : set cs k (s .words) ≡ laidAt k (s .words ∷ []) cs
@@ -217,5 +224,5 @@ module _ {C : Course} {m K half : ℕ} {asked : Asked} {k n at room : ℕ} {gate
                 rw (laid-none k cs, n) at h
 
         -- a whole one, with its count stored, is one stage more
-        pub on-part : {cs′ : List ℕ} → cs′ ≡ set cs k (s .words) → One C m k at pl ws cs w (s .number) (s .words) (s .waiting) whole-plan ws′ cs′ w′
+        pub on-part : {cs′ : List ℕ} → cs′ ≡ set cs k (s .words) → One C m k at pl ws cs w (s .number) (s .words) (s .cells) (s .waiting) whole-plan ws′ cs′ w′
         on-part e′ = rw laid (one-on-stage e′)

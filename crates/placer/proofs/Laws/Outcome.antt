@@ -40,13 +40,13 @@ module _ (rule : WordRule) (K : ℕ) (gates given records pl ws cs w : List ℕ)
   abbrev at-entry : rules.Areas
   at-entry = areas pl ws cs w
 
-  refused-at : (n : ℕ) → n ≡ refusalOf K sized gates given records → n ≢ 0 → (p : Pin) → p .0 ≡ pinShown n gates → outcome (record { number = n; stages = 0; words = 0; stage = 0; pin = p }) pl ws cs w ≡ rules.placer rule K gates given records at-entry
+  refused-at : (n : ℕ) → n ≡ refusalOf K sized gates given records → n ≢ 0 → (p : Pin) → p .0 ≡ pinShown n gates → outcome (record { number = n; stages = 0; words = 0; stage = 0; pin = p; cells = 0 }) pl ws cs w ≡ rules.placer rule K gates given records at-entry
   unfolding outcome told areas rules.placer rules.sizesRight rules.refuseChecked
   refused-at zero e h p d = absurd (h refl)
   refused-at (suc n) e h p d = rw (← e, rules.placer, d)
 
   -- what the checks refuse changes nothing
-  pub outcome-refused : (v : Verdict) → Says (refusalOf K sized gates given records) gates v → v .number ≢ 0 → outcome (record { number = v .number; stages = 0; words = 0; stage = 0; pin = v .pin }) pl ws cs w ≡ rules.placer rule K gates given records at-entry
+  pub outcome-refused : (v : Verdict) → Says (refusalOf K sized gates given records) gates v → v .number ≢ 0 → outcome (record { number = v .number; stages = 0; words = 0; stage = 0; pin = v .pin; cells = 0 }) pl ws cs w ≡ rules.placer rule K gates given records at-entry
   outcome-refused v S h = refused-at (v .number) (S .number) h (v .pin) (S .pin ∙ ap (λ (n : ℕ). pinShown n gates) (sym (S .number)))
 
 -- no check refuses areas of these lengths

@@ -13,6 +13,7 @@ pub record Same (a b : Answer) (pl ws cs w pl′ ws′ cs′ w′ : List ℕ) : 
   pub count : a .words ≡ b .words
   pub stage : a .stage ≡ b .stage
   pub pin : a .pin .0 ≡ b .pin .0
+  pub cells : a .cells ≡ b .cells
   pub plan : pl ≡ pl′
   pub words : ws ≡ ws′
   pub counts : cs ≡ cs′
@@ -29,6 +30,7 @@ one-outcome o a b pl ws cs w pl′ ws′ cs′ w′ d e =
       count = ap (λ (x : rules.Outcome). x .reply .words) s;
       stage = ap (λ (x : rules.Outcome). x .reply .stage) s;
       pin = ap (λ (x : rules.Outcome). x .reply .pin) s;
+      cells = ap (λ (x : rules.Outcome). x .reply .cells) s;
       plan = ap (λ (x : rules.Outcome). x .areas .plan) s;
       words = ap (λ (x : rules.Outcome). x .areas .words) s;
       counts = ap (λ (x : rules.Outcome). x .areas .counts) s;

@@ -69,14 +69,14 @@ module _ (K : ℕ) (gates given records driven starting : List ℕ) (lines : ℕ
     number-is = S .number ∙ height-first K _ gates given records b eb
 
     -- one of 1 to 5 or 23 refuses
-    pub refused-first : v .number ≢ 0 → (r : Answer) → r ≡ record { number = v .number; stages = 0; words = 0; stage = 0; pin = v .pin } →
+    pub refused-first : v .number ≢ 0 → (r : Answer) → r ≡ record { number = v .number; stages = 0; words = 0; stage = 0; pin = v .pin; cells = 0 } →
         outcome r plan words counts work tape slots bits out end ≡ form.replay neededRuns (job K gates given records driven starting lines recording) (lent plan words counts work tape slots bits out end)
     unfolding form.replayRefusal told refuseChecked
     refused-first h r er =
         let k = some (v .number) h in
         let e : refusalOf K (form.areasRight J a) gates given records ≡ suc (k .0) = sym number-is ∙ k .1 in
         let p : v .pin .0 ≡ pinShown (suc (k .0)) gates = S .pin ∙ ap (λ (i : ℕ). pinShown i gates) (sym (S .number) ∙ k .1) in
-        refusing (k .0) (rw (e, form.replayRefusal)) r (ap told er ∙ (λ i. record { number = k .1 i; stages = 0; words = 0; stage = 0; pin = p i }))
+        refusing (k .0) (rw (e, form.replayRefusal)) r (ap told er ∙ (λ i. record { number = k .1 i; stages = 0; words = 0; stage = 0; pin = p i; cells = 0 }))
 
     module _ (h : v .number ≡ 0) where
       module _ (l : ℕ) (el : l ≡ laterRefusal gates given records driven (length starting) lines (length recording) (length out) (length end)) where
@@ -85,13 +85,13 @@ module _ (K : ℕ) (gates given records driven starting : List ℕ) (lines : ℕ
         later-is = let e : refusalOf K (form.areasRight J a) gates given records ≡ 0 = sym number-is ∙ h in rw (e, form.replayRefusal) (sym el)
 
         -- one of 18, 19, 20 and 17 refuses
-        pub refused-later : l ≢ 0 → (r : Answer) → r ≡ record { number = l; stages = 0; words = 0; stage = 0; pin = record { 0 = 0 } } →
+        pub refused-later : l ≢ 0 → (r : Answer) → r ≡ record { number = l; stages = 0; words = 0; stage = 0; pin = record { 0 = 0 }; cells = 0 } →
             outcome r plan words counts work tape slots bits out end ≡ form.replay neededRuns (job K gates given records driven starting lines recording) (lent plan words counts work tape slots bits out end)
         unfolding told refuseChecked
         refused-later d r er =
             let k = some l d in
             let p : pinShown (suc (k .0)) gates ≡ 0 = ap (λ (i : ℕ). pinShown i gates) (sym (k .1) ∙ el) ∙ later-pin gates given records driven (length starting) lines (length recording) (length out) (length end) in
-            refusing (k .0) (later-is ∙ k .1) r (ap told er ∙ (λ i. record { number = k .1 i; stages = 0; words = 0; stage = 0; pin = sym p i }))
+            refusing (k .0) (later-is ∙ k .1) r (ap told er ∙ (λ i. record { number = k .1 i; stages = 0; words = 0; stage = 0; pin = sym p i; cells = 0 }))
 
         -- or none
         pub built-in : l ≡ 0 → BuiltIn K gates given records driven starting lines recording plan words counts work tape slots bits out end

@@ -15,6 +15,7 @@ pub record Same (a a′ : Answer) (pl ws cs w t s b o e pl′ ws′ cs′ w′ t
   pub words : a .words ≡ a′ .words
   pub stage : a .stage ≡ a′ .stage
   pub pin : a .pin .0 ≡ a′ .pin .0
+  pub cells : a .cells ≡ a′ .cells
   pub plan : pl ≡ pl′
   pub words-area : ws ≡ ws′
   pub counts : cs ≡ cs′
@@ -36,6 +37,7 @@ one-outcome O a a′ pl ws cs w t s b o e pl′ ws′ cs′ w′ t′ s′ b′ 
       words = ap (λ (x : Outcome). x .reply .words) q;
       stage = ap (λ (x : Outcome). x .reply .stage) q;
       pin = ap (λ (x : Outcome). x .reply .pin) q;
+      cells = ap (λ (x : Outcome). x .reply .cells) q;
       plan = ap (λ (x : Outcome). x .lent .build .plan) q;
       words-area = ap (λ (x : Outcome). x .lent .build .words) q;
       counts = ap (λ (x : Outcome). x .lent .build .counts) q;

@@ -9,7 +9,7 @@ use Rattle.rules.specs.Lists.{mem, swapOutAll, In}
 use Rattle.rules.specs.Placing.{tree}
 use Rattle.rules.specs.Ending.{close}
 use Rattle.rules.proofs.Lists.Members.{split}
-use Rattle.columns.specs.Fields.{ORDER, DONE, WAITING, CELLS}
+use Rattle.columns.specs.Fields.{ORDER, DONE, WAITING, CELLS, FILLED}
 use Rattle.columns.specs.Lists.{list, bit}
 use Rattle.columns.proofs.Area.Frames.{frame-then, frame-more, frame-room}
 use Rattle.columns.proofs.Lists.Entries.{holds-self, holds-frame}
@@ -76,9 +76,9 @@ module _ {C : Context} {pl : List ℕ} {m K half o n at room : ℕ} {s : Spent} 
     }
 
     -- closed, it is the stage that the rules give
-    pub ended : Ends C pl m at room s pl2 w words (record { number = 0; words = k .words; waiting = e }) pl2 w2 words1
+    pub ended : (t : ℕ) → t ≡ getD w1 (16 * m + FILLED) 0 → Ends C pl m at room s pl2 w words (record { number = 0; words = k .words; waiting = e; cells = t }) pl2 w2 words1
     unfolding close
-    ended = record {
+    ended t r = record {
       finished = record {
         changed = changed;
         refuses = λ h. absurd (omega arith);
@@ -87,6 +87,7 @@ module _ {C : Context} {pl : List ℕ} {m K half o n at room : ℕ} {s : Spent} 
           left = swapOutAll (L .real) (C .X .waiting);
           is = L .is;
           count = L .count;
+          total = r ∙ L .past FILLED (omega arith) ∙ M .tally .total;
           fit = L .fit;
           wrote = L .wrote;
           done = record { mark = done-is };

@@ -64,7 +64,7 @@ module _ {C : Context} {pl : List ℕ} {m K half o n q at room : ℕ} {s : Spent
     filling : Changed touched m at room pl1 w words pl2 w1 words
     filling = record {
       frame = frame-more refl (F .kept .frame);
-      past = λ j h. F .kept .rest (16 * m + j) (omega arith) (λ e. omega arith) (λ e. omega arith);
+      past = λ j h. F .kept .rest (16 * m + j) (omega arith) (λ e. omega arith) (λ e. omega arith) (λ e. omega arith);
       size = F .size;
       len = refl;
       before = λ i h. refl;
@@ -75,7 +75,7 @@ module _ {C : Context} {pl : List ℕ} {m K half o n q at room : ℕ} {s : Spent
     fits = false-ltb room (length (written (C .X) pl .words)) (omega (arith, M .fit, M .count))
 
     -- where test 8 fails the stage is refused with 8
-    pub ends-eight : b ≡ false → Ends C pl m at room s pl1 w words (record { number = 8; words = 0; waiting = 0 }) pl2 w1 words
+    pub ends-eight : b ≡ false → Ends C pl m at room s pl1 w words (record { number = 8; words = 0; waiting = 0; cells = 0 }) pl2 w1 words
     ends-eight e = record {
       finished = record {
         changed = filling;
@@ -86,6 +86,7 @@ module _ {C : Context} {pl : List ℕ} {m K half o n q at room : ℕ} {s : Spent
           ];
           words = refl;
           waiting = refl;
+          cells = refl;
         };
         whole = λ h. absurd (omega arith);
       };
@@ -112,7 +113,7 @@ module _ {C : Context} {pl : List ℕ} {m K half o n q at room : ℕ} {s : Spent
             count = M .count;
             fit = M .fit;
             wrote = M .wrote;
-            tail = λ j h. F .kept .rest (16 * m + j) (omega arith) (λ d. omega arith) (λ d. omega arith) ∙ M .tail j h;
+            tail = λ j h. F .kept .rest (16 * m + j) (omega arith) (λ d. omega arith) (λ d. omega arith) (λ d. omega arith) ∙ M .tail j h;
             height = M .height;
             row = M .row;
             fits = M .fits;
@@ -157,7 +158,7 @@ module _ {C : Context} {m K half o n q : ℕ} {asked : Asked} {at room : ℕ} {g
     running : Changed touched m at room pl w words pl1 w1 words1
     running = record {
       frame = frame-more refl (R .touched .frame);
-      past = λ j h. R .touched .rest (16 * m + j) (omega arith) (λ e. omega arith) (λ e. omega arith);
+      past = λ j h. R .touched .rest (16 * m + j) (omega arith) (λ e. omega arith) (λ e. omega arith) (λ e. omega arith);
       size = R .size;
       len = rw wrote-is (laid-length at words some few);
       before = λ i h. rw wrote-is (laid-below at words some few i h);
@@ -165,10 +166,10 @@ module _ {C : Context} {m K half o n q : ℕ} {asked : Asked} {at room : ℕ} {g
     }
 
     -- more words than may be written: the stage is refused with 7
-    pub finished-seven : room < s .words → Finished C m at room (finish (C .X) room pl) pl w words (record { number = 7; words = 0; waiting = 0 }) pl1 w1 words1
+    pub finished-seven : room < s .words → Finished C m at room (finish (C .X) room pl) pl w words (record { number = 7; words = 0; waiting = 0; cells = 0 }) pl1 w1 words1
     finished-seven h = record {
       changed = running;
-      refuses = λ d. record { is = finish-seven (C .X) room pl (true-ltb room (length early) (omega (arith, R .count))); words = refl; waiting = refl };
+      refuses = λ d. record { is = finish-seven (C .X) room pl (true-ltb room (length early) (omega (arith, R .count))); words = refl; waiting = refl; cells = refl };
       whole = λ d. absurd (omega arith);
     }
 
@@ -199,7 +200,7 @@ module _ {C : Context} {m K half o n q : ℕ} {asked : Asked} {at room : ℕ} {g
               count = R .count;
               fit = h;
               wrote = stay;
-              tail = λ j b. R .touched .rest (16 * m + j) (omega arith) (λ e. omega arith) (λ e. omega arith) ∙ A .tail j b;
+              tail = λ j b. R .touched .rest (16 * m + j) (omega arith) (λ e. omega arith) (λ e. omega arith) (λ e. omega arith) ∙ A .tail j b;
               height = A .height;
               row = A .row;
               fits = rw (running .len) (A .fits);
@@ -222,6 +223,7 @@ module _ {C : Context} {m K half o n q : ℕ} {asked : Asked} {at room : ℕ} {g
               left = W .left;
               is = W .is;
               count = W .count;
+              total = W .total;
               fit = W .fit;
               wrote = W .wrote ∙ rw all-are (laid-over at words (W .ws) early (omega (arith, W .fit, A .fits)) (omega (arith, E .longer z, W .count, R .count)));
               done = W .done;

@@ -44,6 +44,7 @@ module _ {C : Context} {m K half n : ℕ} {asked : Asked} {at room : ℕ} {gates
       cells = clear-frame (A .cells) (P .frame) refl (omega arith);
       ones = tail-prepared 256 ∙ A .tail 256 (omega arith);
       pins = tail-prepared 257 ∙ A .tail 257 (omega arith);
+      total = tail-prepared 258 ∙ A .tail 258 (omega arith);
       most = P .most;
       height = A .height;
     }
@@ -58,7 +59,7 @@ module _ {C : Context} {m K half n : ℕ} {asked : Asked} {at room : ℕ} {gates
         ruled = A .ruled;
         marks = clear-frame (clear-frame (A .marks) (P .frame) refl (omega arith)) (F .kept .frame) refl (omega arith);
         spare = clear-frame (clear-frame (A .fresh .spare) (P .frame) refl (omega arith)) (F .kept .frame) refl (omega arith);
-        tail = λ j h. F .kept .rest (16 * m + j) (omega arith) (λ e. omega arith) (λ e. omega arith) ∙ tail-prepared j ∙ A .tail j (omega arith);
+        tail = λ j h. F .kept .rest (16 * m + j) (omega arith) (λ e. omega arith) (λ e. omega arith) (λ e. omega arith) ∙ tail-prepared j ∙ A .tail j (omega arith);
         height = A .height;
         row = A .row;
         fits = A .fits;
@@ -77,7 +78,7 @@ module _ {C : Context} {m K half n : ℕ} {asked : Asked} {at room : ℕ} {gates
           changes : Changed columns m at room pl w words pl₂ w₄ words₁
           changes = record {
             frame = frame-then (frame-more refl (P .frame)) (frame-then (frame-more refl (F .kept .frame)) (frame-then (frame-more refl (E .changed .frame)) (frame-more refl (G .frame))));
-            past = λ j h. G .frame .past refl (16 * m + j) (omega arith) ∙ E .changed .past j h ∙ F .kept .rest (16 * m + j) (omega arith) (λ z. omega arith) (λ z. omega arith) ∙ tail-prepared j;
+            past = λ j h. G .frame .past refl (16 * m + j) (omega arith) ∙ E .changed .past j h ∙ F .kept .rest (16 * m + j) (omega arith) (λ z. omega arith) (λ z. omega arith) (λ z. omega arith) ∙ tail-prepared j;
             size = E .changed .size ∙ F .size;
             len = E .changed .len;
             before = E .changed .before;
@@ -92,6 +93,7 @@ module _ {C : Context} {m K half n : ℕ} {asked : Asked} {at room : ℕ} {gates
                 left = W .left;
                 is = sym is-built ∙ W .is;
                 count = W .count;
+                total = W .total;
                 fit = W .fit;
                 wrote = W .wrote;
                 done = marks-frame (W .done) (G .frame) refl (omega arith);
@@ -106,7 +108,7 @@ module _ {C : Context} {m K half n : ℕ} {asked : Asked} {at room : ℕ} {gates
           pub staged : Staged C m at room pl w words e pl₂ w₄ words₁
           staged = record {
             changed = changes;
-            refuses = λ h. let R = E .refuses h in record { is = sym is-built ∙ R .is; words = R .words; waiting = R .waiting };
+            refuses = λ h. let R = E .refuses h in record { is = sym is-built ∙ R .is; words = R .words; waiting = R .waiting; cells = R .cells };
             whole = stands;
             fresh = λ z. record { listed = G .listed; levels = G .levels; reverse = G .reverse; starts = G .starts; ends = G .ends; spare = clear-frame (E .whole z .spare) (G .frame) refl (omega arith) };
           }

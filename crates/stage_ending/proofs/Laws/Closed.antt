@@ -31,18 +31,18 @@ module _ {m o n r : ℕ} {w : List ℕ} (A : CloseAt m o n r w) {w1 : List ℕ} 
   pub retire-at : RetireAt m o w1
   retire-at = record { area = frame-room (L .frame) (A .area); order = rw order-is (holds-frame (A .order) (L .frame) refl (omega arith)) }
 
-  module _ {w2 w3 : List ℕ} (R : Retired m (list ORDER m o w1) w1 w2) (e3 : w3 ≡ putTail m w2 (laidOver (replicate 258 0) (tail m w2))) where
+  module _ {w2 w3 : List ℕ} (R : Retired m (list ORDER m o w1) w1 w2) (e3 : w3 ≡ putTail m w2 (laidOver (replicate 259 0) (tail m w2))) where
     room : 16 * m + 512 ≤ length w2
     room = omega (arith, A .area .room, R .frame .len, L .frame .len)
 
-    few : 258 ≤ length (tail m w2)
+    few : 259 ≤ length (tail m w2)
     few = omega (arith, length-tail m w2, room)
 
     last : Frame (TAIL ∷ []) m w2 w3
-    last = rw e3 (frame-putTail (laidOver (replicate 258 0) (tail m w2)) (omega (arith, room)) (length-laid 258 0 (tail m w2) few) refl)
+    last = rw e3 (frame-putTail (laidOver (replicate 259 0) (tail m w2)) (omega (arith, room)) (length-laid 259 0 (tail m w2) few) refl)
 
-    tail-is : (j : ℕ) → getD w3 (16 * m + j) 0 ≡ getD (laidOver (replicate 258 0) (tail m w2)) j 0
-    tail-is j = sym (getD-tail m w3 j) ∙ rw (e3, tail-putTail m w2 (laidOver (replicate 258 0) (tail m w2)) (omega (arith, room))) refl
+    tail-is : (j : ℕ) → getD w3 (16 * m + j) 0 ≡ getD (laidOver (replicate 259 0) (tail m w2)) j 0
+    tail-is j = sym (getD-tail m w3 j) ∙ rw (e3, tail-putTail m w2 (laidOver (replicate 259 0) (tail m w2)) (omega (arith, room))) refl
 
     later : Frame (DONE ∷ CELLS ∷ MARK ∷ SPARE ∷ TAIL ∷ []) m w1 w3
     later = frame-then (frame-more refl (R .frame)) (frame-more refl last)
@@ -58,11 +58,11 @@ module _ {m o n r : ℕ} {w : List ℕ} (A : CloseAt m o n r w) {w1 : List ℕ} 
     pub closed : Closed m o n r w w3 e
     closed = record {
       frame = frame-then (frame-more refl (L .frame)) (frame-more refl later);
-      past = λ j h. tail-is j ∙ past-laid 258 0 (tail m w2) j h ∙ getD-tail m w2 j ∙ R .frame .past refl (16 * m + j) (omega arith) ∙ L .frame .past refl (16 * m + j) (omega arith);
+      past = λ j h. tail-is j ∙ past-laid 259 0 (tail m w2) j h ∙ getD-tail m w2 j ∙ R .frame .past refl (16 * m + j) (omega arith) ∙ L .frame .past refl (16 * m + j) (omega arith);
       done = λ p b. last .cell DONE refl (omega arith) p b ∙ done-is p b;
       waiting = placed-frame (L .now) later refl refl (omega arith) (omega arith);
       cells = clear-frame (zeroed-clear (within-frame (L .frame) refl (omega arith) (rw order-is (A .cells))) (R .cells)) last refl (omega arith);
       marks = clear-frame (zeroed-clear (within-frame (L .frame) refl (omega arith) (rw order-is (A .marks))) (R .marks)) last refl (omega arith);
       spare = clear-frame (zeroed-clear (within-frame (L .frame) refl (omega arith) (rw order-is (A .spare))) (R .spare)) last refl (omega arith);
-      tail = λ j h. tail-is j ∙ at-laid 258 0 (tail m w2) j h;
+      tail = λ j h. tail-is j ∙ at-laid 259 0 (tail m w2) j h;
     }

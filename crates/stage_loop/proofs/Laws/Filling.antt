@@ -76,7 +76,7 @@ module _ {C : Context} {m n k h K : ℕ} {gates pl w : List ℕ} (A : GrowAt C m
 
   module _ {w1 : List ℕ} {s : ℕ} (N₀ : Noted C m w w1 s) where
     noting : Changed m w w1
-    noting = record { frame = frame-more refl (N₀ .frame); rest = λ j a b c. N₀ .frame .past refl j a }
+    noting = record { frame = frame-more refl (N₀ .frame); rest = λ j a b c d. N₀ .frame .past refl j a }
 
     settle : SettleAt C m n s (levelOneSize (C .X .K)) 0 gates pl w1
     settle =
@@ -126,7 +126,7 @@ module _ {C : Context} {m n k h K : ℕ} {gates pl w : List ℕ} (A : GrowAt C m
 
 module _ {C : Context} {m n k top K : ℕ} {gates pl w : List ℕ} (A : FillAt C m n k top K gates pl w) where
   stands : (h : ℕ) → Standing C m h gates pl w
-  stands h = rw (A .first) (first-stands C m h gates w (A .set .begun .base) (A .set .levelled) (A .cells .zero) (A .ones) (A .pins))
+  stands h = rw (A .first) (first-stands C m h gates w (A .set .begun .base) (A .set .levelled) (A .cells .zero) (A .ones) (A .pins) (A .total))
 
   level-is : {h : ℕ} → h ≡ min top K → h ≡ min (greatest (map (levelAt (C .X)) (C .X .order)) 0) (C .X .K)
   level-is e = e ∙ rw (A .most, A .height) refl
@@ -165,7 +165,7 @@ module _ {C : Context} {m n k top K : ℕ} {gates pl w : List ℕ} (A : FillAt C
         needs = same-needed (work C) fair
 
         kept : Changed m w w2
-        kept = changed-then change (record { frame = frame-more refl (N .frame); rest = λ j a b c. N .frame .past refl j a })
+        kept = changed-then change (record { frame = frame-more refl (N .frame); rest = λ j a b c d. N .frame .past refl j a })
 
         last : Set C m n k gates w2
         last = set-kept kept (A .set)

@@ -15,7 +15,7 @@ use Rattle.rules.proofs.Tree.Fair.{fair-kept, bare}
 use Rattle.rules.proofs.Tree.Back.{taken-back}
 use Rattle.rules.proofs.Lean.Turns.{recount-bound, recount-count, recount-full}
 use Rattle.columns.specs.Area.{Frame, among}
-use Rattle.columns.specs.Fields.{CELLS, RANKED, STARTS, ENDS, STACK, MARK, ONES, PINS}
+use Rattle.columns.specs.Fields.{CELLS, RANKED, STARTS, ENDS, STACK, MARK, ONES, PINS, FILLED}
 use Rattle.columns.specs.Lists.{Marks}
 use Rattle.stage_needed.specs.Needed.{CountAt, Needed}
 use Rattle.stage_needed.proofs.Laws.Collecting.{asking-frame}
@@ -28,17 +28,18 @@ use Rattle.stage_walk.proofs.Contexts.{work}
 use Rattle.stage_tree.specs.Counts as counts
 use Rattle.stage_tree.specs.Counts.{roomIn}
 use Rattle.stage_tree.specs.Bits as bits
+use Rattle.stage_tree.proofs.Counts.Kept.{counts as counts-of}
 use Rattle.stage_loop.specs.Loop.{Kept, Changed, NotedSet, Counted, SettleAt, Settled, TryAt, Tried}
 
 -- ---- the frame
 
 -- nothing changed, so nothing but counts and needed pins did
 pub kept-none : (m : ℕ) (w : List ℕ) → Kept m w w
-kept-none m w = record { frame = frame-none; rest = λ j a b c. refl }
+kept-none m w = record { frame = frame-none; rest = λ j a b c d. refl }
 
 -- two changes of the counts and needed pins are one
 pub kept-then : {m : ℕ} {u v w : List ℕ} → Kept m u v → Kept m v w → Kept m u w
-kept-then a b = record { frame = frame-then (a .frame) (b .frame); rest = λ j x y z. b .rest j x y z ∙ a .rest j x y z }
+kept-then a b = record { frame = frame-then (a .frame) (b .frame); rest = λ j x y z t. b .rest j x y z t ∙ a .rest j x y z t }
 
 -- placing and taking back change the counts alone
 pub kept-counts : {m : ℕ} {w w′ : List ℕ} → counts.Kept m w w′ → Kept m w w′
@@ -60,7 +61,7 @@ kept-changed k = record { frame = frame-more refl (k .frame); rest = k .rest }
 
 -- two changes are one
 pub changed-then : {m : ℕ} {u v w : List ℕ} → Changed m u v → Changed m v w → Changed m u w
-changed-then a b = record { frame = frame-then (a .frame) (b .frame); rest = λ j x y z. b .rest j x y z ∙ a .rest j x y z }
+changed-then a b = record { frame = frame-then (a .frame) (b .frame); rest = λ j x y z t. b .rest j x y z t ∙ a .rest j x y z t }
 
 -- the counts stay where neither they nor the tail are named
 pub tally-frame : {fs : List ℕ} {C : Context} {m : ℕ} {pl w w′ : List ℕ} → Frame fs m w w′ → among fs CELLS ≡ false → among fs 16 ≡ false → Tally C m pl w → Tally C m pl w′
@@ -68,6 +69,7 @@ tally-frame {m = m} f c t T = record {
   cells = λ x b. f .cell CELLS c (omega arith) x b ∙ T .cells x b;
   ones = f .past t (16 * m + ONES) (omega arith) ∙ T .ones;
   pins = f .past t (16 * m + PINS) (omega arith) ∙ T .pins;
+  total = f .past t (16 * m + FILLED) (omega arith) ∙ T .total;
 }
 
 -- what the stage starts from stays
@@ -125,7 +127,7 @@ module _ {C : Context} {m n k half most : ℕ} {gates pl w : List ℕ} (A : Sett
   counted N = record {
     count = sym (N .list .count);
     few = N .list .few;
-    kept = record { frame = frame-more refl (N .frame); rest = λ j a b c. N .frame .past refl j a };
+    kept = record { frame = frame-more refl (N .frame); rest = λ j a b c d. N .frame .past refl j a };
     tally = tally-frame (N .frame) refl refl (A .tally);
   }
 
@@ -174,7 +176,7 @@ module _ {C : Context} {m n k h wd half p q most : ℕ} {gates pl w : List ℕ} 
   spot = record {
     area = A .plan .set .begun .base .area;
     size = A .plan .set .begun .base .size;
-    tally = A .plan .tally;
+    tally = counts-of (A .plan .tally);
     len = A .plan .fair .len;
     high = A .wide .high;
     from = A .able .row;
@@ -184,12 +186,15 @@ module _ {C : Context} {m n k h wd half p q most : ℕ} {gates pl w : List ℕ} 
   -- the pin may be placed at the cell
   pub place-at : bits.PlaceAt C m h wd p q gates pl w
   place-at = record {
-    spot = spot;
-    base = A .plan .set .begun .base;
-    levelled = A .plan .set .levelled;
-    row = A .wide .row;
-    under = rw (A .wide .row) (bare (work C) h p q (A .plan .fair) (A .able));
-    listed = A .able .listed;
+    bit = record {
+      spot = spot;
+      base = A .plan .set .begun .base;
+      levelled = A .plan .set .levelled;
+      row = A .wide .row;
+      under = rw (A .wide .row) (bare (work C) h p q (A .plan .fair) (A .able));
+      listed = A .able .listed;
+    };
+    total = A .plan .tally .total;
   }
 
   module _ {pl1 w1 : List ℕ} (P : bits.Placed C m h wd p q pl w pl1 w1) where
@@ -212,17 +217,20 @@ module _ {C : Context} {m n k h wd half p q most : ℕ} {gates pl w : List ℕ} 
       -- where they have none the pin may be taken back
       pub back-at : bits.PurgeAt C m h wd p pl1 w2
       back-at = record {
-        spot = record {
-          area = noted-kept (T .kept) (noted-kept (kept-counts (P .kept)) (A .plan .set)) .begun .base .area;
-          size = A .plan .set .begun .base .size;
-          tally = T .tally;
-          len = fair-after .len;
-          high = A .wide .high;
-          from = A .able .row;
-          to = A .able .end;
+        back = record {
+          spot = record {
+            area = noted-kept (T .kept) (noted-kept (kept-counts (P .kept)) (A .plan .set)) .begun .base .area;
+            size = A .plan .set .begun .base .size;
+            tally = counts-of (T .tally);
+            len = fair-after .len;
+            high = A .wide .high;
+            from = A .able .row;
+            to = A .able .end;
+          };
+          row = A .wide .row;
+          tall = fair-after .tall;
         };
-        row = A .wide .row;
-        tall = fair-after .tall;
+        total = T .tally .total;
       }
 
       -- the pin taken back, the plan is as before

@@ -38,11 +38,11 @@ use Rattle.stage_runs.proofs.Laws.Plain.{row-high}
 
 -- nothing changed, so nothing but what rule 8 may change did
 pub moved-none : {m : ℕ} {w : List ℕ} → Moved m w w
-moved-none = record { frame = frame-none; rest = λ j a b c. refl }
+moved-none = record { frame = frame-none; rest = λ j a b c d. refl }
 
 -- two changes that rule 8 may make are one
 pub moved-then : {m : ℕ} {u v w : List ℕ} → Moved m u v → Moved m v w → Moved m u w
-moved-then a b = record { frame = frame-then (a .frame) (b .frame); rest = λ j x y z. b .rest j x y z ∙ a .rest j x y z }
+moved-then a b = record { frame = frame-then (a .frame) (b .frame); rest = λ j x y z t. b .rest j x y z t ∙ a .rest j x y z t }
 
 -- a change of the counts alone is such a change
 pub moved-kept : {m : ℕ} {w w′ : List ℕ} → Kept m w w′ → Moved m w w′
@@ -50,7 +50,7 @@ moved-kept k = record { frame = frame-more refl (k .frame); rest = k .rest }
 
 -- a change of the realised pins alone is such a change
 pub moved-real : {m : ℕ} {w w′ : List ℕ} → Frame (STACK ∷ MARK ∷ []) m w w′ → Moved m w w′
-moved-real f = record { frame = frame-more refl f; rest = λ j a b c. f .past refl j a }
+moved-real f = record { frame = frame-more refl f; rest = λ j a b c d. f .past refl j a }
 
 module _ {C : Context} {m k : ℕ} {s : Puts} {gates pl w : List ℕ} (A : Putting C m k s gates pl w) where
   -- other numbers, another plan and other realised pins

@@ -203,7 +203,7 @@ module _ {C : Context} {m K half n : ℕ} {rule : WordRule} {at room : ℕ} {gat
         ran = record {
           touched = record {
             frame = frame-then (frame-more refl (S .frame)) (frame-more refl (W .moved .frame));
-            rest = λ j a b c. W .moved .rest j a b c ∙ S .frame .past refl j a;
+            rest = λ j a b c d. W .moved .rest j a b c d ∙ S .frame .past refl j a;
           };
           stands = W .now .stands;
           size = W .size;

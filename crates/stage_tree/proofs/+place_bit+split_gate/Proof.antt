@@ -2,7 +2,7 @@
 use Prim.Native.Nat.{ℕ, _+_, _*_, _<_}
 use native.Mathlib.Omega.{arith}
 use Rattle.stage_tree.proofs.Counts.Pins.{above-zero}
-use Rattle.stage_tree.proofs.Bits.Places.{place-fill, place-pin, place-low, placed-zero, level-read, pass-at, passed, split-at, parted, split-pin, split-low, split-pins, split-first, split-second, split-both}
+use Rattle.stage_tree.proofs.Bits.Places.{placed-few, place-fill, place-pin, place-low, placed-zero, level-read, pass-at, passed, split-at, parted, split-pin, split-low, split-pins, split-first, split-second, split-both}
 use borrow.Author.Needs.{needs}
 use Prim.Native.Nat.{ℕ, _<_}
 use borrow.Fn.Kinds.{In}
@@ -77,6 +77,21 @@ place-bit-place-bit-requires t c κs =
     let pos = above-zero _ (c .before .before .before .before .before .if1 .left) in
     (omega (arith, pos), record { it = s .it; at = pass-at (s .at) (c .before .before .before .before .before .before .before .before .before .before .fill-cell .ensures .all (s .it) (place-fill (s .at))) pos })
 
+place-bit-add-result : (t : ℕ) → place-bit-lts.Need-add-result (
+  fill-cell-reads.Asked,
+  fill-cell-reads.Learnt,
+  get-reads.Asked,
+  get-reads.Learnt,
+  place-bit-below t,
+  place-bit.Post,
+  split-gate-below t,
+  split-gate.Post,
+) (place-bit-at t) place-bit.Post
+place-bit-add-result t c =
+    let s = c .before .before .before .before .before .before .before .before .before .before .before .before .before .before .before .before .before .before .before .before .before .pre .1 in
+    let M = c .before .before .before .before .before .before .before .before .before .before .before .before .before .before .before .fill-cell .ensures .all (s .it) (place-fill (s .at)) in
+    omega (arith, placed-few (omega (arith, s .at .spot .high)) (c .before .before .before .before .place-bit .ensures .all (s .it) (pass-at (s .at) M (above-zero _ (c .before .before .before .before .before .before .before .before .before .before .if1 .left)))))
+
 place-bit-same-length-3 : (t : ℕ) → place-bit-lts.Need-same-length-3 (place-bit-claims t) (place-bit-at t) place-bit.Post
 place-bit-same-length-3 t c = search needs
 
@@ -97,6 +112,22 @@ place-bit-split-gate-requires t c κs =
     let s = c .before .before .before .before .before .before .before .before .before .before .before .before .before .before .before .before .pre .1 in
     let M = c .before .before .before .before .before .before .before .before .before .before .fill-cell .ensures .all (s .it) (place-fill (s .at)) in
     (omega arith, record { it = s .it; at = split-at (s .at) M (above-zero _ (c .before .before .before .before .before .if1 .left)) (omega (arith, c .before .before .if2 .left, level-read (s .at) M _ (c .before .before .before .get .ensures))) })
+
+place-bit-add-result-2 : (t : ℕ) → place-bit-lts.Need-add-result-2 (
+  fill-cell-reads.Asked,
+  fill-cell-reads.Learnt,
+  get-reads.Asked,
+  get-reads.Learnt,
+  place-bit-below t,
+  place-bit.Post,
+  split-gate-below t,
+  split-gate.Post,
+) (place-bit-at t) place-bit.Post
+place-bit-add-result-2 t c =
+    let s = c .before .before .before .before .before .before .before .before .before .before .before .before .before .before .before .before .before .before .before .before .before .pre .1 in
+    let M = c .before .before .before .before .before .before .before .before .before .before .before .before .before .before .before .fill-cell .ensures .all (s .it) (place-fill (s .at)) in
+    let S = split-at (s .at) M (above-zero _ (c .before .before .before .before .before .before .before .before .before .before .if1 .left)) (omega (arith, c .before .before .before .before .before .before .before .if2 .left, level-read (s .at) M _ (c .before .before .before .before .before .before .before .before .get .ensures))) in
+    omega (arith, placed-few (s .at .spot .high) (c .before .before .before .before .split-gate .ensures .all (s .it) S))
 
 place-bit-same-length-5 : (t : ℕ) → place-bit-lts.Need-same-length-5 (place-bit-claims t) (place-bit-at t) place-bit.Post
 place-bit-same-length-5 t c = search needs
@@ -154,6 +185,20 @@ split-gate-place-bit-requires-2 t c κs =
     let O = split-pins (s .at) _ _ (rw (c .before .before .before .before .before .before .before .before .before .before .before .index .ensures) at (c .before .before .before .before .before .before .before .before .before .before .operand .ensures)) (rw (c .before .before .before .before .before .before .before .before .before .before .before .index .ensures) at (c .before .before .before .before .before .before .before .before .before .operand2 .ensures)) in
     (omega (arith, s .at .above), record { it = s .it; at = split-second (s .at) O (c .before .before .before .before .before .before .place-bit .ensures .all (s .it) (split-first (s .at) O)) })
 
+split-gate-add-result : (t : ℕ) → split-gate-lts.Need-add-result (
+  index-reads.Asked,
+  index-reads.Learnt,
+  operand-reads.Asked,
+  operand-reads.Learnt,
+  place-bit-below t,
+  place-bit.Post,
+) (split-gate-at t) split-gate.Post
+split-gate-add-result t c =
+    let s = c .before .before .before .before .before .before .before .before .before .before .before .before .before .before .before .before .before .before .before .before .pre .1 in
+    let O = split-pins (s .at) _ _ (rw (c .before .before .before .before .before .before .before .before .before .before .before .before .before .before .before .before .index .ensures) at (c .before .before .before .before .before .before .before .before .before .before .before .before .before .before .before .operand .ensures)) (rw (c .before .before .before .before .before .before .before .before .before .before .before .before .before .before .before .before .index .ensures) at (c .before .before .before .before .before .before .before .before .before .before .before .before .before .before .operand2 .ensures)) in
+    let P = c .before .before .before .before .before .before .before .before .before .before .before .place-bit .ensures .all (s .it) (split-first (s .at) O) in
+    omega (arith, placed-few (omega (arith, s .at .spot .high)) P, placed-few (omega (arith, s .at .spot .high)) (c .before .before .before .before .place-bit2 .ensures .all (s .it) (split-second (s .at) O P)))
+
 split-gate-same-length : (t : ℕ) → split-gate-lts.Need-same-length (split-gate-claims t) (split-gate-at t) split-gate.Post
 split-gate-same-length t c = search needs
 
@@ -170,7 +215,16 @@ split-gate-returns t c =
     }
 
 pub +place-bit+split-gate-spec : {M : Type 1} → statement M
-+place-bit+split-gate-spec = close μ-place-bit μ-split-gate (λ t. place-bit-lts.spec (place-bit-claims t)
++place-bit+split-gate-spec = close μ-place-bit μ-split-gate (λ t. place-bit-lts.spec (
+  fill-cell-reads.Asked,
+  fill-cell-reads.Learnt,
+  get-reads.Asked,
+  get-reads.Learnt,
+  place-bit-below t,
+  place-bit.Post,
+  split-gate-below t,
+  split-gate.Post,
+)
     (place-bit-at t)
     place-bit.Post
     (place-bit-fill-cell-requires t)
@@ -182,14 +236,23 @@ pub +place-bit+split-gate-spec : {M : Type 1} → statement M
     (place-bit-mul-place-bit t)
     (place-bit-add-place-bit t)
     (place-bit-place-bit-requires t)
+    (place-bit-add-result t)
     (place-bit-same-length-3 t)
     (place-bit-same-length-4 t)
     (place-bit-returns-2 t)
     (place-bit-split-gate-requires t)
+    (place-bit-add-result-2 t)
     (place-bit-same-length-5 t)
     (place-bit-same-length-6 t)
     (place-bit-returns-3 t))
-    λ t. split-gate-lts.spec (split-gate-claims t)
+    λ t. split-gate-lts.spec (
+      index-reads.Asked,
+      index-reads.Learnt,
+      operand-reads.Asked,
+      operand-reads.Learnt,
+      place-bit-below t,
+      place-bit.Post,
+    )
     (split-gate-at t)
     split-gate.Post
     (split-gate-index-requires t)
@@ -203,6 +266,7 @@ pub +place-bit+split-gate-spec : {M : Type 1} → statement M
     (split-gate-place-bit-requires t)
     (split-gate-add-place-bit-2 t)
     (split-gate-place-bit-requires-2 t)
+    (split-gate-add-result t)
     (split-gate-same-length t)
     (split-gate-same-length-2 t)
     (split-gate-returns t)

@@ -3,7 +3,7 @@ use native.Mathlib.Omega.{arith}
 use mathlib.Core.Path.{refl}
 use Rattle.stage_tree.proofs.Counts.Pins.{above-zero}
 use Rattle.stage_tree.proofs.Bits.Cells.{spot-small}
-use Rattle.stage_tree.proofs.Bits.Purges.{purge-in, purge-low, purged-none, purge-empty, purged-zero, purge-first, purge-second, purged-both}
+use Rattle.stage_tree.proofs.Bits.Purges.{purged-few, purge-in, purge-low, purged-none, purge-empty, purged-zero, purge-first, purge-second, purged-both}
 use borrow.Author.Needs.{needs}
 use Prim.Native.Nat.{ℕ, _<_}
 use borrow.Fn.Kinds.{In}
@@ -83,6 +83,34 @@ purge-bit-purge-bit-requires-2 t c κs =
     let M = c .before .before .before .before .before .before .before .before .before .before .before .before .before .before .empty-cell .ensures .all (s .it) E in
     (omega (arith, pos), record { it = s .it; at = purge-second (s .at) E M pos (c .before .before .before .before .before .before .purge-bit .ensures .all (s .it) (purge-first (s .at) E M pos)) })
 
+purge-bit-add-result : (t : ℕ) → purge-bit-lts.Need-add-result (
+  empty-cell-reads.Asked,
+  empty-cell-reads.Learnt,
+  purge-bit-below t,
+  purge-bit.Post,
+) (purge-bit-at t) purge-bit.Post
+purge-bit-add-result t c =
+    let s = c .before .before .before .before .before .before .before .before .before .before .before .before .before .before .before .before .before .before .before .before .before .before .before .before .before .before .pre .1 in
+    let pos = above-zero _ (c .before .before .before .before .before .before .before .before .before .before .before .before .before .before .if2 .left) in
+    let E = purge-empty (s .at) refl (c .before .before .before .before .before .before .before .before .before .before .before .before .before .before .before .before .before .before .before .before .before .before .if1 .left) in
+    let M = c .before .before .before .before .before .before .before .before .before .before .before .before .before .before .before .before .before .before .before .empty-cell .ensures .all (s .it) E in
+    let P = c .before .before .before .before .before .before .before .before .before .before .before .purge-bit .ensures .all (s .it) (purge-first (s .at) E M pos) in
+    omega (arith, purged-few (omega (arith, s .at .spot .high)) P)
+
+purge-bit-add-result-2 : (t : ℕ) → purge-bit-lts.Need-add-result-2 (
+  empty-cell-reads.Asked,
+  empty-cell-reads.Learnt,
+  purge-bit-below t,
+  purge-bit.Post,
+) (purge-bit-at t) purge-bit.Post
+purge-bit-add-result-2 t c =
+    let s = c .before .before .before .before .before .before .before .before .before .before .before .before .before .before .before .before .before .before .before .before .before .before .before .before .before .before .pre .1 in
+    let pos = above-zero _ (c .before .before .before .before .before .before .before .before .before .before .before .before .before .before .if2 .left) in
+    let E = purge-empty (s .at) refl (c .before .before .before .before .before .before .before .before .before .before .before .before .before .before .before .before .before .before .before .before .before .before .if1 .left) in
+    let M = c .before .before .before .before .before .before .before .before .before .before .before .before .before .before .before .before .before .before .before .empty-cell .ensures .all (s .it) E in
+    let P = c .before .before .before .before .before .before .before .before .before .before .before .purge-bit .ensures .all (s .it) (purge-first (s .at) E M pos) in
+    omega (arith, purged-few (omega (arith, s .at .spot .high)) P, purged-few (omega (arith, s .at .spot .high)) (c .before .before .before .before .purge-bit2 .ensures .all (s .it) (purge-second (s .at) E M pos P)))
+
 purge-bit-same-length-3 : (t : ℕ) → purge-bit-lts.Need-same-length-3 (purge-bit-claims t) (purge-bit-at t) purge-bit.Post
 purge-bit-same-length-3 t c = search needs
 
@@ -101,7 +129,12 @@ purge-bit-returns-3 t c =
     }
 
 pub +purge-bit-spec : {M : Type 1} → statement M
-+purge-bit-spec = close μ-purge-bit λ t. purge-bit-lts.spec (purge-bit-claims t)
++purge-bit-spec = close μ-purge-bit λ t. purge-bit-lts.spec (
+  empty-cell-reads.Asked,
+  empty-cell-reads.Learnt,
+  purge-bit-below t,
+  purge-bit.Post,
+)
     (purge-bit-at t)
     purge-bit.Post
     (purge-bit-mul-v t)
@@ -117,6 +150,8 @@ pub +purge-bit-spec : {M : Type 1} → statement M
     (purge-bit-purge-bit-requires t)
     (purge-bit-add-purge-bit-2 t)
     (purge-bit-purge-bit-requires-2 t)
+    (purge-bit-add-result t)
+    (purge-bit-add-result-2 t)
     (purge-bit-same-length-3 t)
     (purge-bit-same-length-4 t)
     (purge-bit-returns-3 t)

@@ -10,8 +10,8 @@ use lib.ListN.{length, getD}
 use Rattle.rules.specs.Cells.{empty, filled, rowAt}
 use Rattle.rules.proofs.Stage.Staged.{two-step}
 use Rattle.columns.proofs.Area.Frames.{frame-room}
-use Rattle.stage_walk.specs.Stands.{Context, Tally}
-use Rattle.stage_tree.specs.Counts.{Kept}
+use Rattle.stage_walk.specs.Stands.{Context}
+use Rattle.stage_tree.specs.Counts.{Inner, Counts}
 use Rattle.stage_tree.specs.Bits.{Spot}
 use Rattle.stage_tree.proofs.Counts.Sizes.{width-few}
 
@@ -94,7 +94,7 @@ module _ {C : Context} {m h p : ℕ} {pl u : List ℕ} (A : Spot C m h p pl u) w
   spot-small = omega (arith, spot-width, width-few C)
 
   -- the cell, and a lower one, after the counts changed
-  module _ {pl′ u′ : List ℕ} (k : Kept m u u′) (t : Tally C m pl′ u′) (l : length pl′ ≡ length pl) where
+  module _ {pl′ u′ : List ℕ} (k : Inner m u u′) (t : Counts C m pl′ u′) (l : length pl′ ≡ length pl) where
     -- the cell is one after its stage and counts changed
     pub spot-after : Spot C m h p pl′ u′
     spot-after = record { area = frame-room (k .frame) (A .area); size = A .size; tally = t; len = l ∙ A .len; high = A .high; from = A .from; to = A .to }
@@ -104,7 +104,7 @@ module _ {C : Context} {m h p : ℕ} {pl u : List ℕ} (A : Spot C m h p pl u) w
   lower-row pos e = rw e (sym (row-down K h pos (A .high)))
 
   -- a lower cell is a cell of the level below
-  pub lower-spot : 0 < h → {pl′ u′ : List ℕ} → Kept m u u′ → Tally C m pl′ u′ → length pl′ ≡ length pl → (q : ℕ) → p + rowAt K h ≤ q → q ≤ p + 2 * rowAt K h → Spot C m (h - 1) q pl′ u′
+  pub lower-spot : 0 < h → {pl′ u′ : List ℕ} → Inner m u u′ → Counts C m pl′ u′ → length pl′ ≡ length pl → (q : ℕ) → p + rowAt K h ≤ q → q ≤ p + 2 * rowAt K h → Spot C m (h - 1) q pl′ u′
   lower-spot pos k t l q a b = record {
     area = frame-room (k .frame) (A .area);
     size = A .size;

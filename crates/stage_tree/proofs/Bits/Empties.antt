@@ -21,7 +21,7 @@ use Rattle.columns.specs.Fields.{CELLS, ONES, PINS}
 use Rattle.stage_walk.specs.Stands.{Context}
 use Rattle.stage_tree.specs.Counts.{UncountAt, OneMore}
 use Rattle.stage_tree.specs.Bits.{EmptyAt, Emptied}
-use Rattle.stage_tree.proofs.Counts.Kept.{kept-none, kept-then, kept-unpin, kept-ones}
+use Rattle.stage_tree.proofs.Counts.Kept.{inner-none, inner-then, inner-unpin, inner-ones}
 use Rattle.stage_tree.proofs.Counts.Pins.{above-zero}
 use Rattle.stage_tree.proofs.Bits.Cells.{getD-any, not-full, row-top, above-one, spot-upper, spot-in}
 use Rattle.stage_tree.proofs.Bits.Fills.{low-tally}
@@ -61,7 +61,7 @@ module _ {C : Context} {m h p n : ℕ} {pl u : List ℕ} (A : EmptyAt C m h p n 
 
   -- at level 0 no count changes
   pub emptied-low : h ≡ 0 → Emptied C m p pl u pl0 u
-  emptied-low z = record { plan = refl; kept = kept-none; tally = low-tally (A .spot) z empty }
+  emptied-low z = record { plan = refl; kept = inner-none; tally = low-tally (A .spot) z empty }
 
   module _ (pos : 0 < h) where
     cells-step : (x : ℕ) → x < m → cellsHolding K pl0 x + bit (eqb n x) ≡ cellsHolding K pl x
@@ -120,7 +120,7 @@ module _ {C : Context} {m h p n : ℕ} {pl u : List ℕ} (A : EmptyAt C m h p n 
       pub emptied-upper : h ≢ 1 → Emptied C m p pl u pl0 u1
       emptied-upper ne = record {
         plan = refl;
-        kept = kept-unpin empty-pin O;
+        kept = inner-unpin empty-pin O;
         tally = record {
           cells = cells-after;
           ones = ones-same ∙ A .spot .tally .ones ∙ ap (count filled) (sym (row-set-above K 1 pl p empty (omega (arith, row-top K h (above-one h pos ne) (A .spot .high), A .spot .to))));
@@ -138,7 +138,7 @@ module _ {C : Context} {m h p n : ℕ} {pl u : List ℕ} (A : EmptyAt C m h p n 
           let k : ℕ = getD u1 (16 * m + ONES) 0 - 1 in
           record {
             plan = refl;
-            kept = kept-then (kept-unpin empty-pin O) (kept-ones k);
+            kept = inner-then (inner-unpin empty-pin O) (inner-ones k);
             tally = record {
               cells = λ x b. getD-set-other u1 (16 * m + ONES) (CELLS * m + x) k 0 (λ d. omega arith) ∙ cells-after x b;
               ones = getD-set-same u1 (16 * m + ONES) k 0 (omega (arith, O .len, A .spot .area .room)) ∙ omega (arith, ones-same, A .spot .tally .ones, row-step e);

@@ -18,18 +18,18 @@ use Rattle.rules.proofs.Tree.Fair.{listed-filled}
 use Rattle.rules.proofs.Tree.Tally.{bit, cells-set, cells-set-low, size-new, size-old, tree-set-low, row-set, row-set-above, row-set-below}
 use Rattle.rules.proofs.Tree.Back.{not-filled}
 use Rattle.columns.specs.Fields.{CELLS, ONES, PINS}
-use Rattle.stage_walk.specs.Stands.{Context, Tally}
+use Rattle.stage_walk.specs.Stands.{Context}
 use Rattle.stage_walk.proofs.Contexts.{work}
-use Rattle.stage_tree.specs.Counts.{CountAt, OneMore}
+use Rattle.stage_tree.specs.Counts.{Counts, CountAt, OneMore}
 use Rattle.stage_tree.specs.Bits.{Spot, FillAt, Filled}
-use Rattle.stage_tree.proofs.Counts.Kept.{kept-none, kept-then, kept-pin, kept-ones}
+use Rattle.stage_tree.proofs.Counts.Kept.{inner-none, inner-then, inner-pin, inner-ones}
 use Rattle.stage_tree.proofs.Counts.Sizes.{few}
 use Rattle.stage_tree.proofs.Counts.Pins.{above-zero}
 use Rattle.stage_tree.proofs.Counts.Rooms.{in-tree}
 use Rattle.stage_tree.proofs.Bits.Cells.{row-one, row-top, above-one, spot-zero, spot-upper, spot-in}
 
 -- nothing is counted at level 0, whatever is stored there
-pub low-tally : {C : Context} {m h p : ℕ} {pl u : List ℕ} → Spot C m h p pl u → h ≡ 0 → (v : ℕ) → Tally C m (set pl p v) u
+pub low-tally : {C : Context} {m h p : ℕ} {pl u : List ℕ} → Spot C m h p pl u → h ≡ 0 → (v : ℕ) → Counts C m (set pl p v) u
 unfolding treeOf
 low-tally {C} {m} {h} {p} {pl} A z v =
     let b : 2 ^ (C .X .K) ≤ p = spot-zero A z in
@@ -56,7 +56,7 @@ module _ {C : Context} {m h p n : ℕ} {pl u : List ℕ} (A : FillAt C m h p n p
 
   -- at level 0 no count changes
   pub filled-low : h ≡ 0 → Filled C m p n pl u (set pl p n) u
-  filled-low z = record { plan = refl; kept = kept-none; tally = low-tally (A .spot) z n }
+  filled-low z = record { plan = refl; kept = inner-none; tally = low-tally (A .spot) z n }
 
   module _ (pos : 0 < h) {u1 : List ℕ} (O : OneMore m n u u1) where
     cells-step : (x : ℕ) → x < m → cellsHolding K (set pl p n) x ≡ cellsHolding K pl x + bit (eqb n x)
@@ -93,7 +93,7 @@ module _ {C : Context} {m h p n : ℕ} {pl u : List ℕ} (A : FillAt C m h p n p
     pub filled-upper : h ≢ 1 → Filled C m p n pl u (set pl p n) u1
     filled-upper ne = record {
       plan = refl;
-      kept = kept-pin fill-pin O;
+      kept = inner-pin fill-pin O;
       tally = record {
         cells = cells-after;
         ones = ones-same ∙ A .spot .tally .ones ∙ ap (count filled) (sym (row-set-above K 1 pl p n (omega (arith, row-top K h (above-one h pos ne) (A .spot .high), A .spot .to))));
@@ -108,7 +108,7 @@ module _ {C : Context} {m h p n : ℕ} {pl u : List ℕ} (A : FillAt C m h p n p
         let s : count filled (row K 1 (set pl p n)) + 0 ≡ count filled (row K 1 pl) + 1 = rw (A .free, full) at (row-set K 1 pl p n (rw e at (A .spot .from)) (rw e at (A .spot .to)) (spot-in (A .spot))) in
         record {
           plan = refl;
-          kept = kept-then (kept-pin fill-pin O) (kept-ones k);
+          kept = inner-then (inner-pin fill-pin O) (inner-ones k);
           tally = record {
             cells = λ x b. getD-set-other u1 (16 * m + ONES) (CELLS * m + x) k 0 (λ d. omega arith) ∙ cells-after x b;
             ones = getD-set-same u1 (16 * m + ONES) k 0 (omega (arith, O .len, A .spot .area .room)) ∙ omega (arith, ones-same, A .spot .tally .ones, s);

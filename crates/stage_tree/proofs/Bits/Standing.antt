@@ -18,24 +18,25 @@ use Rattle.rules.specs.Inside.Plans.{Placeable}
 use Rattle.rules.proofs.Tree.Invariant.{row-empty}
 use Rattle.rules.proofs.Tree.Fair.{bare, fair-first, fair-kept}
 use Rattle.rules.proofs.Tree.Back.{taken-back, not-filled}
+use Rattle.rules.proofs.Tree.Cost.{same-number, none-filled}
 use Rattle.rules.proofs.Lean.Turns.{blank-tree}
 use Rattle.columns.specs.Area.{among, Frame}
-use Rattle.columns.specs.Fields.{LEVEL, CELLS, TAIL, ONES, PINS}
+use Rattle.columns.specs.Fields.{LEVEL, CELLS, TAIL, ONES, PINS, FILLED}
 use Rattle.stage_walk.specs.Stands.{Context, Base, Levelled}
 use Rattle.stage_walk.proofs.Contexts.{work}
-use Rattle.stage_tree.specs.Bits.{Spot, PlaceAt, Placed, PurgeAt, Purged, Standing}
+use Rattle.stage_tree.specs.Bits.{Spot, BitPlaced, BitPurged, PlaceAt, Placed, PurgeAt, Purged, Standing}
 use Rattle.stage_tree.specs.Search.{First}
-use Rattle.stage_tree.proofs.Counts.Kept.{base-frame, levelled-frame, tally-frame, kept-none, kept-then, base-kept, levelled-kept, one-area}
+use Rattle.stage_tree.proofs.Counts.Kept.{base-frame, levelled-frame, tally-frame, counts, kept-none, kept-then, one-area}
 use Rattle.stage_tree.proofs.Search.{cell-found}
 
 module _ {C : Context} {m h : ℕ} {gates pl u : List ℕ} (A : Standing C m h gates pl u) {w : ℕ} (row : w ≡ rowAt (C .X .K) h) where
   -- a cell of the level
   spot : (p : ℕ) → h ≤ C .X .K → rowAt (C .X .K) h ≤ p → p < rowAt (C .X .K) h + rowAt (C .X .K) h → Spot C m h p pl u
-  spot p a b c = record { area = A .base .area; size = A .base .size; tally = A .tally; len = A .fair .len; high = a; from = b; to = c }
+  spot p a b c = record { area = A .base .area; size = A .base .size; tally = counts (A .tally); len = A .fair .len; high = a; from = b; to = c }
 
   -- any cell of the level may be taken back
   pub may-purge : (p : ℕ) → h ≤ C .X .K → w ≤ p → p < w + w → PurgeAt C m h w p pl u
-  may-purge p a b c = record { spot = spot p a (omega arith) (omega arith); row = row; tall = A .fair .tall }
+  may-purge p a b c = record { back = record { spot = spot p a (omega arith) (omega arith); row = row; tall = A .fair .tall }; total = A .tally .total }
 
   -- rule 4's cell, and a pin of the level
   pub may-choose : {p n : ℕ} → 1 ≤ h → h ≤ C .X .K → First pl w (2 * w) p → p < 2 * w → In n (C .X .seen) → levelAt (C .X) n ≡ h → Placeable (C .X) pl h p n
@@ -48,13 +49,21 @@ module _ {C : Context} {m h : ℕ} {gates pl u : List ℕ} (A : Standing C m h g
     -- a pin may be placed at an empty cell of the level
     pub may-place : PlaceAt C m h w p n gates pl u
     may-place = record {
-      spot = spot p (P .high) (P .row) (P .end);
-      base = A .base;
-      levelled = A .levelled;
-      row = row;
-      under = rw row (bare (work C) h p n (A .fair) P);
-      listed = P .listed;
+      bit = record {
+        spot = spot p (P .high) (P .row) (P .end);
+        base = A .base;
+        levelled = A .levelled;
+        row = row;
+        under = rw row (bare (work C) h p n (A .fair) P);
+        listed = P .listed;
+      };
+      total = A .tally .total;
     }
+
+    -- for the same pin and cell taking back reports what placing did
+    pub same-report : {k j : ℕ} {pl1 u1 v pl2 v2 : List ℕ} → BitPlaced C m h w p n k pl u pl1 u1 → BitPurged C m h w p j pl1 v pl2 v2 → j ≡ k
+    unfolding placed
+    same-report B Q = Q .cells ∙ rw (B .plan, row) (same-number (work C) h p n (A .fair) P) ∙ sym (B .cells)
 
     module _ {pl1 u1 : List ℕ} (B : Placed C m h w p n pl u pl1 u1) where
       -- what placing leaves is the rules' plan
@@ -65,8 +74,8 @@ module _ {C : Context} {m h : ℕ} {gates pl u : List ℕ} (A : Standing C m h g
       -- the invariants hold after placing
       pub placed-stands : Standing C m h gates pl1 u1
       placed-stands = record {
-        base = base-kept (B .kept) (A .base);
-        levelled = levelled-kept (B .kept) (A .levelled);
+        base = base-frame (B .kept .frame) (A .base);
+        levelled = levelled-frame (B .kept .frame) refl (A .levelled);
         tally = B .tally;
         fair = rw placed-plan (fair-kept (work C) h p n (A .fair) P);
       }
@@ -102,12 +111,12 @@ module _ (C : Context) (m h : ℕ) (gates u : List ℕ) (B : Base C m gates u) (
   no-ones = count-none filled _ (blank-take (rowAt (C .X .K) 1) (drop (rowAt (C .X .K) 1) pl0) (blank-drop (rowAt (C .X .K) 1) pl0 (blank-replicate (2 ^ (C .X .K + 1)))))
 
   -- the invariants hold of the empty stage with counts of 0
-  pub first-stands : ((x : ℕ) → x < m → getD u (CELLS * m + x) 0 ≡ 0) → getD u (16 * m + ONES) 0 ≡ 0 → getD u (16 * m + PINS) 0 ≡ 0 → Standing C m h gates (blank (C .X)) u
+  pub first-stands : ((x : ℕ) → x < m → getD u (CELLS * m + x) 0 ≡ 0) → getD u (16 * m + ONES) 0 ≡ 0 → getD u (16 * m + PINS) 0 ≡ 0 → getD u (16 * m + FILLED) 0 ≡ 0 → Standing C m h gates (blank (C .X)) u
   unfolding blank
-  first-stands c o p = record {
+  first-stands c o p t = record {
     base = B;
     levelled = L;
-    tally = record { cells = λ x b. c x b ∙ sym (no-cells x b); ones = o ∙ sym no-ones; pins = p ∙ ap length (sym (blank-tree (C .X))) };
+    tally = record { cells = λ x b. c x b ∙ sym (no-cells x b); ones = o ∙ sym no-ones; pins = p ∙ ap length (sym (blank-tree (C .X))); total = t ∙ sym (none-filled (2 ^ (C .X .K + 1))) };
     fair = fair-first (work C) h;
   }
 

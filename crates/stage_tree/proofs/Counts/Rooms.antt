@@ -12,17 +12,17 @@ use Rattle.rules.specs.Inside.Lean.{roomFor}
 use Rattle.rules.proofs.Tree.Fair.{listed-filled}
 use Rattle.rules.proofs.Tree.Tally.{tree-cells}
 use Rattle.columns.specs.Fields.{CELLS, ONES, PINS}
-use Rattle.stage_walk.specs.Stands.{Context, Tally}
+use Rattle.stage_walk.specs.Stands.{Context}
 use Rattle.stage_walk.proofs.Contexts.{work}
-use Rattle.stage_tree.specs.Counts.{roomIn}
+use Rattle.stage_tree.specs.Counts.{Counts, roomIn}
 
 -- a pin is in the tree if a cell above level 0 holds it
-pub in-tree : {C : Context} {m : ℕ} {pl u : List ℕ} → Tally C m pl u → (n : ℕ) → n < m → In n (C .X .seen) → mem n (treeOf (C .X) pl) ≡ ltb 0 (getD u (CELLS * m + n) 0)
+pub in-tree : {C : Context} {m : ℕ} {pl u : List ℕ} → Counts C m pl u → (n : ℕ) → n < m → In n (C .X .seen) → mem n (treeOf (C .X) pl) ≡ ltb 0 (getD u (CELLS * m + n) 0)
 unfolding treeOf
 in-tree {C} {m} {pl} t n b i = rw (t .cells n b) (tree-cells (C .X .K) pl n (listed-filled (work C) n i))
 
 -- with a plan's counts it is the test of the rules
-pub room-is : {C : Context} {m : ℕ} {pl u : List ℕ} → Tally C m pl u → (half b : ℕ) → half ≡ levelOneSize (C .X .K) → roomIn m half b u ≡ roomFor (C .X) b pl
+pub room-is : {C : Context} {m : ℕ} {pl u : List ℕ} → Counts C m pl u → (half b : ℕ) → half ≡ levelOneSize (C .X .K) → roomIn m half b u ≡ roomFor (C .X) b pl
 unfolding roomIn roomFor
 room-is t half b e = rw (t .ones, t .pins, e)
 

@@ -12,8 +12,8 @@ use Rattle.rules.specs.Placing.{tree, treeOf}
 use Rattle.rules.specs.Inside.Lean.{cellsHolding}
 use Rattle.rules.proofs.Lists.Members.{split}
 use Rattle.rules.proofs.Stage.Fuel.{count-length}
-use Rattle.stage_walk.specs.Stands.{Context, Tally}
-use Rattle.stage_tree.specs.Counts.{Few}
+use Rattle.stage_walk.specs.Stands.{Context}
+use Rattle.stage_tree.specs.Counts.{Counts, Few}
 
 keep-length : (f : ℕ → Bool) (xs : List ℕ) → length (keep f xs) ≤ length xs
 unfolding keep
@@ -50,7 +50,7 @@ pub width-few : (C : Context) → 2 ^ (C .X .K) ≤ 8192
 width-few C = pow-mono {i = C .X .K} {j = 13} (C .high)
 
 -- no count of a plan is above 8,192
-pub few : {C : Context} {m : ℕ} {pl u : List ℕ} → Tally C m pl u → Few m u
+pub few : {C : Context} {m : ℕ} {pl u : List ℕ} → Counts C m pl u → Few m u
 unfolding treeOf
 few {C} {m} {pl} t = record {
   cells = λ x b. omega (arith, t .cells x b, cells-length (C .X .K) pl x, width-few C);

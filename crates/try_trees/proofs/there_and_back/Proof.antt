@@ -17,8 +17,8 @@ same-length c = search needs
 returns : tie.Need-returns
 returns c = search needs
 
-place-bit-requires : tie.Need-place-bit-requires
-place-bit-requires c κs =
+place-pin-requires : tie.Need-place-pin-requires
+place-pin-requires c κs =
     let s = c .before .before .before .before .before .before .before .before .pre in
     record { it = s .it; at = trial-place (s .at) (c .before .before .before .first-empty .ensures) (c .before .before .if1 .left) }
 
@@ -26,20 +26,20 @@ list-requires : tie.Need-list-requires
 list-requires c κs =
     let s = c .before .before .before .before .before .before .before .before .before .before .before .before .before .before .before .pre in
     let F = c .before .before .before .before .before .before .before .before .before .before .first-empty .ensures in
-    placed-room (s .at) F (c .before .before .before .before .before .before .before .before .before .if1 .left) (c .before .before .before .before .before .before .place-bit .ensures .all (s .it) (trial-place (s .at) F (c .before .before .before .before .before .before .before .before .before .if1 .left)))
+    placed-room (s .at) F (c .before .before .before .before .before .before .before .before .before .if1 .left) (c .before .before .before .before .before .before .place-pin .ensures .all (s .it) (trial-place (s .at) F (c .before .before .before .before .before .before .before .before .before .if1 .left)))
 
-purge-bit-requires : tie.Need-purge-bit-requires
-purge-bit-requires c κs =
+take-back-requires : tie.Need-take-back-requires
+take-back-requires c κs =
     let s = c .before .before .before .before .before .before .before .before .before .before .before .before .before .before .before .before .before .before .pre in
     let F = c .before .before .before .before .before .before .before .before .before .before .before .before .before .first-empty .ensures in
-    record { it = s .it; at = trial-purge (s .at) F (c .before .before .before .before .before .before .before .before .before .before .before .before .if1 .left) (c .before .before .before .before .before .before .before .before .before .place-bit .ensures .all (s .it) (trial-place (s .at) F (c .before .before .before .before .before .before .before .before .before .before .before .before .if1 .left))) }
+    record { it = s .it; at = trial-purge (s .at) F (c .before .before .before .before .before .before .before .before .before .before .before .before .if1 .left) (c .before .before .before .before .before .before .before .before .before .place-pin .ensures .all (s .it) (trial-place (s .at) F (c .before .before .before .before .before .before .before .before .before .before .before .before .if1 .left))) }
 
 list-requires-2 : tie.Need-list-requires-2
 list-requires-2 c κs =
     let s = c .before .before .before .before .before .before .before .before .before .before .before .before .before .before .before .before .before .before .before .before .before .before .before .before .before .pre in
     let F = c .before .before .before .before .before .before .before .before .before .before .before .before .before .before .before .before .before .before .before .before .first-empty .ensures in
-    let B = c .before .before .before .before .before .before .before .before .before .before .before .before .before .before .before .before .place-bit .ensures .all (s .it) (trial-place (s .at) F (c .before .before .before .before .before .before .before .before .before .before .before .before .before .before .before .before .before .before .before .if1 .left)) in
-    purged-room (s .at) F (c .before .before .before .before .before .before .before .before .before .before .before .before .before .before .before .before .before .before .before .if1 .left) B (c .before .before .before .before .before .before .purge-bit .ensures .all (s .it) (trial-purge (s .at) F (c .before .before .before .before .before .before .before .before .before .before .before .before .before .before .before .before .before .before .before .if1 .left) B))
+    let B = c .before .before .before .before .before .before .before .before .before .before .before .before .before .before .before .before .place-pin .ensures .all (s .it) (trial-place (s .at) F (c .before .before .before .before .before .before .before .before .before .before .before .before .before .before .before .before .before .before .before .if1 .left)) in
+    purged-room (s .at) F (c .before .before .before .before .before .before .before .before .before .before .before .before .before .before .before .before .before .before .before .if1 .left) B (c .before .before .before .before .before .before .take-back .ensures .all (s .it) (trial-purge (s .at) F (c .before .before .before .before .before .before .before .before .before .before .before .before .before .before .before .before .before .before .before .if1 .left) B))
 
 same-length-2 : tie.Need-same-length-2
 same-length-2 c = search needs
@@ -51,8 +51,8 @@ returns-2 : tie.Need-returns-2
 returns-2 c =
     let s = c .before .before .before .before .before .before .before .before .before .before .before .before .before .before .before .before .before .before .before .before .before .before .before .before .before .before .pre in
     let F = c .before .before .before .before .before .before .before .before .before .before .before .before .before .before .before .before .before .before .before .before .before .first-empty .ensures in
-    let B = c .before .before .before .before .before .before .before .before .before .before .before .before .before .before .before .before .before .place-bit .ensures .all (s .it) (trial-place (s .at) F (c .before .before .before .before .before .before .before .before .before .before .before .before .before .before .before .before .before .before .before .before .if1 .left)) in
-    trial-same (s .at) F (c .before .before .before .before .before .before .before .before .before .before .before .before .before .before .before .before .before .before .before .before .if1 .left) B (c .before .before .before .before .before .before .before .purge-bit .ensures .all (s .it) (trial-purge (s .at) F (c .before .before .before .before .before .before .before .before .before .before .before .before .before .before .before .before .before .before .before .before .if1 .left) B))
+    let B = c .before .before .before .before .before .before .before .before .before .before .before .before .before .before .before .before .before .place-pin .ensures .all (s .it) (trial-place (s .at) F (c .before .before .before .before .before .before .before .before .before .before .before .before .before .before .before .before .before .before .before .before .if1 .left)) in
+    trial-same (s .at) F (c .before .before .before .before .before .before .before .before .before .before .before .before .before .before .before .before .before .before .before .before .if1 .left) B (c .before .before .before .before .before .before .before .take-back .ensures .all (s .it) (trial-purge (s .at) F (c .before .before .before .before .before .before .before .before .before .before .before .before .before .before .before .before .before .before .before .before .if1 .left) B))
 
 pub there-and-back-spec : {M : Type 1} → statement M
 there-and-back-spec =
@@ -62,9 +62,9 @@ there-and-back-spec =
     first-empty-requires
     same-length
     returns
-    place-bit-requires
+    place-pin-requires
     list-requires
-    purge-bit-requires
+    take-back-requires
     list-requires-2
     same-length-2
     same-length-3

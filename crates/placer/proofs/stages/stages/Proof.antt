@@ -1,10 +1,12 @@
 -- `placer::stages::stages` meets its contract: one stage more, its words spent, until no pin waits or one is refused. Assumes nothing.
 use Rattle.stage_tally.proofs.Laws.Tests.{counted-more, bound-same, spent-more}
 use Rattle.stage_tally.specs.Spending.{bound, Counted}
-use Rattle.placer.proofs.Laws.Course.{still-rooms, next-at, spent-within, room-small, room-within, rooms-nine, one-on, refused-told, whole-told, whole-stands}
+use Rattle.placer.proofs.Laws.Course.{none-filled, cells-within, still-rooms, next-at, spent-within, room-small, room-within, rooms-nine, one-on, refused-told, whole-told, whole-stands}
 use Rattle.rules.specs.Inside.Some.{Every}
 use Rattle.placer.specs.Stages.{StagesAt}
 use lib.ListN.{length}
+use Rattle.rules.specs.Lists.{count}
+use Rattle.rules.specs.Cells.{filled}
 use native.Mathlib.Omega.{arith}
 use mathlib.Core.Path.{_≡_, refl, _∙_}
 use Prim.Native.Nat.{_-_}
@@ -14,20 +16,20 @@ use Rattle.placer.proofs.stages.stages.Statement.{statement}
 use Rattle.placer.proofs.stages.stages.Tie as tie
 
 abbrev Inv-loop : tie.InvT-loop
-Inv-loop gates plan₀ words₀ counts₀ work₀ m height rule rooms n room limit tally₀ k₀ left₀ plan words counts work tally k left =
-    Every (λ C. StagesAt C m (height .0) (rowAt (height .0) 1) rule rooms 0 0 n room gates plan₀ words₀ counts₀ work₀) (λ C. StagesAt C m (height .0) (rowAt (height .0) 1) rule rooms k (tally .spent) left room gates plan words counts work) × (length plan ≡ length plan₀) × (length words ≡ length words₀) × (length counts ≡ length counts₀) × (length work ≡ length work₀) × Counted tally × (bound tally ≡ room)
+Inv-loop gates plan₀ words₀ counts₀ work₀ m height rule rooms n room limit tally₀ k₀ left₀ cells₀ plan words counts work tally k left cells =
+    Every (λ C. StagesAt C m (height .0) (rowAt (height .0) 1) rule rooms 0 0 n room gates plan₀ words₀ counts₀ work₀) (λ C. StagesAt C m (height .0) (rowAt (height .0) 1) rule rooms k (tally .spent) left room gates plan words counts work) × (length plan ≡ length plan₀) × (length words ≡ length words₀) × (length counts ≡ length counts₀) × (length work ≡ length work₀) × Counted tally × (bound tally ≡ room) × (cells ≡ count filled plan)
 
 abbrev μ-loop : tie.MeasureT-loop
-μ-loop gates plan₀ words₀ counts₀ work₀ m height rule rooms n room limit tally₀ k₀ left₀ plan words counts work tally k left = rooms - k
+μ-loop gates plan₀ words₀ counts₀ work₀ m height rule rooms n room limit tally₀ k₀ left₀ cells₀ plan words counts work tally k left cells = rooms - k
 
-sub-t18 : tie.Need-sub-t18 Inv-loop μ-loop
-sub-t18 c = room-within (c .before .before .before .before .before .pre .at)
+sub-t19 : tie.Need-sub-t19 Inv-loop μ-loop
+sub-t19 c = room-within (c .before .before .before .before .before .pre .at)
 
 loop-holds : tie.Need-loop-holds Inv-loop μ-loop
-loop-holds c = (record { all = λ C A. A }, refl, refl, refl, refl, record { within = omega arith; spent = omega arith; small = omega (arith, c .before .before .before .before .before .good .1 .1 .0 .1) }, omega (arith, room-within (c .before .before .before .before .before .pre .at)))
+loop-holds c = (record { all = λ C A. A }, refl, refl, refl, refl, record { within = omega arith; spent = omega arith; small = omega (arith, c .before .before .before .before .before .good .1 .1 .0 .1) }, omega (arith, room-within (c .before .before .before .before .before .pre .at)), none-filled (c .before .before .before .before .before .pre .at) refl)
 
-add-t20 : tie.Need-add-t20 Inv-loop μ-loop
-add-t20 c = let s = c .before .before .before .before .before .before .before .before .pre in let A = c .before .before .loop .inv .0 .all (s .it) (s .at) in omega (arith, A .now .few, A .all, A .short)
+add-t21 : tie.Need-add-t21 Inv-loop μ-loop
+add-t21 c = let s = c .before .before .before .before .before .before .before .before .pre in let A = c .before .before .loop .inv .0 .all (s .it) (s .at) in omega (arith, A .now .few, A .all, A .short)
 
 same-length : tie.Need-same-length Inv-loop μ-loop
 same-length c = search needs
@@ -47,8 +49,8 @@ returns c = record { all = λ C A. let B = c .before .before .loop .inv .0 .all 
 next-stage-requires : tie.Need-next-stage-requires Inv-loop μ-loop
 next-stage-requires c κs = let s = c .before .before .before .before .before .before .before .before .before .before .before .before .pre in (c .before .before .before .before .before .before .loop .inv .5, record { it = s .it; at = next-at (c .before .before .before .before .before .before .loop .inv .0 .all (s .it) (s .at)) (c .before .before .before .before .before .before .loop .inv .6) (c .before .before .before .before .before .loop-test .taken) (c .before .before .before .before .if1 .left) })
 
-add-t30 : tie.Need-add-t30 Inv-loop μ-loop
-add-t30 c = let s = c .before .before .before .before .before .before .before .before .before .before .before .before .before .before .before .before .before .before .before .before .before .before .pre in let A = c .before .before .before .before .before .before .before .before .before .before .before .before .before .before .before .before .loop .inv .0 .all (s .it) (s .at) in omega (arith, still-rooms A (c .before .before .before .before .before .before .before .before .before .before .before .before .before .before .before .loop-test .taken) (c .before .before .before .before .before .before .before .before .before .before .before .before .before .before .if1 .left), c .before .before .before .before .before .before .before .before .before .before .before .before .before .before .before .before .before .before .before .before .before .before .fits .rooms)
+add-t31 : tie.Need-add-t31 Inv-loop μ-loop
+add-t31 c = let s = c .before .before .before .before .before .before .before .before .before .before .before .before .before .before .before .before .before .before .before .before .before .before .pre in let A = c .before .before .before .before .before .before .before .before .before .before .before .before .before .before .before .before .loop .inv .0 .all (s .it) (s .at) in omega (arith, still-rooms A (c .before .before .before .before .before .before .before .before .before .before .before .before .before .before .before .loop-test .taken) (c .before .before .before .before .before .before .before .before .before .before .before .before .before .before .if1 .left), c .before .before .before .before .before .before .before .before .before .before .before .before .before .before .before .before .before .before .before .before .before .before .fits .rooms)
 
 same-length-5 : tie.Need-same-length-5 Inv-loop μ-loop
 same-length-5 c = search needs
@@ -68,14 +70,17 @@ returns-2 c = record { all = λ C A. let I = c .before .before .before .before .
 spend-requires : tie.Need-spend-requires Inv-loop μ-loop
 spend-requires c κs = let s = c .before .before .before .before .before .before .before .before .before .before .before .before .before .before .before .before .before .before .before .before .before .before .pre in let I = c .before .before .before .before .before .before .before .before .before .before .before .before .before .before .before .before .loop .inv in let A = I .0 .all (s .it) (s .at) in let O = c .before .before .before .before .before .before .before .before .before .next-stage .ensures .all (s .it) (next-at A (I .6) (c .before .before .before .before .before .before .before .before .before .before .before .before .before .before .before .loop-test .taken) (c .before .before .before .before .before .before .before .before .before .before .before .before .before .before .if1 .left)) in let B = one-on A O (c .if2 .left) refl in omega (arith, spent-within B, room-small B)
 
+add-cells : tie.Need-add-cells Inv-loop μ-loop
+add-cells c = let s = c .before .before .before .before .before .before .before .before .before .before .before .before .before .before .before .before .before .before .before .before .before .before .before .before .pre in let I = c .before .before .before .before .before .before .before .before .before .before .before .before .before .before .before .before .before .before .loop .inv in let A = I .0 .all (s .it) (s .at) in let O = c .before .before .before .before .before .before .before .before .before .before .before .next-stage .ensures .all (s .it) (next-at A (I .6) (c .before .before .before .before .before .before .before .before .before .before .before .before .before .before .before .before .before .loop-test .taken) (c .before .before .before .before .before .before .before .before .before .before .before .before .before .before .before .before .if1 .left)) in omega (arith, cells-within O (c .before .before .if2 .left) (I .7), I .1, c .before .before .before .before .before .before .before .before .before .before .before .before .before .before .before .before .before .before .before .before .before .before .before .before .good .1 .0 .0)
+
 add-k : tie.Need-add-k Inv-loop μ-loop
-add-k c = let s = c .before .before .before .before .before .before .before .before .before .before .before .before .before .before .before .before .before .before .before .before .before .before .before .pre in let A = c .before .before .before .before .before .before .before .before .before .before .before .before .before .before .before .before .before .loop .inv .0 .all (s .it) (s .at) in omega (arith, A .now .few, A .all, A .short)
+add-k c = let s = c .before .before .before .before .before .before .before .before .before .before .before .before .before .before .before .before .before .before .before .before .before .before .before .before .pre in let A = c .before .before .before .before .before .before .before .before .before .before .before .before .before .before .before .before .before .before .loop .inv .0 .all (s .it) (s .at) in omega (arith, A .now .few, A .all, A .short)
 
 loop-less : tie.Need-loop-less Inv-loop μ-loop
-loop-less c = let s = c .before .before .before .before .before .before .before .before .before .before .before .before .before .before .before .before .before .before .before .before .before .before .before .pre in let A = c .before .before .before .before .before .before .before .before .before .before .before .before .before .before .before .before .before .loop .inv .0 .all (s .it) (s .at) in omega (arith, still-rooms A (c .before .before .before .before .before .before .before .before .before .before .before .before .before .before .before .before .loop-test .taken) (c .before .before .before .before .before .before .before .before .before .before .before .before .before .before .before .if1 .left))
+loop-less c = let s = c .before .before .before .before .before .before .before .before .before .before .before .before .before .before .before .before .before .before .before .before .before .before .before .before .pre in let A = c .before .before .before .before .before .before .before .before .before .before .before .before .before .before .before .before .before .before .loop .inv .0 .all (s .it) (s .at) in omega (arith, still-rooms A (c .before .before .before .before .before .before .before .before .before .before .before .before .before .before .before .before .before .loop-test .taken) (c .before .before .before .before .before .before .before .before .before .before .before .before .before .before .before .before .if1 .left))
 
 loop-again : tie.Need-loop-again Inv-loop μ-loop
-loop-again c = let s = c .before .before .before .before .before .before .before .before .before .before .before .before .before .before .before .before .before .before .before .before .before .before .before .pre in let I = c .before .before .before .before .before .before .before .before .before .before .before .before .before .before .before .before .before .loop .inv in let A = I .0 .all (s .it) (s .at) in let O = c .before .before .before .before .before .before .before .before .before .before .next-stage .ensures .all (s .it) (next-at A (I .6) (c .before .before .before .before .before .before .before .before .before .before .before .before .before .before .before .before .loop-test .taken) (c .before .before .before .before .before .before .before .before .before .before .before .before .before .before .before .if1 .left)) in let B = one-on A O (c .before .if2 .left) refl in (record { all = λ C A. let B = I .0 .all C A in one-on B (c .before .before .before .before .before .before .before .before .before .before .next-stage .ensures .all C (next-at B (I .6) (c .before .before .before .before .before .before .before .before .before .before .before .before .before .before .before .before .loop-test .taken) (c .before .before .before .before .before .before .before .before .before .before .before .before .before .before .before .if1 .left))) (c .before .if2 .left) (spent-more (I .5) _ (c .spend .ensures)) }, search needs, search needs, search needs, search needs, counted-more (I .5) _ (c .spend .ensures) (omega (arith, spent-within B, I .6)), bound-same (I .5) _ (c .spend .ensures) ∙ I .6)
+loop-again c = let s = c .before .before .before .before .before .before .before .before .before .before .before .before .before .before .before .before .before .before .before .before .before .before .before .before .pre in let I = c .before .before .before .before .before .before .before .before .before .before .before .before .before .before .before .before .before .before .loop .inv in let A = I .0 .all (s .it) (s .at) in let O = c .before .before .before .before .before .before .before .before .before .before .before .next-stage .ensures .all (s .it) (next-at A (I .6) (c .before .before .before .before .before .before .before .before .before .before .before .before .before .before .before .before .before .loop-test .taken) (c .before .before .before .before .before .before .before .before .before .before .before .before .before .before .before .before .if1 .left)) in let B = one-on A O (c .before .before .if2 .left) refl in (record { all = λ C A. let B = I .0 .all C A in one-on B (c .before .before .before .before .before .before .before .before .before .before .before .next-stage .ensures .all C (next-at B (I .6) (c .before .before .before .before .before .before .before .before .before .before .before .before .before .before .before .before .before .loop-test .taken) (c .before .before .before .before .before .before .before .before .before .before .before .before .before .before .before .before .if1 .left))) (c .before .before .if2 .left) (spent-more (I .5) _ (c .before .spend .ensures)) }, search needs, search needs, search needs, search needs, counted-more (I .5) _ (c .before .spend .ensures) (omega (arith, spent-within B, I .6)), bound-same (I .5) _ (c .before .spend .ensures) ∙ I .6, omega (arith, I .7, O .more (c .before .before .if2 .left)))
 
 same-length-9 : tie.Need-same-length-9 Inv-loop μ-loop
 same-length-9 c = search needs
@@ -90,7 +95,7 @@ same-length-12 : tie.Need-same-length-12 Inv-loop μ-loop
 same-length-12 c = search needs
 
 returns-3 : tie.Need-returns-3 Inv-loop μ-loop
-returns-3 c = record { all = λ C A. let B = c .before .loop .inv .0 .all C A in record { kept = record { plan = c .before .loop .inv .1; words = c .before .loop .inv .2; counts = c .before .loop .inv .3; work = c .before .loop .inv .4 }; reply = whole-told B (omega (arith, c .loop-test .left)); whole = λ e. whole-stands B (omega (arith, c .loop-test .left)) } }
+returns-3 c = record { all = λ C A. let B = c .before .loop .inv .0 .all C A in record { kept = record { plan = c .before .loop .inv .1; words = c .before .loop .inv .2; counts = c .before .loop .inv .3; work = c .before .loop .inv .4 }; reply = whole-told B (omega (arith, c .loop-test .left)) (c .before .loop .inv .7); whole = λ e. whole-stands B (omega (arith, c .loop-test .left)) } }
 
 pub stages-spec : {M : Type 1} → statement M
 stages-spec =
@@ -98,22 +103,23 @@ stages-spec =
     (tie.spec
     Inv-loop
     μ-loop
-    sub-t18
+    sub-t19
     loop-holds
-    add-t20
+    add-t21
     same-length
     same-length-2
     same-length-3
     same-length-4
     returns
     next-stage-requires
-    add-t30
+    add-t31
     same-length-5
     same-length-6
     same-length-7
     same-length-8
     returns-2
     spend-requires
+    add-cells
     add-k
     loop-less
     loop-again

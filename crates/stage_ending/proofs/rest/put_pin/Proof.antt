@@ -44,8 +44,8 @@ same-length-4 c = search needs
 returns-3 : tie.Need-returns-3
 returns-3 c = record { all = λ C A. pin-full A (c .before .before .before .before .before .before .before .is-in .ensures) (c .before .before .before .before .is-in2 .ensures) (c .before .before .before .before .before .before .if1 .left) (c .before .before .before .if2 .left) (c .before .first-empty .ensures) (c .if3 .taken) }
 
-place-bit-requires : tie.Need-place-bit-requires
-place-bit-requires c κs = record { it = _; at = pin-place (c .before .before .before .before .before .before .before .before .before .before .before .before .before .before .pre .at) (c .before .before .before .before .before .before .before .before .before .is-in .ensures) (c .before .before .before .before .before .before .is-in2 .ensures) (c .before .before .before .before .before .before .before .before .if1 .left) (c .before .before .before .before .before .if2 .left) (c .before .before .before .first-empty .ensures) (c .before .before .if3 .left) }
+place-pin-requires : tie.Need-place-pin-requires
+place-pin-requires c κs = record { it = _; at = pin-place (c .before .before .before .before .before .before .before .before .before .before .before .before .before .before .pre .at) (c .before .before .before .before .before .before .before .before .before .is-in .ensures) (c .before .before .before .before .before .before .is-in2 .ensures) (c .before .before .before .before .before .before .before .before .if1 .left) (c .before .before .before .before .before .if2 .left) (c .before .before .before .first-empty .ensures) (c .before .before .if3 .left) }
 
 add-result-2 : tie.Need-add-result-2
 add-result-2 c = omega (arith, half-few (c .before .before .before .before .before .before .before .before .before .before .before .before .before .before .before .before .before .before .before .pre .at), c .before .before .before .before .before .before .before .before .first-empty .ensures .to)
@@ -57,7 +57,7 @@ same-length-6 : tie.Need-same-length-6
 same-length-6 c = search needs
 
 returns-4 : tie.Need-returns-4
-returns-4 c = record { all = λ C A. pin-placed A (c .before .before .before .before .before .before .before .before .before .before .before .before .before .before .is-in .ensures) (c .before .before .before .before .before .before .before .before .before .before .before .is-in2 .ensures) (c .before .before .before .before .before .before .before .before .before .before .before .before .before .if1 .left) (c .before .before .before .before .before .before .before .before .before .before .if2 .left) (c .before .before .before .before .before .before .before .before .first-empty .ensures) (c .before .before .before .before .before .before .before .if3 .left) (c .before .before .before .before .place-bit .ensures .all C (pin-place A (c .before .before .before .before .before .before .before .before .before .before .before .before .before .before .is-in .ensures) (c .before .before .before .before .before .before .before .before .before .before .before .is-in2 .ensures) (c .before .before .before .before .before .before .before .before .before .before .before .before .before .if1 .left) (c .before .before .before .before .before .before .before .before .before .before .if2 .left) (c .before .before .before .before .before .before .before .before .first-empty .ensures) (c .before .before .before .before .before .before .before .if3 .left))) }
+returns-4 c = record { all = λ C A. pin-placed A (c .before .before .before .before .before .before .before .before .before .before .before .before .before .before .is-in .ensures) (c .before .before .before .before .before .before .before .before .before .before .before .is-in2 .ensures) (c .before .before .before .before .before .before .before .before .before .before .before .before .before .if1 .left) (c .before .before .before .before .before .before .before .before .before .before .if2 .left) (c .before .before .before .before .before .before .before .before .first-empty .ensures) (c .before .before .before .before .before .before .before .if3 .left) (c .before .before .before .before .place-pin .ensures .all C (pin-place A (c .before .before .before .before .before .before .before .before .before .before .before .before .before .before .is-in .ensures) (c .before .before .before .before .before .before .before .before .before .before .before .is-in2 .ensures) (c .before .before .before .before .before .before .before .before .before .before .before .before .before .if1 .left) (c .before .before .before .before .before .before .before .before .before .before .if2 .left) (c .before .before .before .before .before .before .before .before .first-empty .ensures) (c .before .before .before .before .before .before .before .if3 .left))) }
 
 pub put-pin-spec : {M : Type 1} → statement M
 put-pin-spec =
@@ -76,7 +76,7 @@ put-pin-spec =
     same-length-3
     same-length-4
     returns-3
-    place-bit-requires
+    place-pin-requires
     add-result-2
     same-length-5
     same-length-6

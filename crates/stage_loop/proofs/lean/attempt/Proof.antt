@@ -4,17 +4,17 @@ use borrow.Author.Needs.{needs}
 use Rattle.stage_loop.proofs.lean.attempt.Statement.{statement}
 use Rattle.stage_loop.proofs.lean.attempt.Tie as tie
 
-place-bit-requires : tie.Need-place-bit-requires
-place-bit-requires c κs = record { it = c .before .before .before .before .before .pre .it; at = place-at (c .before .before .before .before .before .pre .at) }
+place-pin-requires : tie.Need-place-pin-requires
+place-pin-requires c κs = record { it = c .before .before .before .before .before .pre .it; at = place-at (c .before .before .before .before .before .pre .at) }
 
 settle-requires : tie.Need-settle-requires
-settle-requires c κs = let A = c .before .before .before .before .before .before .before .before .before .before .before .before .pre in record { it = A .it; at = after-place (A .at) (c .before .before .before .before .before .before .place-bit .ensures .all (A .it) (place-at (A .at))) }
+settle-requires c κs = let A = c .before .before .before .before .before .before .before .before .before .before .before .before .pre in record { it = A .it; at = after-place (A .at) (c .before .before .before .before .before .before .place-pin .ensures .all (A .it) (place-at (A .at))) }
 
 enum-told : tie.Need-enum-told
 enum-told c = search needs
 
-purge-bit-requires : tie.Need-purge-bit-requires
-purge-bit-requires c κs = let A = c .before .before .before .before .before .before .before .before .before .before .before .before .before .before .before .before .before .before .before .pre in let P = c .before .before .before .before .before .before .before .before .before .before .before .before .before .place-bit .ensures .all (A .it) (place-at (A .at)) in record { it = A .it; at = back-at (A .at) P (rw (c .before .before .enum-told .given .1) at (c .before .before .before .before .before .before .settle .ensures .all (A .it) (after-place (A .at) P))) }
+take-back-requires : tie.Need-take-back-requires
+take-back-requires c κs = let A = c .before .before .before .before .before .before .before .before .before .before .before .before .before .before .before .before .before .before .before .pre in let P = c .before .before .before .before .before .before .before .before .before .before .before .before .before .place-pin .ensures .all (A .it) (place-at (A .at)) in record { it = A .it; at = back-at (A .at) P (rw (c .before .before .enum-told .given .1) at (c .before .before .before .before .before .before .settle .ensures .all (A .it) (after-place (A .at) P))) }
 
 enum-known-bound : tie.Need-enum-known-bound
 enum-known-bound c = search needs
@@ -26,7 +26,7 @@ same-length-2 : tie.Need-same-length-2
 same-length-2 c = search needs
 
 returns : tie.Need-returns
-returns c = record { all = λ C A. let P = c .before .before .before .before .before .before .before .before .before .before .before .before .before .before .before .before .before .before .place-bit .ensures .all C (place-at A) in let T = rw (c .before .before .before .before .before .before .before .enum-told .given .1) at (c .before .before .before .before .before .before .before .before .before .before .before .settle .ensures .all C (after-place A P)) in tried-none A P T (c .before .before .before .before .purge-bit .ensures .all C (back-at A P T)) }
+returns c = record { all = λ C A. let P = c .before .before .before .before .before .before .before .before .before .before .before .before .before .before .before .before .before .before .place-pin .ensures .all C (place-at A) in let T = rw (c .before .before .before .before .before .before .before .enum-told .given .1) at (c .before .before .before .before .before .before .before .before .before .before .before .settle .ensures .all C (after-place A P)) in tried-none A P T (c .before .before .before .before .take-back .ensures .all C (back-at A P T)) }
 
 same-length-3 : tie.Need-same-length-3
 same-length-3 c = search needs
@@ -35,16 +35,16 @@ same-length-4 : tie.Need-same-length-4
 same-length-4 c = search needs
 
 returns-2 : tie.Need-returns-2
-returns-2 c = record { all = λ C A. let P = c .before .before .before .before .before .before .before .before .before .before .before .before .place-bit .ensures .all C (place-at A) in tried-some A P (rw (c .before .bound .given .1) at (c .before .before .before .before .before .settle .ensures .all C (after-place A P))) }
+returns-2 c = record { all = λ C A. let P = c .before .before .before .before .before .before .before .before .before .before .before .before .place-pin .ensures .all C (place-at A) in tried-some A P (rw (c .before .bound .given .1) at (c .before .before .before .before .before .settle .ensures .all C (after-place A P))) }
 
 pub attempt-spec : {M : Type 1} → statement M
 attempt-spec =
     tie.close
     (tie.spec
-    place-bit-requires
+    place-pin-requires
     settle-requires
     enum-told
-    purge-bit-requires
+    take-back-requires
     enum-known-bound
     same-length
     same-length-2

@@ -18,11 +18,11 @@ slice-read-t18 c = cell-inside (c .before .before .before .before .before .pre .
 pin-at-requires : tie.Need-pin-at-requires
 pin-at-requires c κs = next-at (c .before .before .before .before .before .before .before .before .pre .at) (c .before .before .before .before .if1 .left) refl
 
-place-bit-requires : tie.Need-place-bit-requires
-place-bit-requires c κs = record { it = _; at = fill-at (c .before .before .before .before .before .before .before .before .before .before .before .pre .at) (c .before .before .before .before .before .before .before .if1 .left) (c .before .before .pin-at .ensures) (c .before .before .before .before .if2 .taken) }
+place-pin-requires : tie.Need-place-pin-requires
+place-pin-requires c κs = record { it = _; at = fill-at (c .before .before .before .before .before .before .before .before .before .before .before .pre .at) (c .before .before .before .before .before .before .before .if1 .left) (c .before .before .pin-at .ensures) (c .before .before .before .before .if2 .taken) }
 
 enlist-requires : tie.Need-enlist-requires
-enlist-requires c κs = fill-enlist (c .before .before .before .before .before .before .before .before .before .before .before .before .before .before .before .before .before .pre .at) (c .before .before .before .before .before .before .before .before .before .before .before .before .before .if1 .left) (c .before .before .before .before .before .before .before .before .pin-at .ensures) (c .before .before .before .before .before .before .before .before .before .before .if2 .taken) (c .before .before .before .before .before .place-bit .ensures .all _ (fill-at (c .before .before .before .before .before .before .before .before .before .before .before .before .before .before .before .before .before .pre .at) (c .before .before .before .before .before .before .before .before .before .before .before .before .before .if1 .left) (c .before .before .before .before .before .before .before .before .pin-at .ensures) (c .before .before .before .before .before .before .before .before .before .before .if2 .taken)))
+enlist-requires c κs = fill-enlist (c .before .before .before .before .before .before .before .before .before .before .before .before .before .before .before .before .before .pre .at) (c .before .before .before .before .before .before .before .before .before .before .before .before .before .if1 .left) (c .before .before .before .before .before .before .before .before .pin-at .ensures) (c .before .before .before .before .before .before .before .before .before .before .if2 .taken) (c .before .before .before .before .before .place-pin .ensures .all _ (fill-at (c .before .before .before .before .before .before .before .before .before .before .before .before .before .before .before .before .before .pre .at) (c .before .before .before .before .before .before .before .before .before .before .before .before .before .if1 .left) (c .before .before .before .before .before .before .before .before .pin-at .ensures) (c .before .before .before .before .before .before .before .before .before .before .if2 .taken)))
 
 add-t28 : tie.Need-add-t28
 add-t28 c = search needs
@@ -34,7 +34,7 @@ same-length-2 : tie.Need-same-length-2
 same-length-2 c = search needs
 
 returns-2 : tie.Need-returns-2
-returns-2 c = record { all = λ C A. put-filled A (c .before .before .before .before .before .before .before .before .before .before .before .before .before .before .before .before .if1 .left) (c .before .before .before .before .before .before .before .before .before .before .before .pin-at .ensures) (c .before .before .before .before .before .before .before .before .before .before .before .before .before .if2 .taken) (c .before .before .before .before .before .before .before .before .place-bit .ensures .all _ (fill-at A (c .before .before .before .before .before .before .before .before .before .before .before .before .before .before .before .before .if1 .left) (c .before .before .before .before .before .before .before .before .before .before .before .pin-at .ensures) (c .before .before .before .before .before .before .before .before .before .before .before .before .before .if2 .taken))) (c .before .before .enlist .ensures) }
+returns-2 c = record { all = λ C A. put-filled A (c .before .before .before .before .before .before .before .before .before .before .before .before .before .before .before .before .if1 .left) (c .before .before .before .before .before .before .before .before .before .before .before .pin-at .ensures) (c .before .before .before .before .before .before .before .before .before .before .before .before .before .if2 .taken) (c .before .before .before .before .before .before .before .before .place-pin .ensures .all _ (fill-at A (c .before .before .before .before .before .before .before .before .before .before .before .before .before .before .before .before .if1 .left) (c .before .before .before .before .before .before .before .before .before .before .before .pin-at .ensures) (c .before .before .before .before .before .before .before .before .before .before .before .before .before .if2 .taken))) (c .before .before .enlist .ensures) }
 
 is-in-requires : tie.Need-is-in-requires
 is-in-requires c κs = omega (arith, met-pin (c .before .before .before .before .before .before .before .before .pre .at) (c .before .before .before .before .if1 .left) refl (c .before .if2 .left) refl, c .before .before .before .before .before .before .before .before .pre .at .now .stands .base .area .room)
@@ -62,7 +62,7 @@ put-cell-spec =
     mul-t16
     slice-read-t18
     pin-at-requires
-    place-bit-requires
+    place-pin-requires
     enlist-requires
     add-t28
     same-length
