@@ -134,6 +134,13 @@ module _ (C : Context) {m : ℕ} {gates w : List ℕ} (R : Reads C m gates w) wh
         is (suc zero) q l e = rw (follow-gate o n) e
         is (suc (suc k)) q l e = absurd (omega arith)
 
+    -- a pin from which something is followed is a gate, neither given nor realised
+    pub gate-of : 0 < length (below (C .X .g) (C .X .done) p) → Out p (C .X .done) × (a ≡ 4294967295 → ⊥)
+    gate-of l = (out, λ e. omega (arith, ap length (follow-leaf out e)))
+      where
+        out : Out p (C .X .done)
+        out = split (mem p (C .X .done)) (λ e. absurd (omega (arith, ap length (follow-done e)))) (λ e. e)
+
 -- the two pins followed from p, where the code has asked for them
 pub record Both (C : Context) (m p a b : ℕ) : Type 0 where
   pub is : below (C .X .g) (C .X .done) p ≡ a ∷ b ∷ []

@@ -1,6 +1,5 @@
--- Rule 1 with a stack. An item is a pin and its phase: 0 to be visited, k that k of the pins followed from it were put on the stack. Assumes nothing.
+-- Rule 1 with a stack. An item is a pin that is not listed yet and its phase: of the pins followed from it, the first k are listed or put on the stack. Assumes nothing.
 use mathlib.Core.Path.{_≡_}
-use mathlib.Core.Logic.{_⊎_}
 use mathlib.Core.List.{List, [], _∷_, reverse}
 use Prim.Native.Nat.{ℕ, zero, suc, _+_, _-_, _*_, _<_, _≤_}
 use lib.ListN.{length, getD, drop}
@@ -30,7 +29,6 @@ phases (item p k ∷ s) = k + phases s
 
 -- pin p is under way: in phase k, and not listed
 pub record Open (g : List Node) (done seen : List ℕ) (p k : ℕ) : Type 0 where
-  pub some : 1 ≤ k
   pub most : k ≤ length (below g done p)
   pub fresh : Out p seen
 
@@ -42,7 +40,7 @@ pub data Chain (g : List Node) (done : List ℕ) (r : ℕ → ℕ) (seen : List 
 pub record Top (g : List Node) (done : List ℕ) (r : ℕ → ℕ) (seen : List ℕ) (p k : ℕ) (s : List Item) : Type 0 where
   pub pin : p < length g
   pub rank : r p < length g
-  pub how : (k ≡ 0) ⊎ Open g done seen p k
+  pub opened : Open g done seen p k
   pub under : Chain g done r seen (r p) s
 
 pub data Stack (g : List Node) (done : List ℕ) (r : ℕ → ℕ) (seen : List ℕ) : List Item → Type 0 where
@@ -65,6 +63,12 @@ pub record Going (C : Context) (m : ℕ) (gates w : List ℕ) (d n : ℕ) : Type
   pub reads : Reads C m gates w
   pub listed : Marked ORDER LISTED m n (list ORDER m n w) w
   pub stack : Stack (C .X .g) (C .X .done) (C .r) (seenIn m n w) (items m w d)
+
+-- pin p in phase k: past phase 0 it is a gate that is followed
+pub record NextAt (C : Context) (m : ℕ) (gates w : List ℕ) (p k : ℕ) : Type 0 where
+  pub reads : Reads C m gates w
+  pub pin : p < m
+  pub most : k ≤ length (below (C .X .g) (C .X .done) p)
 
 -- a listing falls by 4 and may free two phases; a phase more puts an item on
 unfoldable pub toGo : ℕ → List ℕ → ℕ → ℕ → ℕ

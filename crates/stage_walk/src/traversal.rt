@@ -13,14 +13,15 @@ use columns::push;
 use columns::put_number;
 use columns::set_field;
 use graph::Pin;
+use graph::operand;
 ghost use mathlib.Core.Path.{_≡_};
-ghost use mathlib.Core.Bool.{not, _&&_};
 ghost use Prim.Native.Nat.{_+_, _*_, _<_};
-ghost use lib.Dec.{eqb};
-ghost use lib.ListN.{length, getD, set};
+ghost use lib.ListN.{length, set};
 ghost use Rattle.columns.specs.Fields.{ORDER, LISTED, STACK, PHASE};
+ghost use Rattle.rules.specs.Graph.{below};
 ghost use Rattle.rules.specs.Inside.Some.{Some, Every};
-ghost use Rattle.stage_walk.specs.Machine.{Going, Went, Stepped, VisitAt, Visited, TraverseAt, GoOnAt, WentOn, Traversed};
+ghost use Rattle.stage_walk.specs.Machine.{Going, NextAt, Went, Stepped, VisitAt, Visited, TraverseAt, GoOnAt, WentOn, Traversed};
+ghost use Rattle.stage_walk.specs.Nexts.{leads};
 
 // How many items the stack has, and how many pins are listed.
 pub struct At {
@@ -57,15 +58,18 @@ fn descend(work: &mut [u32], m: usize, top: usize, k: usize, q: Pin)
     enter(work, m, top + 1, q);
 }
 
-// Whether pin p is to be visited and is listed already.
-fn passed(work: &[u32], m: usize, p: Pin, k: usize) -> bool
-    requires { ⌜ LISTED * m + p .0 < length (now work) ⌝ }
-    ensures { λ b. ⌜ b ≡ eqb k 0 && not (eqb (getD (now (work .entry)) (LISTED * m + p .0) 0) 0) ⌝ }
+// The pin that is followed from pin p as the k-th. Past phase 0 p is known to be a gate that is followed.
+fn next_of(gates: &[u32], work: &[u32], m: usize, p: Pin, k: usize) -> Next
+    requires { ⌜ Some (λ C. NextAt C m (now gates) (now work) (p .0) k) ⌝ }
+    ensures { λ r. ⌜ Every (λ C. NextAt C m (now (gates .entry)) (now (work .entry)) (p .0) k) (λ C. leads m (below (C .X .g) (C .X .done) (p .0)) k r) ⌝ }
 {
-    if k != 0 {
-        return false;
+    if k == 0 {
+        return followed(gates, work, m, p, k);
     }
-    is_in(work, m, p, LISTED)
+    if k >= 2 {
+        return Next::Nothing;
+    }
+    Next::To(operand(gates, 2 * p.index() + k))
 }
 
 // A step of the item at `top`.
@@ -75,13 +79,7 @@ fn step(gates: &[u32], work: &mut [u32], m: usize, top: usize, n: usize) -> At
 {
     let p = pin_at(work, m, top, STACK);
     let k = number_at(work, m, top, PHASE);
-    if passed(work, m, p, k) {
-        return At {
-            depth: top,
-            listed: n,
-        };
-    }
-    let next = followed(gates, work, m, p, k);
+    let next = next_of(gates, work, m, p, k);
     match next {
         Next::Nothing => {
             list(work, m, n, p);
@@ -91,6 +89,13 @@ fn step(gates: &[u32], work: &mut [u32], m: usize, top: usize, n: usize) -> At
             }
         }
         Next::To(q) => {
+            if is_in(work, m, q, LISTED) {
+                put_number(work, m, top, PHASE, k + 1);
+                return At {
+                    depth: top + 1,
+                    listed: n,
+                };
+            }
             descend(work, m, top, k + 1, q);
             At {
                 depth: top + 2,
@@ -115,11 +120,14 @@ fn run(gates: &[u32], work: &mut [u32], m: usize, items: usize, n: usize) -> usi
     listed
 }
 
-// Lists pin p after all below it. Returns how many pins are listed.
+// Lists pin p after all below it, if it is not listed. Returns how many pins are listed.
 fn visit(gates: &[u32], work: &mut [u32], m: usize, n: usize, p: Pin) -> usize
     requires { ⌜ Some (λ C. VisitAt C m (now gates) (now work) n (p .0)) ⌝ }
     ensures { λ r. ⌜ Every (λ C. VisitAt C m (now (gates .entry)) (now (work .entry)) n (p .0)) (λ C. Visited C m (now (gates .entry)) (now (work .entry)) n (p .0) (now (work .exit)) r) ⌝ }
 {
+    if is_in(work, m, p, LISTED) {
+        return n;
+    }
     enter(work, m, 0, p);
     run(gates, work, m, 1, n)
 }

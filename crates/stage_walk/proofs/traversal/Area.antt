@@ -1,28 +1,26 @@
 -- The stack in its columns: what each step of the code makes of the area, the order and the stack. Assumes nothing.
 use mathlib.Core.Path.{_≡_, refl, sym, _∙_, ap}
-use mathlib.Core.Logic.{inl, ⊎-elim}
-use mathlib.Core.Bool.{Bool, true, false, not, _&&_}
+use mathlib.Core.Bool.{true, false, not}
 use mathlib.Core.List.{List, [], _∷_, reverse, reverse-append}
 use Prim.Native.Nat.{ℕ, zero, suc, _+_, _*_, _<_, _≤_}
 use native.Mathlib.Omega.{arith}
 use native.Mathlib.Numerals.{add-one}
-use borrow.Author.Tests.{eq-eqb, ne-eqb}
 use lib.Dec.{eqb}
 use lib.ListN.{length, getD, set, drop, length-set, drop-of-length-le}
 use lib.Seq.{drop-cons, getD-set-same, getD-set-other}
 use Rattle.rules.specs.Lists.{mem, insert, In, Out}
 use Rattle.rules.specs.Graph.{below}
-use Rattle.rules.proofs.Lists.Members.{and-true, eqb-true, in-reverse, reverse-in, in-getD}
+use Rattle.rules.proofs.Lists.Members.{in-reverse, reverse-in, in-getD}
 use Rattle.rules.proofs.Needed.Lacks.{same-truth}
 use Rattle.columns.specs.Area.{Frame}
 use Rattle.columns.specs.Fields.{ORDER, LISTED, STACK, PHASE}
 use Rattle.columns.specs.Lists.{list, Marked}
-use Rattle.columns.proofs.Area.Frames.{frame-none, frame-then, frame-set, frame-more}
+use Rattle.columns.proofs.Area.Frames.{frame-then, frame-set, frame-more}
 use Rattle.columns.proofs.Lists.Swap.{insert-new}
 use Rattle.columns.proofs.Lists.Entries.{holds-room, frame-list}
 use Rattle.columns.proofs.Lists.Marks.{marks-test, marked-self, marked-frame, marked-push}
 use Rattle.stage_walk.specs.Stands.{Context}
-use Rattle.stage_walk.specs.Machine.{Item, item, phases, above, Top, Stack, some, items, seenIn, Going, toGo, walked, Stepped}
+use Rattle.stage_walk.specs.Machine.{Item, item, phases, above, Top, Stack, some, items, seenIn, Going, NextAt, toGo, walked, Stepped}
 use Rattle.stage_walk.proofs.Gates.{kth-none, kth-some, follow-pin, follow-rank, two-most, reads-frame}
 use Rattle.stage_walk.proofs.traversal.Moves.{finish-seen, finish-list, finish-on, chain-few, chain-list, pop, phases-most}
 
@@ -48,20 +46,9 @@ top-of C (some t) = t
 mem-reverse : (p : ℕ) (xs : List ℕ) → mem p (reverse xs) ≡ mem p xs
 mem-reverse p xs = same-truth (mem p (reverse xs)) (mem p xs) (reverse-in p xs) (in-reverse p xs)
 
--- the code's test
-test-in : (k : ℕ) (b : Bool) → eqb k 0 && b ≡ true → (k ≡ 0) × (b ≡ true)
-test-in k b e = let h = and-true (eqb k 0) b e in (eqb-true k 0 (h .0), h .1)
-
-test-out : (k : ℕ) (b : Bool) → eqb k 0 && b ≡ false → k ≡ 0 → b ≡ false
-test-out k b e z = rw (eq-eqb k 0 z) at e
-
--- an item past phase 0 is not tested for being listed
-pub test-no : (k : ℕ) (b : Bool) → (k ≡ 0 → ⊥) → false ≡ eqb k 0 && b
-test-no k b n = rw (ne-eqb k 0 n)
-
--- in phase 0 the test is whether its pin is listed
-pub test-yes : (k : ℕ) (r b : Bool) → k ≡ 0 → r ≡ b → r ≡ eqb k 0 && b
-test-yes k r b z e = rw (eq-eqb k 0 z) e
+-- a pin's mark tells whether it is listed
+pub listed-test : {C : Context} {m : ℕ} {gates w : List ℕ} {d n : ℕ} → Going C m gates w d n → (x : ℕ) → x < m → not (eqb (getD w (LISTED * m + x) 0) 0) ≡ mem x (seenIn m n w)
+listed-test {m = m} {w = w} {n = n} G x h = marks-test (G .listed .marks) x h ∙ sym (mem-reverse x (list ORDER m n w))
 
 -- p and k are the top's pin and phase
 pub record TopAt (C : Context) (m : ℕ) (gates w : List ℕ) (top n p k : ℕ) : Type 0 where
@@ -94,7 +81,7 @@ module _ (C : Context) {m : ℕ} {gates w : List ℕ} {top n p k : ℕ} (A : Top
   top-in = omega (arith, chain-few (C .X .g) (C .X .done) (C .r) (T .rank) (T .under), length-items m w top, G .reads .base .size)
 
   phase-most : k ≤ 2
-  phase-most = ⊎-elim (λ e. omega arith) (λ o. omega (arith, o .most, two-most C p)) (T .how)
+  phase-most = omega (arith, T .opened .most, two-most C p)
 
   under-most : phases S ≤ 2 * top
   under-most = omega (arith, phases-most (C .X .g) (C .X .done) (C .r) (two-most C) (T .under), length-items m w top)
@@ -103,93 +90,117 @@ module _ (C : Context) {m : ℕ} {gates w : List ℕ} {top n p k : ℕ} (A : Top
   unfolding phases
   phases-here = ap phases here
 
-  abbrev test : Bool
-  test = eqb k 0 && not (eqb (getD w (LISTED * m + p) 0) 0)
+  -- what is followed from the top's pin may be asked for
+  pub next-at : NextAt C m gates w p k
+  next-at = record { reads = G .reads; pin = pin-in; most = T .opened .most }
 
-  mark : not (eqb (getD w (LISTED * m + p) 0) 0) ≡ mem p xs
-  mark = marks-test (G .listed .marks) p pin-in
+  out : Out p xs
+  out = sym (mem-reverse p xs) ∙ T .opened .fresh
 
-  -- a listed pin leaves the stack
-  pub step-seen : test ≡ true → Stepped C m gates w (top + 1) n w top n
-  unfolding toGo
-  step-seen e =
-      let t = test-in k _ e in
-      record {
-        went = record {
-          frame = frame-none;
-          going = record { reads = G .reads; listed = G .listed; stack = pop (C .X .g) (C .X .done) (C .r) (T .under) };
-          same = rw here (finish-seen (C .X .g) (C .X .done) (C .r) (C .S .ranked) _ p k S (seenIn m n w) (t .0) (mem-reverse p xs ∙ sym mark ∙ t .1));
+  -- a pin that is not listed finds room in the order
+  pub room : n < m
+  room = holds-room (G .listed .held) (G .listed .once) p pin-in out
+
+  module _ (q : ℕ) (eq : q ≡ getD (below (C .X .g) (C .X .done) p) k m) where
+    abbrev bs : List ℕ
+    bs = below (C .X .g) (C .X .done) p
+
+    pins : (x : ℕ) → In x bs → x < m
+    pins x i = omega (arith, follow-pin C p x i, G .reads .base .size)
+
+    -- no more is followed: the pin is listed
+    pub step-list : (w′ : List ℕ) → q ≡ m → w′ ≡ set (set w (ORDER * m + n) p) (LISTED * m + p) 1 → Stepped C m gates w (top + 1) n w′ top (n + 1)
+    unfolding toGo
+    step-list w′ z ew = rw ew (record {
+      went = record {
+        frame = frame;
+        going = record {
+          reads = reads-frame C (G .reads) frame refl;
+          listed = marked-self now;
+          stack = rw (seen-is, under-is) (pop (C .X .g) (C .X .done) (C .r) (chain-list (C .X .g) (C .X .done) (C .r) p (omega arith) (T .under)));
         };
-        less = omega (arith, phases-here, t .0);
-      }
+        same = rw (here, seen-is, under-is) (finish-list (C .X .g) (C .X .done) (C .r) (C .S .ranked) _ p k S (seenIn m n w) (T .rank) (λ _. T .opened .fresh) (drop-of-length-le bs (kth-none bs m k pins (sym eq ∙ z))));
+      };
+      less = omega (arith, phases-here, ap phases under-is, phase-most, under-most, top-in, room);
+    })
+      where
+        w₂ : List ℕ
+        w₂ = set (set w (ORDER * m + n) p) (LISTED * m + p) 1
 
-  module _ (e : test ≡ false) where
-    fresh : Out p (seenIn m n w)
-    fresh = ⊎-elim (λ z. mem-reverse p xs ∙ sym mark ∙ test-out k _ e z) (λ o. o .fresh) (T .how)
+        frame : Frame walked m w w₂
+        frame = frame-then (frame-set ORDER n p room (omega arith) refl) (frame-set LISTED p 1 pin-in (omega arith) refl)
 
-    out : Out p xs
-    out = sym (mem-reverse p xs) ∙ fresh
+        now : Marked ORDER LISTED m (n + 1) (insert p xs) w₂
+        now = marked-push (G .listed) p pin-in out (λ d. omega arith) (omega (arith, G .reads .base .area .room)) (omega (arith, G .reads .base .area .room))
 
-    -- a pin that is not listed finds room in the order
-    pub room : n < m
-    room = holds-room (G .listed .held) (G .listed .once) p pin-in out
+        seen-is : seenIn m (n + 1) w₂ ≡ p ∷ seenIn m n w
+        seen-is = ap reverse (now .held .is ∙ insert-new p xs out) ∙ reverse-append xs (p ∷ [])
 
-    module _ (q : ℕ) (eq : q ≡ getD (below (C .X .g) (C .X .done) p) k m) where
-      abbrev bs : List ℕ
-      bs = below (C .X .g) (C .X .done) p
+        under-is : items m w₂ top ≡ S
+        under-is = items-same m w w₂ top (λ i h. (
+          getD-set-other (set w (ORDER * m + n) p) (LISTED * m + p) (STACK * m + i) 1 0 (λ d. omega (arith, top-in, pin-in)) ∙ getD-set-other w (ORDER * m + n) (STACK * m + i) p 0 (λ d. omega (arith, room)),
+          getD-set-other (set w (ORDER * m + n) p) (LISTED * m + p) (PHASE * m + i) 1 0 (λ d. omega (arith, pin-in)) ∙ getD-set-other w (ORDER * m + n) (PHASE * m + i) p 0 (λ d. omega (arith, room)),
+        ))
 
-      pins : (x : ℕ) → In x bs → x < m
-      pins x i = omega (arith, follow-pin C p x i, G .reads .base .size)
+    -- pin q is next
+    module _ (ne : q ≡ m → ⊥) where
+      more : k < length bs
+      more = kth-some bs m k (λ d. ne (eq ∙ d))
 
-      -- no more is followed: the pin is listed
-      pub step-list : (w′ : List ℕ) → q ≡ m → w′ ≡ set (set w (ORDER * m + n) p) (LISTED * m + p) 1 → Stepped C m gates w (top + 1) n w′ top (n + 1)
-      unfolding toGo
-      step-list w′ z ew = rw ew (record {
+      next : drop k bs ≡ q ∷ drop (suc k) bs
+      next = drop-cons bs k m more ∙ ap (λ (x : ℕ). x ∷ drop (suc k) bs) (sym eq)
+
+      in-bs : In q bs
+      in-bs = rw eq (in-getD bs k m more)
+
+      -- the next pin followed is a pin of the area
+      pub next-in : q < m
+      next-in = pins q in-bs
+
+      -- a phase more is at most 2
+      pub next-phase : k < 2
+      next-phase = omega (arith, more, two-most C p)
+
+      -- the next pin is listed already: only the phase moves on, as if it had been put on and taken off
+      pub step-skip : (w′ : List ℕ) → not (eqb (getD w (LISTED * m + q) 0) 0) ≡ true → w′ ≡ set w (PHASE * m + top) (k + 1) → Stepped C m gates w (top + 1) n w′ (top + 1) n
+      unfolding toGo phases
+      step-skip w′ t ew = rw ew (record {
         went = record {
-          frame = frame;
+          frame = frame-more refl frame;
           going = record {
             reads = reads-frame C (G .reads) frame refl;
-            listed = marked-self now;
-            stack = rw (seen-is, under-is) (pop (C .X .g) (C .X .done) (C .r) (chain-list (C .X .g) (C .X .done) (C .r) p (omega arith) (T .under)));
+            listed = marked-self (marked-frame (G .listed) frame refl refl (omega arith) (omega arith));
+            stack = rw (seen-is, stack-is) (some (record { pin = T .pin; rank = T .rank; opened = record { most = more; fresh = T .opened .fresh }; under = T .under }));
           };
-          same = rw (here, seen-is, under-is) (finish-list (C .X .g) (C .X .done) (C .r) (C .S .ranked) _ p k S (seenIn m n w) (T .rank) (λ _. fresh) (drop-of-length-le bs (kth-none bs m k pins (sym eq ∙ z))));
+          same = rw (here, seen-is, stack-is) (finish-seen (C .X .g) (C .X .done) (C .r) (C .S .ranked) _ q 0 (item p (suc k) ∷ S) (seenIn m n w) refl (sym (listed-test G q next-in) ∙ t)
+              ∙ finish-on (C .X .g) (C .X .done) (C .r) (C .S .ranked) _ p k S (seenIn m n w) (T .rank) (λ _. T .opened .fresh) q next);
         };
-        less = omega (arith, phases-here, ap phases under-is, phase-most, under-most, top-in, room);
+        less = omega (arith, phases-here, ap phases stack-is, next-phase, under-most, top-in);
       })
         where
-          w₂ : List ℕ
-          w₂ = set (set w (ORDER * m + n) p) (LISTED * m + p) 1
+          w₁ : List ℕ
+          w₁ = set w (PHASE * m + top) (k + 1)
 
-          frame : Frame walked m w w₂
-          frame = frame-then (frame-set ORDER n p room (omega arith) refl) (frame-set LISTED p 1 pin-in (omega arith) refl)
+          frame : Frame (PHASE ∷ []) m w w₁
+          frame = frame-set PHASE top (k + 1) top-in (omega arith) refl
 
-          now : Marked ORDER LISTED m (n + 1) (insert p xs) w₂
-          now = marked-push (G .listed) p pin-in out (λ d. omega arith) (omega (arith, G .reads .base .area .room)) (omega (arith, G .reads .base .area .room))
+          seen-is : seenIn m n w₁ ≡ seenIn m n w
+          seen-is = ap reverse (frame-list frame ORDER n refl (omega arith))
 
-          seen-is : seenIn m (n + 1) w₂ ≡ p ∷ seenIn m n w
-          seen-is = ap reverse (now .held .is ∙ insert-new p xs out) ∙ reverse-append xs (p ∷ [])
+          under-is : items m w₁ top ≡ S
+          under-is = items-same m w w₁ top (λ i h. (getD-set-other w _ _ (k + 1) 0 (λ d. omega (arith, top-in)), getD-set-other w _ _ (k + 1) 0 (λ d. omega arith)))
 
-          under-is : items m w₂ top ≡ S
-          under-is = items-same m w w₂ top (λ i h. (
-            getD-set-other (set w (ORDER * m + n) p) (LISTED * m + p) (STACK * m + i) 1 0 (λ d. omega (arith, top-in, pin-in)) ∙ getD-set-other w (ORDER * m + n) (STACK * m + i) p 0 (λ d. omega (arith, room)),
-            getD-set-other (set w (ORDER * m + n) p) (LISTED * m + p) (PHASE * m + i) 1 0 (λ d. omega (arith, pin-in)) ∙ getD-set-other w (ORDER * m + n) (PHASE * m + i) p 0 (λ d. omega (arith, room)),
-          ))
+          p-is : getD w₁ (STACK * m + top) 0 ≡ p
+          p-is = getD-set-other w _ _ (k + 1) 0 (λ d. omega (arith, top-in)) ∙ sym (A .pin)
 
-      -- pin q is next
-      module _ (ne : q ≡ m → ⊥) where
-        more : k < length bs
-        more = kth-some bs m k (λ d. ne (eq ∙ d))
+          k-is : getD w₁ (PHASE * m + top) 0 ≡ suc k
+          k-is = getD-set-same w _ (k + 1) 0 (omega (arith, top-in, G .reads .base .area .room)) ∙ add-one k
 
-        next : drop k bs ≡ q ∷ drop (suc k) bs
-        next = drop-cons bs k m more ∙ ap (λ (x : ℕ). x ∷ drop (suc k) bs) (sym eq)
+          stack-is : items m w₁ (top + 1) ≡ item p (suc k) ∷ S
+          stack-is = rw (items-one m w₁ top, p-is, k-is, under-is)
 
-        in-bs : In q bs
-        in-bs = rw eq (in-getD bs k m more)
-
-        -- the next pin followed is a pin of the area
-        pub next-in : q < m
-        next-in = pins q in-bs
-
+      -- the next pin is not listed: it is put on the stack
+      module _ (t : not (eqb (getD w (LISTED * m + q) 0) 0) ≡ false) where
         abbrev C₂ : Type 0
         C₂ = Top (C .X .g) (C .X .done) (C .r) (seenIn m n w) q 0 (item p (suc k) ∷ S)
 
@@ -197,17 +208,13 @@ module _ (C : Context) {m : ℕ} {gates w : List ℕ} {top n p k : ℕ} (A : Top
         top₂ = record {
           pin = follow-pin C p q in-bs;
           rank = omega (arith, follow-rank C p q in-bs, T .rank);
-          how = inl refl;
-          under = above {k = suc k} (follow-rank C p q in-bs) (T .pin, T .rank) (record { some = omega arith; most = more; fresh = fresh }) (T .under);
+          opened = record { most = omega arith; fresh = sym (listed-test G q next-in) ∙ t };
+          under = above {k = suc k} (follow-rank C p q in-bs) (T .pin, T .rank) (record { most = more; fresh = T .opened .fresh }) (T .under);
         }
 
         -- the stack has room for it
         pub next-room : top + 1 < m
         next-room = omega (arith, chain-few (C .X .g) (C .X .done) (C .r) (top₂ .rank) (top₂ .under), length-items m w top, G .reads .base .size)
-
-        -- a phase more is at most 2
-        pub next-phase : k < 2
-        next-phase = omega (arith, more, two-most C p)
 
         -- three stores put it on the stack
         pub step-on : (w′ : List ℕ) → w′ ≡ set (set (set w (PHASE * m + top) (k + 1)) (STACK * m + (top + 1)) q) (PHASE * m + (top + 1)) 0 → Stepped C m gates w (top + 1) n w′ (top + 2) n
@@ -220,7 +227,7 @@ module _ (C : Context) {m : ℕ} {gates w : List ℕ} {top n p k : ℕ} (A : Top
               listed = marked-self (marked-frame (G .listed) frame refl refl (omega arith) (omega arith));
               stack = rw (seen-is, stack-is) (some top₂);
             };
-            same = rw (here, seen-is, stack-is) (finish-on (C .X .g) (C .X .done) (C .r) (C .S .ranked) _ p k S (seenIn m n w) (T .rank) (λ _. fresh) q next);
+            same = rw (here, seen-is, stack-is) (finish-on (C .X .g) (C .X .done) (C .r) (C .S .ranked) _ p k S (seenIn m n w) (T .rank) (λ _. T .opened .fresh) q next);
           };
           less = omega (arith, phases-here, phases-next, next-phase, under-most, top-in);
         })

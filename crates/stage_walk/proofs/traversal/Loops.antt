@@ -1,16 +1,16 @@
 -- The loops over the steps: one pin, and all waiting pins. Assumes nothing.
 use mathlib.Core.Path.{_≡_, refl, sym, _∙_, ap}
-use mathlib.Core.Bool.{false}
-use mathlib.Core.Logic.{inl}
+use mathlib.Core.Bool.{true, false, not}
 use mathlib.Core.List.{List, [], _∷_, reverse, reverse-reverse}
 use Prim.Native.Nat.{ℕ, suc, _+_, _-_, _*_, _<_, _≤_}
 use native.Mathlib.Omega.{arith}
 use native.Mathlib.Numerals.{add-one}
+use lib.Dec.{eqb}
 use lib.ListN.{length, getD, set, drop, length-set, drop-of-length-le}
 use lib.Seq.{drop-cons, getD-set-same, getD-set-other}
 use Rattle.rules.specs.Traversal.{thread, visit, traverse, Setting, setting}
 use Rattle.columns.specs.Area.{Frame, among}
-use Rattle.columns.specs.Fields.{ORDER, DONE, WAITING, STACK, PHASE, PLACE}
+use Rattle.columns.specs.Fields.{ORDER, DONE, WAITING, LISTED, STACK, PHASE, PLACE}
 use Rattle.columns.specs.Lists.{list, Holds}
 use Rattle.columns.proofs.Area.Frames.{frame-none, frame-then, frame-set, frame-more}
 use Rattle.columns.proofs.Lists.Entries.{frame-list, holds-at, holds-pin, holds-in}
@@ -20,6 +20,8 @@ use Rattle.stage_walk.specs.Stands.{Context, Begun, Reads}
 use Rattle.stage_walk.specs.Machine.{Item, item, rest, finish, bottom, some, none, items, seenIn, Going, toGo, Went, Stepped, VisitAt, Visited, TraverseAt, GoOnAt, Swept, WentOn, Traversed}
 use Rattle.stage_walk.proofs.Contexts.{order-is}
 use Rattle.stage_walk.proofs.Gates.{reads-frame}
+use Rattle.stage_walk.proofs.traversal.Fuel.{visit-seen}
+use Rattle.stage_walk.proofs.traversal.Area.{listed-test}
 
 -- what a stage starts from can be read
 pub begun-reads : {C : Context} {m n : ℕ} {gates w : List ℕ} → Begun C m n gates w → Reads C m gates w
@@ -59,7 +61,15 @@ module _ {C : Context} {m : ℕ} {gates : List ℕ} where
 
 -- ---- one pin
 
-module _ {C : Context} {m : ℕ} {gates w : List ℕ} {n p : ℕ} (A : VisitAt C m gates w n p) (v : List ℕ) (ev : v ≡ set (set w (STACK * m + 0) p) (PHASE * m + 0) 0) where
+-- a listed pin has been visited
+pub visited-before : {C : Context} {m : ℕ} {gates w : List ℕ} {n p : ℕ} → VisitAt C m gates w n p → not (eqb (getD w (LISTED * m + p) 0) 0) ≡ true → Visited C m gates w n p w n
+visited-before {C} {m} {gates} {w} {n} {p} A t = record {
+  frame = frame-none;
+  going = A .going;
+  lists = sym (visit-seen (C .X .g) (C .X .done) (C .r) (C .S .ranked) _ p (seenIn m n w) (sym (listed-test (A .going) p (A .pin)) ∙ t));
+}
+
+module _ {C : Context} {m : ℕ} {gates w : List ℕ} {n p : ℕ} (A : VisitAt C m gates w n p) (t : not (eqb (getD w (LISTED * m + p) 0) 0) ≡ false) (v : List ℕ) (ev : v ≡ set (set w (STACK * m + 0) p) (PHASE * m + 0) 0) where
   w₂ : List ℕ
   w₂ = set (set w (STACK * m + 0) p) (PHASE * m + 0) 0
 
@@ -78,12 +88,12 @@ module _ {C : Context} {m : ℕ} {gates w : List ℕ} {n p : ℕ} (A : VisitAt C
   seen-same : seenIn m n v ≡ seenIn m n w
   seen-same = ap reverse (frame-list entered ORDER n refl (omega arith))
 
-  -- one pin on the stack, to be visited
+  -- one pin on the stack, which is not listed
   pub visit-going : Going C m gates v 1 n
   visit-going = record {
     reads = reads-frame C (A .going .reads) entered refl;
     listed = marked-self (marked-frame (A .going .listed) entered refl refl (omega arith) (omega arith));
-    stack = rw one-item (some {p = p} {k = 0} (record { pin = rw (A .going .reads .base .size) (A .pin); rank = rw (A .going .reads .base .size) (A .rank); how = inl refl; under = bottom }));
+    stack = rw one-item (some {p = p} {k = 0} (record { pin = rw (A .going .reads .base .size) (A .pin); rank = rw (A .going .reads .base .size) (A .rank); opened = record { most = omega arith; fresh = rw seen-same (sym (listed-test (A .going) p (A .pin)) ∙ t) }; under = bottom }));
   }
 
   -- once the stack is empty the pin is visited with all below it

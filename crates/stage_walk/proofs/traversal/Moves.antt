@@ -20,7 +20,7 @@ module _ (g : List Node) (done : List ℕ) (r : ℕ → ℕ) (R : Ranked g done 
   rest-open f p (suc k) seen h o = refl
 
   module _ (f p k : ℕ) (s : List Item) (seen : List ℕ) where
-    -- a listed pin taken off leaves the same to do
+    -- a listed pin on top adds nothing to do
     pub finish-seen : k ≡ 0 → In p seen → finish f g done s seen ≡ finish f g done (item p k ∷ s) seen
     unfolding finish rest
     finish-seen e i = rw (e, visit-seen g done r R f p seen i)
@@ -45,7 +45,7 @@ module _ (g : List Node) (done : List ℕ) (r : ℕ → ℕ) where
   -- a pin of lower rank is listed
   pub chain-list : (q : ℕ) {seen : List ℕ} {b : ℕ} {s : List Item} → r q ≤ b → Chain g done r seen b s → Chain g done r (q ∷ seen) b s
   chain-list q h bottom = bottom
-  chain-list q {seen = seen} h (above {p = p} l k o c) = above l k (record { some = o .some; most = o .most; fresh = fresh }) (chain-list q (omega arith) c)
+  chain-list q {seen = seen} h (above {p = p} l k o c) = above l k (record { most = o .most; fresh = fresh }) (chain-list q (omega arith) c)
     where
       fresh : Out p (q ∷ seen)
       fresh = split (mem p (q ∷ seen)) (λ e. elim (in-cons p q seen e) [ inl d ↦ absurd (omega (arith, ap r d)) | inr d ↦ true-false d (o .fresh) ]) (λ e. e)
@@ -53,7 +53,7 @@ module _ (g : List Node) (done : List ℕ) (r : ℕ → ℕ) where
   -- without its top a stack is still one
   pub pop : {seen : List ℕ} {b : ℕ} {s : List Item} → Chain g done r seen b s → Stack g done r seen s
   pop bottom = none
-  pop (above l k o c) = some (record { pin = k .0; rank = k .1; how = inr o; under = c })
+  pop (above l k o c) = some (record { pin = k .0; rank = k .1; opened = o; under = c })
 
   -- an item's phase is at most 2
   pub phases-most : ((p : ℕ) → length (below g done p) ≤ 2) → {seen : List ℕ} {b : ℕ} {s : List Item} → Chain g done r seen b s → phases s ≤ 2 * length s
