@@ -28,7 +28,8 @@ use Rattle.stage_tree.specs.Bits.{Standing}
 use Rattle.stage_tree.proofs.Bits.Standing.{first-stands}
 use Rattle.stage_loop.specs.Loop.{Changed, Counted, SettleAt, LeanAt, Leaned}
 use Rattle.stage_loop.specs.Filling.{RowAt, GrowAt, Grown, FillAt, FilledTree}
-use Rattle.stage_loop.proofs.Laws.Tries.{kept-none, kept-then, kept-changed, changed-then, set-kept, noted-kept, clear-kept, tally-frame, count-at, counted}
+use Rattle.stage_tree.proofs.Counts.Kept.{tally-frame}
+use Rattle.stage_loop.proofs.Laws.Tries.{kept-none, kept-then, kept-changed, changed-then, set-kept, noted-kept, clear-kept, count-at, counted}
 
 -- a row's start, from what a height answers
 pub row-there : {K h r : ℕ} → RowAt K h → r ≡ orZero (hasLevel K h) (rowAt K h) → r ≡ rowAt K h

@@ -28,7 +28,7 @@ use Rattle.stage_walk.proofs.Contexts.{work}
 use Rattle.stage_tree.specs.Counts as counts
 use Rattle.stage_tree.specs.Counts.{roomIn}
 use Rattle.stage_tree.specs.Bits as bits
-use Rattle.stage_tree.proofs.Counts.Kept.{counts as counts-of}
+use Rattle.stage_tree.proofs.Counts.Kept.{tally-frame, counts as counts-of}
 use Rattle.stage_loop.specs.Loop.{Kept, Changed, NotedSet, Counted, SettleAt, Settled, TryAt, Tried}
 
 -- ---- the frame
@@ -62,15 +62,6 @@ kept-changed k = record { frame = frame-more refl (k .frame); rest = k .rest }
 -- two changes are one
 pub changed-then : {m : ℕ} {u v w : List ℕ} → Changed m u v → Changed m v w → Changed m u w
 changed-then a b = record { frame = frame-then (a .frame) (b .frame); rest = λ j x y z t. b .rest j x y z t ∙ a .rest j x y z t }
-
--- the counts stay where neither they nor the tail are named
-pub tally-frame : {fs : List ℕ} {C : Context} {m : ℕ} {pl w w′ : List ℕ} → Frame fs m w w′ → among fs CELLS ≡ false → among fs 16 ≡ false → Tally C m pl w → Tally C m pl w′
-tally-frame {m = m} f c t T = record {
-  cells = λ x b. f .cell CELLS c (omega arith) x b ∙ T .cells x b;
-  ones = f .past t (16 * m + ONES) (omega arith) ∙ T .ones;
-  pins = f .past t (16 * m + PINS) (omega arith) ∙ T .pins;
-  total = f .past t (16 * m + FILLED) (omega arith) ∙ T .total;
-}
 
 -- what the stage starts from stays
 module _ {m : ℕ} {w w′ : List ℕ} (f : Changed m w w′) {C : Context} where
