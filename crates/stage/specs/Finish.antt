@@ -9,7 +9,7 @@ use Rattle.rules.specs.Traversal.{levelAt}
 use Rattle.rules.specs.Placing.{tree, neededOf}
 use Rattle.rules.specs.Ending.{plan, Stage?, refused, stage, close, inNeed, lastStage, written, rest, finish}
 use Rattle.rules.specs.Inside.Plans.{Fair}
-use Rattle.columns.specs.Fields.{ORDER, DONE, WAITING, CELLS, NEEDED, STACK, PHASE, PLACE, MARK, SPARE, TAIL}
+use Rattle.columns.specs.Fields.{ORDER, DONE, LEVEL, WAITING, CELLS, REVERSE, NEEDED, LISTED, STACK, PHASE, PLACE, MARK, SPARE, TAIL}
 use Rattle.columns.specs.Area.{Room, Frame}
 use Rattle.columns.specs.Lists.{Holds, Marks, Clear, Marked, Placed}
 use Rattle.stage_runs.specs.declared.WordRule.{WordRule as Asked}
@@ -18,6 +18,7 @@ use Rattle.stage_tree.specs.Bits.{Standing}
 use Rattle.stage_runs.specs.Rule.{ruleOf}
 use Rattle.stage_runs.specs.declared.Spent.{Spent}
 use Rattle.stage_ending.specs.declared.last.Kept.{Kept}
+use Rattle.stage_ending.specs.Close.{Gone}
 use Rattle.stage.specs.declared.finish.Outcome.{Outcome}
 
 -- the plan of rules 2 to 7 stands; o pins are listed, n wait, q are needed
@@ -60,7 +61,7 @@ pub record Whole (C : Context) (m at room : ℕ) (s : Stage?) (words : List ℕ)
   pub tail : (j : ℕ) → j < 259 → getD w′ (16 * m + j) 0 ≡ 0
 
 abbrev pub touched : List ℕ
-touched = DONE ∷ WAITING ∷ CELLS ∷ STACK ∷ PHASE ∷ PLACE ∷ MARK ∷ SPARE ∷ TAIL ∷ []
+touched = DONE ∷ LEVEL ∷ WAITING ∷ CELLS ∷ REVERSE ∷ LISTED ∷ STACK ∷ PHASE ∷ PLACE ∷ MARK ∷ SPARE ∷ TAIL ∷ []
 
 -- what refuses the stage; no words, waiting pins or cells are told
 pub record Refuses (s : Stage?) (e : Outcome) : Type 0 where
@@ -69,11 +70,12 @@ pub record Refuses (s : Stage?) (e : Outcome) : Type 0 where
   pub waiting : e .waiting ≡ 0
   pub cells : e .cells ≡ 0
 
--- s is the stage, or what refuses it
+-- s is the stage, and what the walks wrote at its pins is gone; or what refuses it
 pub record Finished (C : Context) (m at room : ℕ) (s : Stage?) (pl w words : List ℕ) (e : Outcome) (pl′ w′ words′ : List ℕ) : Type 0 where
   pub changed : Changed touched m at room pl w words pl′ w′ words′
   pub refuses : 0 < e .number → Refuses s e
   pub whole : e .number ≡ 0 → Whole C m at room s words e pl′ w′ words′
+  pub gone : e .number ≡ 0 → Gone m (C .X .order) w w′
 
 -- ---- between the rules: pl is the plan before rule 8, pl′ the one that stands
 

@@ -46,6 +46,6 @@ pub fn build_one_stage(
         rule,
         tally,
     );
-    forget(work, m, walk);
+    forget(work, m, walk.levels);
     r
 }

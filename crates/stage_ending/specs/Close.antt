@@ -6,7 +6,7 @@ use Prim.Native.Nat.{ℕ, _+_, _*_, _<_, _≤_}
 use lib.Dec.{eqb}
 use lib.ListN.{getD, take}
 use Rattle.rules.specs.Lists.{mem, keep, insertAll, swapOutAll, In, Out}
-use Rattle.columns.specs.Fields.{ORDER, DONE, WAITING, CELLS, STACK, PLACE, MARK, SPARE, TAIL}
+use Rattle.columns.specs.Fields.{ORDER, DONE, LEVEL, WAITING, CELLS, REVERSE, LISTED, STACK, PLACE, MARK, SPARE, TAIL}
 use Rattle.columns.specs.Area.{Room, Frame}
 use Rattle.columns.specs.Lists.{list, Holds, Marked, Placed, Clear}
 
@@ -41,6 +41,25 @@ pub record Retired (m : ℕ) (xs w w′ : List ℕ) : Type 0 where
   pub cells : Zeroed CELLS m xs w w′
   pub marks : Zeroed MARK m xs w w′
   pub spare : Zeroed SPARE m xs w w′
+
+-- what the walks wrote at the pins xs goes
+pub record Gone (m : ℕ) (xs w w′ : List ℕ) : Type 0 where
+  pub listed : Zeroed LISTED m xs w w′
+  pub levels : Zeroed LEVEL m xs w w′
+  pub reverse : Zeroed REVERSE m xs w w′
+
+pub record Unlisted (m : ℕ) (xs w w′ : List ℕ) : Type 0 where
+  pub frame : Frame (LEVEL ∷ REVERSE ∷ LISTED ∷ []) m w w′
+  pub gone : Gone m xs w w′
+
+-- both
+pub record Swept (m : ℕ) (xs w w′ : List ℕ) : Type 0 where
+  pub frame : Frame (DONE ∷ LEVEL ∷ CELLS ∷ REVERSE ∷ LISTED ∷ MARK ∷ SPARE ∷ []) m w w′
+  pub done : (p : ℕ) → p < m → getD w′ (DONE * m + p) 0 ≡ either (mem p xs && not (eqb (getD w (CELLS * m + p) 0) 0)) 1 (getD w (DONE * m + p) 0)
+  pub cells : Zeroed CELLS m xs w w′
+  pub marks : Zeroed MARK m xs w w′
+  pub spare : Zeroed SPARE m xs w w′
+  pub gone : Gone m xs w w′
 
 pub record RetireAt (m k : ℕ) (w : List ℕ) : Type 0 where
   pub area : Room m w
@@ -104,11 +123,12 @@ pub record CloseAt (m o n r : ℕ) (w : List ℕ) : Type 0 where
   pub spare : Within SPARE m (list ORDER m o w) w
 
 pub record Closed (m o n r : ℕ) (w w′ : List ℕ) (e : ℕ) : Type 0 where
-  pub frame : Frame (DONE ∷ WAITING ∷ CELLS ∷ PLACE ∷ MARK ∷ SPARE ∷ TAIL ∷ []) m w w′
+  pub frame : Frame (DONE ∷ LEVEL ∷ WAITING ∷ CELLS ∷ REVERSE ∷ LISTED ∷ PLACE ∷ MARK ∷ SPARE ∷ TAIL ∷ []) m w w′
   pub past : (j : ℕ) → 259 ≤ j → getD w′ (16 * m + j) 0 ≡ getD w (16 * m + j) 0
   pub done : (p : ℕ) → p < m → getD w′ (DONE * m + p) 0 ≡ either (mem p (list ORDER m o w) && not (eqb (getD w (CELLS * m + p) 0) 0)) 1 (getD w (DONE * m + p) 0)
   pub waiting : Placed WAITING PLACE m e (swapOutAll (list STACK m r w) (list WAITING m n w)) w′
   pub cells : Clear CELLS m w′
   pub marks : Clear MARK m w′
   pub spare : Clear SPARE m w′
+  pub gone : Gone m (list ORDER m o w) w w′
   pub tail : (j : ℕ) → j < 259 → getD w′ (16 * m + j) 0 ≡ 0

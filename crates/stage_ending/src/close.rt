@@ -1,8 +1,11 @@
 // Rule 11: what is realised, and what is left to wait.
 use columns::CELLS;
 use columns::DONE;
+use columns::LEVEL;
+use columns::LISTED;
 use columns::MARK;
 use columns::ORDER;
+use columns::REVERSE;
 use columns::SPARE;
 use columns::STACK;
 use columns::WAITING;
@@ -16,7 +19,7 @@ use graph::Pin;
 ghost use Prim.Native.Nat.{_<_};
 ghost use Rattle.columns.specs.Lists.{list};
 ghost use Rattle.columns.specs.Fields as fields;
-ghost use Rattle.stage_ending.specs.Close.{RetireAt, Retired, PinAt, Wiped, LeaveAt, Left, OneAt, One, RealiseAt, Realised, CloseAt, Closed};
+ghost use Rattle.stage_ending.specs.Close.{RetireAt, Retired, PinAt, Wiped, Unlisted, Swept, LeaveAt, Left, OneAt, One, RealiseAt, Realised, CloseAt, Closed};
 ghost use mathlib.Core.List.{[], _∷_};
 
 // The count and the marks of pin p go.
@@ -42,15 +45,26 @@ fn retire(work: &mut [u32], m: usize, p: Pin)
     wipe(work, m, p);
 }
 
-// The k pins of the order.
+// Pin p is no longer listed, and has no level or reverse level.
+fn unlist(work: &mut [u32], m: usize, p: Pin)
+    requires { ⌜ PinAt m (p .0) (now work) ⌝ }
+    ensures { λ _. ⌜ Unlisted m (p .0 ∷ []) (now (work .entry)) (now (work .exit)) ⌝ }
+{
+    set_field(work, m, p, LISTED, 0);
+    set_field(work, m, p, LEVEL, 0);
+    set_field(work, m, p, REVERSE, 0);
+}
+
+// The k pins of the order, in one pass.
 fn retire_all(work: &mut [u32], m: usize, k: usize)
     requires { ⌜ RetireAt m k (now work) ⌝ }
-    ensures { λ _. ⌜ Retired m (list fields.ORDER m k (now (work .entry))) (now (work .entry)) (now (work .exit)) ⌝ }
+    ensures { λ _. ⌜ Swept m (list fields.ORDER m k (now (work .entry))) (now (work .entry)) (now (work .exit)) ⌝ }
 {
     let mut i = 0;
     while i < k {
         let p = pin_at(work, m, i, ORDER);
         retire(work, m, p);
+        unlist(work, m, p);
         i += 1;
     }
 }

@@ -1,21 +1,15 @@
-// What a stage starts from: the walks of rules 1 to 3, then the level lists, ranked. `forget` empties their columns again.
+// What a stage starts from: the walks of rules 1 to 3, then the level lists, ranked.
 use cells::Height;
 use cells::wide;
 use columns::ENDS;
-use columns::LEVEL;
-use columns::LISTED;
-use columns::ORDER;
-use columns::REVERSE;
 use columns::STARTS;
 use columns::clear_front;
-use columns::pin_at;
-use columns::set_field;
 use ranking::level_lists;
 use stage_levels::levels;
 use stage_levels::reverse_levels;
 use stage_walk::traversal::traverse;
 ghost use Rattle.rules.specs.Inside.Some.{Some, Every};
-ghost use Rattle.stage_prepare.specs.Prepared.{PrepareAt, Prepared, UnlistAt, ForgetAt, Unlisted, Forgot};
+ghost use Rattle.stage_prepare.specs.Prepared.{PrepareAt, Prepared, ForgetAt, Forgot};
 
 pub mod ranking;
 
@@ -42,27 +36,11 @@ pub fn prepare(gates: &[u32], work: &mut [u32], m: usize, n: usize, height: Heig
     }
 }
 
-// The k pins of the order are no longer listed, and have no level or reverse level.
-fn unlist(work: &mut [u32], m: usize, k: usize)
-    requires { ⌜ UnlistAt m k (now work) ⌝ }
-    ensures { λ _. ⌜ Unlisted m k k (now (work .entry)) (now (work .exit)) ⌝ }
-{
-    let mut i = 0;
-    while i < k {
-        let p = pin_at(work, m, i, ORDER);
-        set_field(work, m, p, LISTED, 0);
-        set_field(work, m, p, LEVEL, 0);
-        set_field(work, m, p, REVERSE, 0);
-        i += 1;
-    }
-}
-
-// What `prepare` found empty is so again.
-pub fn forget(work: &mut [u32], m: usize, walk: Walk)
-    requires { ⌜ ForgetAt m (walk .listed) (walk .levels) (now work) ⌝ }
+// No level has a list any more.
+pub fn forget(work: &mut [u32], m: usize, levels: usize)
+    requires { ⌜ ForgetAt m levels (now work) ⌝ }
     ensures { λ _. ⌜ Forgot m (now (work .entry)) (now (work .exit)) ⌝ }
 {
-    unlist(work, m, walk.listed);
-    clear_front(work, m, walk.levels, STARTS);
-    clear_front(work, m, walk.levels, ENDS);
+    clear_front(work, m, levels, STARTS);
+    clear_front(work, m, levels, ENDS);
 }

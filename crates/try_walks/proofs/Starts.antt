@@ -24,11 +24,10 @@ use Rattle.columns.proofs.Lists.Clears.{clear-frame}
 use Rattle.columns.proofs.Lists.Places.{placed-none, wait-at}
 use Rattle.rules.specs.Inside.Some.{Some}
 use Rattle.stage_walk.specs.Stands.{Context}
-use Rattle.stage_needed.specs.Needed.{NeededAt, Needed}
-use Rattle.stage_prepare.specs.Prepared.{Prepared, ForgetAt}
+use Rattle.stage_needed.specs.Needed.{NeededAt}
+use Rattle.stage_prepare.specs.Prepared.{Prepared}
 use Rattle.stage_walk.proofs.Contexts.{context}
 use Rattle.stage_needed.proofs.Laws.Collecting.{step-needed}
-use Rattle.stage_prepare.proofs.Forgets.{forget-at, forget-frame}
 use Rattle.try_walks.specs.Shown.{StartAt, GiveAt, Given, WaitAt, Waiting, Started}
 use Rattle.try_walks.proofs.Rights.{pins-right, length-graph, Right, graph-right}
 
@@ -146,7 +145,3 @@ pub needed-at : {C : Context} {m n k top levels : ℕ} {gates w w′ : List ℕ}
 needed-at {C} S P = step-needed (P .set) []
     (λ x h. P .frame .cell CELLS refl (omega arith) x h ∙ S .cells x h ∙ sym (no-cells (C .X .K) x))
     (marks-none (λ p h. P .frame .cell MARK refl (omega arith) p h ∙ S .marks p h))
-
--- the needed pins name no column that `forget` asks about
-pub end-at : {C : Context} {m n k top levels c : ℕ} {pl gates w w′ w″ : List ℕ} → Prepared C m n gates w w′ k top levels → Needed C pl m w′ w″ c → ForgetAt m k levels w″
-end-at P N = forget-frame (forget-at P) (N .frame) refl refl refl refl refl refl

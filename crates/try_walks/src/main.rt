@@ -15,7 +15,6 @@ use graph::Pin;
 use io::print_decimal;
 use io::write_all;
 use stage_needed::needed;
-use stage_prepare::forget;
 use stage_prepare::prepare;
 ghost use Prim.Native.Nat.{_+_, _*_, _≤_};
 ghost use lib.ListN.{length};
@@ -109,7 +108,6 @@ fn show(name: &[u8], gates: &[u32], given: &[u32], waiting: &[u32], work: &mut [
     let c = needed(gates, work, m, n, k);
     write_all(1, name);
     print(work, m, k, walk.levels, c);
-    forget(work, m, walk);
 }
 
 const NONE: u32 = 4294967295;

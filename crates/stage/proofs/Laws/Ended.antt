@@ -1,7 +1,7 @@
 -- Rule 11 after the others: the stage. Assumes nothing.
 use mathlib.Core.Path.{_≡_, refl, _∙_}
 use mathlib.Core.Bool.{Bool, true, false, _&&_}
-use mathlib.Core.List.{List, _++_}
+use mathlib.Core.List.{List, [], _++_}
 use Prim.Native.Nat.{ℕ, _+_, _*_, _<_, _≤_}
 use native.Mathlib.Omega.{arith}
 use lib.ListN.{length, getD}
@@ -11,7 +11,7 @@ use Rattle.rules.specs.Ending.{close}
 use Rattle.rules.proofs.Lists.Members.{split}
 use Rattle.columns.specs.Fields.{ORDER, DONE, WAITING, CELLS, FILLED}
 use Rattle.columns.specs.Lists.{list, bit}
-use Rattle.columns.proofs.Area.Frames.{frame-then, frame-more, frame-room}
+use Rattle.columns.proofs.Area.Frames.{frame-none, frame-then, frame-more, frame-room}
 use Rattle.columns.proofs.Lists.Entries.{holds-self, holds-frame}
 use Rattle.columns.proofs.Lists.Marks.{marks-frame, marked-self}
 use Rattle.columns.proofs.Lists.Places.{placed-frame, placed-self}
@@ -20,7 +20,7 @@ use Rattle.stage_runs.specs.declared.Spent.{Spent}
 use Rattle.stage_runs.proofs.Laws.Laid.{laid-length, laid-below, laid-past}
 use Rattle.stage_ending.specs.declared.last.Kept.{Kept}
 use Rattle.stage_ending.specs.Close.{either, CloseAt, Closed}
-use Rattle.stage_ending.proofs.Laws.Close.{mem-append}
+use Rattle.stage_ending.proofs.Laws.Close.{mem-append, gone-frame}
 use Rattle.stage_ending.proofs.Laws.Closed.{within-frame}
 use Rattle.stage.specs.Finish.{Changed, touched, Midway, LastingAt, Lasting, Ends}
 use Rattle.stage.proofs.Laws.Midway.{within-marks, tree-listed, waiting-order, counts, cells-within, need-waits}
@@ -97,6 +97,7 @@ module _ {C : Context} {pl : List ℕ} {m K half o n at room : ℕ} {s : Spent} 
           spare = D .spare;
           tail = D .tail;
         };
+        gone = λ h. rw order-is at (gone-frame (L .frame) (D .gone) (frame-none {fs = []}) refl refl refl refl refl refl);
       };
       longer = λ h. L .longer;
     }

@@ -2,7 +2,7 @@
 use mathlib.Core.Path.{_≡_, refl, sym, ap, _∙_}
 use mathlib.Core.Logic.{inl, inr}
 use mathlib.Core.Bool.{Bool, true, false}
-use mathlib.Core.List.{List}
+use mathlib.Core.List.{List, []}
 use Prim.Native.Nat.{ℕ, _+_, _*_, _<_, _≤_}
 use native.Mathlib.Omega.{arith}
 use lib.Dec.{ltb}
@@ -18,7 +18,7 @@ use Rattle.rules.proofs.Needed.Lacks.{same-needed, wanted-low, true-ltb, false-
 use Rattle.rules.proofs.Stage.Branches.{finish-seven, finish-full, finish-none}
 use Rattle.columns.specs.Fields.{NEEDED}
 use Rattle.columns.specs.Lists.{list}
-use Rattle.columns.proofs.Area.Frames.{frame-then, frame-more, frame-room}
+use Rattle.columns.proofs.Area.Frames.{frame-none, frame-then, frame-more, frame-room}
 use Rattle.columns.proofs.Lists.Entries.{holds-self, holds-frame}
 use Rattle.columns.proofs.Lists.Marks.{marks-frame, marked-frame}
 use Rattle.columns.proofs.Lists.Places.{placed-frame}
@@ -31,6 +31,7 @@ use Rattle.cells.specs.Answers.{orZero}
 use Rattle.stage_runs.proofs.Laws.Half.{half-is}
 use Rattle.stage_runs.proofs.Laws.Laid.{laid-length, laid-below, laid-past, laid-over}
 use Rattle.stage_ending.specs.Rest.{RestAt, Filled}
+use Rattle.stage_ending.proofs.Laws.Close.{gone-frame}
 use Rattle.stage.specs.declared.finish.Outcome.{Outcome}
 use Rattle.stage.specs.Finish.{FinishAt, Changed, touched, Finished, Midway, RestingAt, LastingAt, Ends}
 use Rattle.rules.specs.Traversal.{levelAt}
@@ -89,6 +90,7 @@ module _ {C : Context} {pl : List ℕ} {m K half o n q at room : ℕ} {s : Spent
           cells = refl;
         };
         whole = λ h. absurd (omega arith);
+        gone = λ h. absurd (omega arith);
       };
       longer = λ h. absurd (omega arith);
     }
@@ -125,7 +127,7 @@ module _ {C : Context} {pl : List ℕ} {m K half o n q at room : ℕ} {s : Spent
 
     -- what follows rule 9 ends what began before it
     pub ends-rest : {e : Outcome} {pl3 w2 words1 : List ℕ} → Ends C pl m at room s pl2 w1 words e pl3 w2 words1 → Ends C pl m at room s pl1 w words e pl3 w2 words1
-    ends-rest E = record { finished = record { changed = changed-then filling (E .finished .changed); refuses = E .finished .refuses; whole = E .finished .whole }; longer = E .longer }
+    ends-rest E = record { finished = record { changed = changed-then filling (E .finished .changed); refuses = E .finished .refuses; whole = E .finished .whole; gone = λ z. gone-frame (F .kept .frame) (E .finished .gone z) (frame-none {fs = []}) refl refl refl refl refl refl }; longer = E .longer }
 
 -- ---- rule 8 and test 7
 
@@ -171,6 +173,7 @@ module _ {C : Context} {m K half o n q : ℕ} {asked : Asked} {at room : ℕ} {g
       changed = running;
       refuses = λ d. record { is = finish-seven (C .X) room pl (true-ltb room (length early) (omega (arith, R .count))); words = refl; waiting = refl; cells = refl };
       whole = λ d. absurd (omega arith);
+      gone = λ d. absurd (omega arith);
     }
 
     module _ (h : s .words ≤ room) where
@@ -233,6 +236,7 @@ module _ {C : Context} {m K half o n q : ℕ} {asked : Asked} {at room : ℕ} {g
               spare = W .spare;
               tail = W .tail;
             };
+        gone = λ z. gone-frame (R .touched .frame) (E .finished .gone z) (frame-none {fs = []}) refl refl refl refl refl refl;
       }
 
 -- the stage is the same where the room has another name

@@ -14,7 +14,9 @@ use Rattle.columns.proofs.Lists.Clears.{clear-frame}
 use Rattle.stage_runs.specs.declared.WordRule.{WordRule as Asked}
 use Rattle.stage_walk.specs.Stands.{Context}
 use Rattle.stage_prepare.specs.Prepared.{PrepareAt, Prepared, ForgetAt, Forgot}
-use Rattle.stage_prepare.proofs.Forgets.{forget-at, forget-frame}
+use Rattle.stage_prepare.proofs.Forgets.{forget-at, forget-frame, listed-outside, level-outside, reverse-outside}
+use Rattle.stage_ending.proofs.Laws.Close.{zeroed-clear}
+use Rattle.stage_ending.proofs.Laws.Closed.{within-frame}
 use Rattle.stage.specs.declared.finish.Outcome.{Outcome}
 use Rattle.stage_loop.specs.Filling.{FillAt, FilledTree}
 use Rattle.stage.specs.Finish.{FinishAt, Changed, Whole, Finished}
@@ -67,9 +69,9 @@ module _ {C : Context} {m K half n : ℕ} {asked : Asked} {at room : ℕ} {gates
       }
 
       module _ {e : Outcome} {pl₂ w₃ words₁ : List ℕ} (E : Finished C m at room (finish (C .X) room pl₁) pl₁ w₂ words e pl₂ w₃ words₁) where
-        -- behind these the walks may be forgotten
-        pub stage-forget : ForgetAt m k levels w₃
-        stage-forget = forget-frame (forget-frame (forget-at P) (F .kept .frame) refl refl refl refl refl refl) (E .changed .frame) refl refl refl refl refl refl
+        -- behind these the lists may be forgotten
+        pub stage-forget : ForgetAt m levels w₃
+        stage-forget = forget-frame (forget-frame (forget-at P) (F .kept .frame) refl refl) (E .changed .frame) refl refl
 
         module _ {w₄ : List ℕ} (G : Forgot m w₃ w₄) where
           is-built : finish (C .X) room pl₁ ≡ built C room
@@ -110,5 +112,12 @@ module _ {C : Context} {m K half n : ℕ} {asked : Asked} {at room : ℕ} {gates
             changed = changes;
             refuses = λ h. let R = E .refuses h in record { is = sym is-built ∙ R .is; words = R .words; waiting = R .waiting; cells = R .cells };
             whole = stands;
-            fresh = λ z. record { listed = G .listed; levels = G .levels; reverse = G .reverse; starts = G .starts; ends = G .ends; spare = clear-frame (E .whole z .spare) (G .frame) refl (omega arith) };
+            fresh = λ z. record {
+              listed = clear-frame (zeroed-clear (within-frame (F .kept .frame) refl (omega arith) (record { zero = listed-outside P })) (E .gone z .listed)) (G .frame) refl (omega arith);
+              levels = clear-frame (zeroed-clear (within-frame (F .kept .frame) refl (omega arith) (record { zero = level-outside P })) (E .gone z .levels)) (G .frame) refl (omega arith);
+              reverse = clear-frame (zeroed-clear (within-frame (F .kept .frame) refl (omega arith) (record { zero = reverse-outside P })) (E .gone z .reverse)) (G .frame) refl (omega arith);
+              starts = G .starts;
+              ends = G .ends;
+              spare = clear-frame (E .whole z .spare) (G .frame) refl (omega arith);
+            };
           }

@@ -13,7 +13,7 @@ use borrow.Author.Tests.{eq-eqb, ne-eqb}
 use Rattle.rules.specs.Lists.{mem, keep, insertAll, swapOut, swapOutAll, In, Out, Once, nobody, one}
 use Rattle.rules.proofs.Lists.Members.{split, in-getD, getD-in, true-false, in-append-left, keep-append, insertAll-append}
 use Rattle.rules.proofs.Written.Words.{left-out}
-use Rattle.columns.specs.Fields.{ORDER, DONE, WAITING, CELLS, STACK, MARK, SPARE}
+use Rattle.columns.specs.Fields.{ORDER, DONE, LEVEL, WAITING, CELLS, REVERSE, LISTED, STACK, MARK, SPARE}
 use Rattle.columns.specs.Area.{among, Frame}
 use Rattle.columns.specs.Lists.{list, Clear, EnlistAt, Enlisted, SwapAt, Swapped}
 use Rattle.columns.proofs.Area.Columns.{at-set, at-set-past}
@@ -22,7 +22,7 @@ use Rattle.columns.proofs.Lists.Entries.{holds-at}
 use Rattle.columns.proofs.Lists.Marks.{enlist-at}
 use Rattle.columns.proofs.Lists.Places.{swap-out-at, swapped}
 use Rattle.columns.proofs.Lists.Swap.{once-place}
-use Rattle.stage_ending.specs.Close.{either, PinAt, Within, Zeroed, Wiped, Retired, RetireAt, LeaveAt, Leaving, Left, isTree, OneAt, One, RealiseAt, Realising, Realised}
+use Rattle.stage_ending.specs.Close.{either, PinAt, Within, Zeroed, Wiped, Retired, Gone, Unlisted, Swept, RetireAt, LeaveAt, Leaving, Left, isTree, OneAt, One, RealiseAt, Realising, Realised}
 
 -- ---- lists
 
@@ -90,26 +90,45 @@ zeroed-frame {f} {m} {fs} {gs} {xs} F Z G a b h = record { field = λ p l. G .ce
 pub zeroed-clear : {f m : ℕ} {xs w w′ : List ℕ} → Within f m xs w → Zeroed f m xs w w′ → Clear f m w′
 zeroed-clear {f} {m} {xs} {w} A Z = record { zero = λ p h. Z .field p h ∙ split (mem p xs) (λ e. rw e refl) (λ e. rw e (A .zero p h e)) }
 
--- ---- the pins above level 0 are realised
+-- what the walks wrote goes, whatever happens to other columns before and after
+pub gone-frame : {m : ℕ} {fs gs xs t u v w : List ℕ} → Frame fs m t u → Gone m xs u v → Frame gs m v w → among fs LISTED ≡ false → among fs LEVEL ≡ false → among fs REVERSE ≡ false → among gs LISTED ≡ false → among gs LEVEL ≡ false → among gs REVERSE ≡ false → Gone m xs t w
+gone-frame F Z G a b c d e f = record { listed = zeroed-frame F (Z .listed) G a d (omega arith); levels = zeroed-frame F (Z .levels) G b e (omega arith); reverse = zeroed-frame F (Z .reverse) G c f (omega arith) }
 
--- no pin retired changes nothing
-pub retired-none : {m : ℕ} {w : List ℕ} → Retired m [] w w
+gone-then : {m : ℕ} {xs ys u v w : List ℕ} → Gone m xs u v → Gone m ys v w → Gone m (xs ++ ys) u w
+gone-then a b = record { listed = zeroed-then (a .listed) (b .listed); levels = zeroed-then (a .levels) (b .levels); reverse = zeroed-then (a .reverse) (b .reverse) }
+
+-- ---- the pins above level 0 are realised, and all are forgotten
+
+-- no pin swept changes nothing
+pub swept-none : {m : ℕ} {w : List ℕ} → Swept m [] w w
 unfolding mem
-retired-none = record { frame = frame-none; done = λ p h. refl; cells = zeroed-none; marks = zeroed-none; spare = zeroed-none }
+swept-none = record { frame = frame-none; done = λ p h. refl; cells = zeroed-none; marks = zeroed-none; spare = zeroed-none; gone = record { listed = zeroed-none; levels = zeroed-none; reverse = zeroed-none } }
 
 mixed : (d c : ℕ) (x y : Bool) → either (y && not (eqb (either x 0 c) 0)) 1 (either (x && not (eqb c 0)) 1 d) ≡ either ((x || y) && not (eqb c 0)) 1 d
 mixed d c true true = refl
 mixed d c true false = refl
 mixed d c false y = refl
 
--- some pins retired and some more
-pub retired-then : {m : ℕ} {xs ys u v w : List ℕ} → Retired m xs u v → Retired m ys v w → Retired m (xs ++ ys) u w
-retired-then {m} {xs} {ys} {u} a b = record {
+-- some pins swept and some more
+swept-then : {m : ℕ} {xs ys u v w : List ℕ} → Swept m xs u v → Swept m ys v w → Swept m (xs ++ ys) u w
+swept-then {m} {xs} {ys} {u} a b = record {
   frame = frame-then (a .frame) (b .frame);
   done = λ p h. b .done p h ∙ rw (a .done p h, a .cells .field p h, mem-append) (mixed (getD u (DONE * m + p) 0) (getD u (CELLS * m + p) 0) (mem p xs) (mem p ys));
   cells = zeroed-then (a .cells) (b .cells);
   marks = zeroed-then (a .marks) (b .marks);
   spare = zeroed-then (a .spare) (b .spare);
+  gone = gone-then (a .gone) (b .gone);
+}
+
+-- pins retired and unlisted are swept
+swept-both : {m : ℕ} {xs u v w : List ℕ} → Retired m xs u v → Unlisted m xs v w → Swept m xs u w
+swept-both {m} {xs} {u} {v} {w} a b = record {
+  frame = frame-then (frame-more refl (a .frame)) (frame-more refl (b .frame));
+  done = λ p h. b .frame .cell DONE refl (omega arith) p h ∙ a .done p h;
+  cells = zeroed-frame {fs = []} frame-none (a .cells) (b .frame) refl refl (omega arith);
+  marks = zeroed-frame {fs = []} frame-none (a .marks) (b .frame) refl refl (omega arith);
+  spare = zeroed-frame {fs = []} frame-none (a .spare) (b .frame) refl refl (omega arith);
+  gone = gone-frame (a .frame) (b .gone) (frame-none {fs = []}) refl refl refl refl refl refl;
 }
 
 module _ {m p : ℕ} {w : List ℕ} (a : PinAt m p w) where
@@ -124,6 +143,21 @@ module _ {m p : ℕ} {w : List ℕ} (a : PinAt m p w) where
         cells = zeroed-frame {fs = []} frame-none (rw e₁ (zeroed-set CELLS p (a .pin) (omega (arith, a .area .room)))) (frame-then (frame-more {gs = MARK ∷ SPARE ∷ []} refl F₂) (frame-more refl F₃)) refl refl (omega arith);
         marks = zeroed-frame F₁ (rw e₂ (zeroed-set MARK p (a .pin) (omega (arith, a .area .room, F₁ .len)))) F₃ refl refl (omega arith);
         spare = zeroed-frame (frame-then (frame-more {gs = CELLS ∷ MARK ∷ []} refl F₁) (frame-more refl F₂)) (rw e₃ (zeroed-set SPARE p (a .pin) (omega (arith, a .area .room, F₁ .len, F₂ .len)))) (frame-none {fs = []}) refl refl (omega arith);
+      }
+
+  -- three more take its listing and its levels
+  pub unlisted : (w₁ w₂ w₃ : List ℕ) → w₁ ≡ set w (LISTED * m + p) 0 → w₂ ≡ set w₁ (LEVEL * m + p) 0 → w₃ ≡ set w₂ (REVERSE * m + p) 0 → Unlisted m (p ∷ []) w w₃
+  unlisted w₁ w₂ w₃ e₁ e₂ e₃ =
+      let F₁ : Frame (LISTED ∷ []) m w w₁ = rw e₁ (frame-set LISTED p 0 (a .pin) (omega arith) refl) in
+      let F₂ : Frame (LEVEL ∷ []) m w₁ w₂ = rw e₂ (frame-set LEVEL p 0 (a .pin) (omega arith) refl) in
+      let F₃ : Frame (REVERSE ∷ []) m w₂ w₃ = rw e₃ (frame-set REVERSE p 0 (a .pin) (omega arith) refl) in
+      record {
+        frame = frame-then (frame-more refl F₁) (frame-then (frame-more refl F₂) (frame-more refl F₃));
+        gone = record {
+          listed = zeroed-frame {fs = []} frame-none (rw e₁ (zeroed-set LISTED p (a .pin) (omega (arith, a .area .room)))) (frame-then (frame-more {gs = LEVEL ∷ REVERSE ∷ []} refl F₂) (frame-more refl F₃)) refl refl (omega arith);
+          levels = zeroed-frame F₁ (rw e₂ (zeroed-set LEVEL p (a .pin) (omega (arith, a .area .room, F₁ .len)))) F₃ refl refl (omega arith);
+          reverse = zeroed-frame (frame-then (frame-more {gs = LISTED ∷ LEVEL ∷ []} refl F₁) (frame-more refl F₂)) (rw e₃ (zeroed-set REVERSE p (a .pin) (omega (arith, a .area .room, F₁ .len, F₂ .len)))) (frame-none {fs = []}) refl refl (omega arith);
+        };
       }
 
   -- a pin without cells is only wiped
@@ -157,7 +191,7 @@ module _ {m p : ℕ} {w : List ℕ} (a : PinAt m p w) where
       spare = zeroed-frame first (W .spare) (frame-none {fs = []}) refl refl (omega arith);
     }
 
-module _ {m k i : ℕ} {w w₁ : List ℕ} (a : RetireAt m k w) (R : Retired m (take i (list ORDER m k w)) w w₁) (h : i < k) where
+module _ {m k i : ℕ} {w w₁ : List ℕ} (a : RetireAt m k w) (R : Swept m (take i (list ORDER m k w)) w w₁) (h : i < k) where
   order-is : getD w₁ (ORDER * m + i) 0 ≡ getD (list ORDER m k w) i 0
   order-is = R .frame .cell ORDER refl (omega arith) i (omega (arith, a .order .few)) ∙ holds-at (a .order) i h
 
@@ -165,13 +199,17 @@ module _ {m k i : ℕ} {w w₁ : List ℕ} (a : RetireAt m k w) (R : Retired m (
   pub order-pin : (p : ℕ) → p ≡ getD w₁ (ORDER * m + i) 0 → PinAt m p w₁
   order-pin p e = record { area = frame-room (R .frame) (a .area); pin = rw (e, order-is) (a .order .pins i h) }
 
-  -- one more pin of the order is retired
-  pub retired-more : (p : ℕ) → p ≡ getD w₁ (ORDER * m + i) 0 → {w₂ : List ℕ} → Retired m (p ∷ []) w₁ w₂ → Retired m (take (i + 1) (list ORDER m k w)) w w₂
-  retired-more p e S = rw (next (list ORDER m k w) i k (a .order .count) h, ← order-is, ← e) (retired-then R S)
+  -- and still is when it is retired
+  pub retired-pin : (p : ℕ) → p ≡ getD w₁ (ORDER * m + i) 0 → {w₂ : List ℕ} → Retired m (p ∷ []) w₁ w₂ → PinAt m p w₂
+  retired-pin p e S = record { area = frame-room (S .frame) (order-pin p e .area); pin = order-pin p e .pin }
 
--- all pins of the order are retired
-pub retired-done : {m k i : ℕ} {w w₁ : List ℕ} → RetireAt m k w → Retired m (take i (list ORDER m k w)) w w₁ → i ≤ k → k ≤ i → Retired m (list ORDER m k w) w w₁
-retired-done {m} {k} {i} {w} {w₁} a R b c = let t : take i (list ORDER m k w) ≡ list ORDER m k w = take-all i (list ORDER m k w) (omega (arith, a .order .count)) in rw t at R
+  -- one more pin of the order is swept
+  pub swept-more : (p : ℕ) → p ≡ getD w₁ (ORDER * m + i) 0 → {w₂ w₃ : List ℕ} → Retired m (p ∷ []) w₁ w₂ → Unlisted m (p ∷ []) w₂ w₃ → Swept m (take (i + 1) (list ORDER m k w)) w w₃
+  swept-more p e S T = rw (next (list ORDER m k w) i k (a .order .count) h, ← order-is, ← e) (swept-then R (swept-both S T))
+
+-- all pins of the order are swept
+pub swept-done : {m k i : ℕ} {w w₁ : List ℕ} → RetireAt m k w → Swept m (take i (list ORDER m k w)) w w₁ → i ≤ k → k ≤ i → Swept m (list ORDER m k w) w w₁
+swept-done {m} {k} {i} {w} {w₁} a R b c = let t : take i (list ORDER m k w) ≡ list ORDER m k w = take-all i (list ORDER m k w) (omega (arith, a .order .count)) in rw t at R
 
 -- ---- realised endpoints leave
 

@@ -7,7 +7,7 @@ use native.Mathlib.Omega.{arith}
 use lib.Dec.{eqb}
 use lib.ListN.{length, getD, replicate}
 use Rattle.rules.specs.Lists.{mem, laidOver}
-use Rattle.columns.specs.Fields.{ORDER, DONE, CELLS, MARK, SPARE, TAIL}
+use Rattle.columns.specs.Fields.{ORDER, DONE, LEVEL, CELLS, REVERSE, LISTED, MARK, SPARE, TAIL}
 use Rattle.columns.specs.Area.{among, tail, putTail, Frame}
 use Rattle.columns.specs.Lists.{list}
 use Rattle.columns.proofs.Area.Frames.{frame-then, frame-more, frame-room, frame-putTail}
@@ -16,8 +16,8 @@ use Rattle.columns.proofs.Area.Lent.{length-laid, at-laid, past-laid}
 use Rattle.columns.proofs.Lists.Entries.{frame-list, holds-frame}
 use Rattle.columns.proofs.Lists.Places.{placed-frame}
 use Rattle.columns.proofs.Lists.Clears.{clear-frame}
-use Rattle.stage_ending.specs.Close.{either, Within, Retired, RetireAt, Left, CloseAt, Closed}
-use Rattle.stage_ending.proofs.Laws.Close.{zeroed-clear}
+use Rattle.stage_ending.specs.Close.{either, Within, Swept, RetireAt, Left, CloseAt, Closed}
+use Rattle.stage_ending.proofs.Laws.Close.{zeroed-clear, gone-frame}
 
 -- a column that is 0 but at some pins stays so where it is not named
 pub within-frame : {fs : List ℕ} {f m : ℕ} {xs w w′ : List ℕ} → Frame fs m w w′ → among fs f ≡ false → f < 16 → Within f m xs w → Within f m xs w′
@@ -31,7 +31,7 @@ module _ {m o n r : ℕ} {w : List ℕ} (A : CloseAt m o n r w) {w1 : List ℕ} 
   pub retire-at : RetireAt m o w1
   retire-at = record { area = frame-room (L .frame) (A .area); order = rw order-is (holds-frame (A .order) (L .frame) refl (omega arith)) }
 
-  module _ {w2 w3 : List ℕ} (R : Retired m (list ORDER m o w1) w1 w2) (e3 : w3 ≡ putTail m w2 (laidOver (replicate 259 0) (tail m w2))) where
+  module _ {w2 w3 : List ℕ} (R : Swept m (list ORDER m o w1) w1 w2) (e3 : w3 ≡ putTail m w2 (laidOver (replicate 259 0) (tail m w2))) where
     room : 16 * m + 512 ≤ length w2
     room = omega (arith, A .area .room, R .frame .len, L .frame .len)
 
@@ -44,7 +44,7 @@ module _ {m o n r : ℕ} {w : List ℕ} (A : CloseAt m o n r w) {w1 : List ℕ} 
     tail-is : (j : ℕ) → getD w3 (16 * m + j) 0 ≡ getD (laidOver (replicate 259 0) (tail m w2)) j 0
     tail-is j = sym (getD-tail m w3 j) ∙ rw (e3, tail-putTail m w2 (laidOver (replicate 259 0) (tail m w2)) (omega (arith, room))) refl
 
-    later : Frame (DONE ∷ CELLS ∷ MARK ∷ SPARE ∷ TAIL ∷ []) m w1 w3
+    later : Frame (DONE ∷ LEVEL ∷ CELLS ∷ REVERSE ∷ LISTED ∷ MARK ∷ SPARE ∷ TAIL ∷ []) m w1 w3
     later = frame-then (frame-more refl (R .frame)) (frame-more refl last)
 
     -- as before its pins left
@@ -64,5 +64,6 @@ module _ {m o n r : ℕ} {w : List ℕ} (A : CloseAt m o n r w) {w1 : List ℕ} 
       cells = clear-frame (zeroed-clear (within-frame (L .frame) refl (omega arith) (rw order-is (A .cells))) (R .cells)) last refl (omega arith);
       marks = clear-frame (zeroed-clear (within-frame (L .frame) refl (omega arith) (rw order-is (A .marks))) (R .marks)) last refl (omega arith);
       spare = clear-frame (zeroed-clear (within-frame (L .frame) refl (omega arith) (rw order-is (A .spare))) (R .spare)) last refl (omega arith);
+      gone = rw order-is at (gone-frame (L .frame) (R .gone) last refl refl refl refl refl refl);
       tail = λ j h. tail-is j ∙ at-laid 259 0 (tail m w2) j h;
     }

@@ -1,9 +1,9 @@
--- `try_walks::show` meets its contract: it hands each walk what the one before left, and forgets it all. Assumes nothing.
+-- `try_walks::show` meets its contract: it hands each walk what the one before left. Assumes nothing.
 use mathlib.Core.Path.{refl}
 use mathlib.Core.List.{[]}
 use native.Mathlib.Omega.{arith}
 use Rattle.rules.specs.Graph.{pinCount}
-use Rattle.try_walks.proofs.Starts.{needed-at, end-at}
+use Rattle.try_walks.proofs.Starts.{needed-at}
 use borrow.Author.Needs.{needs}
 use Rattle.try_walks.proofs.show.Statement.{statement}
 use Rattle.try_walks.proofs.show.Tie as tie
@@ -24,9 +24,6 @@ write-all-requires c κs = search needs
 print-requires : tie.Need-print-requires
 print-requires c κs = let s = c .before .before .before .before .before .before .before .before .before .before .before .before .start .ensures in let P = c .before .before .before .before .before .before .before .before .prepare .ensures .all (s .it) (s .at .prepare) in let N = c .before .before .before .before .needed .ensures .all (record { C = s .it; pl = [] }) (needed-at (s .at) P) in record { room = omega (arith, P .set .begun .base .area .room, N .frame .len); listed = P .set .ordered .order .few; lists = P .few; needed = N .list .few }
 
-forget-requires : tie.Need-forget-requires
-forget-requires c κs = let s = c .before .before .before .before .before .before .before .before .before .before .before .before .before .before .start .ensures in let P = c .before .before .before .before .before .before .before .before .before .before .prepare .ensures .all (s .it) (s .at .prepare) in end-at P (c .before .before .before .before .before .before .needed .ensures .all (record { C = s .it; pl = [] }) (needed-at (s .at) P))
-
 same-length : tie.Need-same-length
 same-length c = search needs
 
@@ -42,6 +39,5 @@ show-spec =
     needed-requires
     write-all-requires
     print-requires
-    forget-requires
     same-length
     returns)
