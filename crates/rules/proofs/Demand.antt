@@ -120,12 +120,14 @@ unfolding waitingOf
 waitingOf-old q [] ws i = i
 waitingOf-old q (x ∷ xs) ws i = waitingOf-old q xs _ (in-insertAll-old q (keep (ltb 0) (endpointsOf x)) ws i)
 
-ends-wait : (q : ℕ) → 0 < q → {xs : List Group} → Ends q xs → (ws : List ℕ) → In q (waitingOf xs ws)
+-- an endpoint pin but the constant waits before the first stage
+pub ends-wait : (q : ℕ) → 0 < q → {xs : List Group} → Ends q xs → (ws : List ℕ) → In q (waitingOf xs ws)
 unfolding waitingOf
 ends-wait q b (first {x = x} {xs = xs} i) ws = waitingOf-old q xs _ (in-insertAll q (keep (ltb 0) (endpointsOf x)) ws (in-keep (ltb 0) q (endpointsOf x) i (T→true (ltb 0 q) (lt→ltb 0 q b))))
 ends-wait q b (later {x = x} {xs = xs} e) ws = ends-wait q b e (insertAll (keep (ltb 0) (endpointsOf x)) ws)
 
-wait-ends : (q : ℕ) (xs : List Group) (ws : List ℕ) → In q (waitingOf xs ws) → In q ws ⊎ Ends q xs
+-- and what waits is an endpoint pin
+pub wait-ends : (q : ℕ) (xs : List Group) (ws : List ℕ) → In q (waitingOf xs ws) → In q ws ⊎ Ends q xs
 unfolding waitingOf
 wait-ends q [] ws i = inl i
 wait-ends q (x ∷ xs) ws i = elim (wait-ends q xs _ i) [

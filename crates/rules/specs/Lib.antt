@@ -13,6 +13,8 @@ pub mod States
 pub mod Capacity
 pub mod Depth
 pub mod Fold
+pub mod Coded
+pub mod Faults
 pub mod Merge
 pub mod Job
 pub mod Listing

@@ -71,7 +71,8 @@ operand-above g A (gate a b) p q e i =
 below-above : (g : List Node) → Above g → (p q : ℕ) (stop : List ℕ) → In q (below g stop p) → 0 < q
 below-above g A p q stop i = operand-above g A (getD g p leaf) p q refl (below-in g stop p q i .1)
 
-from-above : (g : List Node) → Above g → (stop ps : List ℕ) → ((x : ℕ) → In x ps → 0 < x) → {q : ℕ} → From g stop ps q → 0 < q
+-- what is reached from pins above 0 is above 0
+pub from-above : (g : List Node) → Above g → (stop ps : List ℕ) → ((x : ℕ) → In x ps → 0 < x) → {q : ℕ} → From g stop ps q → 0 < q
 from-above g A stop ps h (start {q = q} e) = h q e
 from-above g A stop ps h (step {q = q} {x = x} f e) = below-above g A q x stop e
 
@@ -124,7 +125,8 @@ module _ (rule : WordRule) (K : ℕ) (g : List Node) (ok : Valid g) (A : Above g
     R : Ready g r waiting
     R = ready rule K g ok tall small given [] groups named
 
-    waits-above : (xs : List Group) (ws : List ℕ) → ((x : ℕ) → In x ws → 0 < x) → (x : ℕ) → In x (waitingOf xs ws) → 0 < x
+    -- the pins that wait before the first stage are above 0
+    pub waits-above : (xs : List Group) (ws : List ℕ) → ((x : ℕ) → In x ws → 0 < x) → (x : ℕ) → In x (waitingOf xs ws) → 0 < x
     unfolding waitingOf
     waits-above [] ws h x i = h x i
     waits-above (y ∷ xs) ws h x i = waits-above xs _ (λ z j. elim (insertAll-in z (keep (ltb 0) (endpointsOf y)) ws j) [ inl a ↦ ltb-true 0 z (keep-in (ltb 0) z (endpointsOf y) a .1) | inr a ↦ h z a ]) x i

@@ -179,7 +179,8 @@ module _ (K : ℕ) (g : List Node) (pl : List ℕ) (load : ℕ → Bool) where
 
 -- ---- a stage's bits, and a plan's
 
-getD-upTo : (n i k d : ℕ) → k < n → getD (upTo n i) k d ≡ i + k
+-- the k-th of the numbers from i on
+pub getD-upTo : (n i k d : ℕ) → k < n → getD (upTo n i) k d ≡ i + k
 unfolding upTo
 getD-upTo zero i k d h = absurd (omega arith)
 getD-upTo (suc n) i zero d h = omega arith

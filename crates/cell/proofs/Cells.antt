@@ -1,0 +1,32 @@
+-- The empty mark, by what the code tests, and a cell's pin. Assumes nothing.
+use Prim.Native.Nat.{ℕ, _%_}
+use mathlib.Core.Path.{_≡_}
+use mathlib.Core.Bool.{true, false, not}
+use lib.Dec.{eqb}
+use borrow.Author.Tests.{eq-eqb, ne-eqb}
+use Rattle.rules.specs.Cells.{empty, filled}
+use Rattle.rules.specs.Coded.{cellPin}
+use Rattle.rules.proofs.Lists.Members.{split}
+
+-- what is tested is whether a cell is empty
+pub empty-tested : (c : ℕ) → eqb c 4294967295 ≡ not (filled c)
+unfolding filled empty
+empty-tested c = split (eqb c 4294967295) (λ e. rw e) (λ e. rw e)
+
+mark : (c : ℕ) → c ≡ 4294967295 → filled c ≡ false
+unfolding filled empty
+mark c e = rw (eq-eqb c 4294967295 e)
+
+other : (c : ℕ) → (c ≡ 4294967295 → ⊥) → filled c ≡ true
+unfolding filled empty
+other c e = rw (ne-eqb c 4294967295 e)
+
+-- an empty cell's pin is the empty mark
+pub pin-none : (c : ℕ) → c ≡ 4294967295 → 4294967295 ≡ cellPin c
+unfolding cellPin empty
+pin-none c e = rw (mark c e, cellPin)
+
+-- a filled cell's stands in its low 16 bits
+pub pin-some : (c : ℕ) → (c ≡ 4294967295 → ⊥) → c % 65536 ≡ cellPin c
+unfolding cellPin
+pin-some c e = rw (other c e, cellPin)

@@ -1,0 +1,13 @@
+pub mod Passing
+pub mod Cells
+pub mod Bits
+pub mod Tests
+pub mod Sound
+pub mod Stages
+pub mod Reading
+pub mod Shapes
+pub mod Coding
+pub mod InPlace
+pub mod Complete
+pub mod Same
+pub mod Table
