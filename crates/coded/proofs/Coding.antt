@@ -41,20 +41,24 @@ not-filled c e = eqb-true c empty (not-false (eqb c empty) e)
 -- ---- the four kinds of cells
 
 module _ (K : ℕ) (g : List Node) (pl : List ℕ) (p : ℕ) where
-  coded-empty : filled (getD pl p empty) ≡ false → codedAt K g pl p ≡ empty
+  -- an empty cell stays empty
+  pub coded-empty : filled (getD pl p empty) ≡ false → codedAt K g pl p ≡ empty
   unfolding codedAt codedCell
   coded-empty e = rw (e, codedCell)
 
   module _ (k : filled (getD pl p empty) ≡ true) where
-    coded-load : 2 ^ K ≤ p → codedAt K g pl p ≡ getD pl p empty
+    -- at level 0 a pin stays
+    pub coded-load : 2 ^ K ≤ p → codedAt K g pl p ≡ getD pl p empty
     unfolding codedAt codedCell
     coded-load h = rw (k, lt-false p (2 ^ K) h, codedCell)
 
-    coded-copy : p < 2 ^ K → getD pl (firstLower p) empty ≡ getD pl p empty → codedAt K g pl p ≡ getD pl p empty
+    -- and so does one whose first lower cell holds it
+    pub coded-copy : p < 2 ^ K → getD pl (firstLower p) empty ≡ getD pl p empty → codedAt K g pl p ≡ getD pl p empty
     unfolding codedAt codedCell
     coded-copy h e = let d : eqb (getD pl (firstLower p) empty) (getD pl p empty) ≡ true = ap (λ (x : ℕ). eqb x (getD pl p empty)) e ∙ eqb-same (getD pl p empty) in rw (k, lt-true p (2 ^ K) h, d, codedCell)
 
-    coded-and : p < 2 ^ K → eqb (getD pl (firstLower p) empty) (getD pl p empty) ≡ false → codedAt K g pl p ≡ andCell (getD pl p empty) (getD g (getD pl p empty) leaf)
+    -- any other ANDs as its node says
+    pub coded-and : p < 2 ^ K → eqb (getD pl (firstLower p) empty) (getD pl p empty) ≡ false → codedAt K g pl p ≡ andCell (getD pl p empty) (getD g (getD pl p empty) leaf)
     unfolding codedAt codedCell
     coded-and h e = rw (k, lt-true p (2 ^ K) h, e, codedCell)
 

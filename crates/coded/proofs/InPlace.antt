@@ -19,7 +19,8 @@ use Rattle.rules.proofs.Fold.Bits.{getD-upTo}
 use Rattle.coded.proofs.Bits.{pin-at}
 use Rattle.coded.proofs.Coding.{not-filled, length-coded}
 
-default-same : (xs : List ℕ) (i d e : ℕ) → i < length xs → getD xs i d ≡ getD xs i e
+-- what stands inside a list does not depend on what stands for the outside
+pub default-same : (xs : List ℕ) (i d e : ℕ) → i < length xs → getD xs i d ≡ getD xs i e
 default-same [] i d e h = absurd (omega arith)
 default-same (x ∷ xs) zero d e h = refl
 default-same (x ∷ xs) (suc i) d e h = default-same xs i d e (omega arith)

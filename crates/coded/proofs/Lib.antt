@@ -10,4 +10,3 @@ pub mod Coding
 pub mod InPlace
 pub mod Complete
 pub mod Same
-pub mod Table

@@ -1,4 +1,5 @@
 pub mod Bench
+pub mod Coded
 pub mod Bools
 pub mod Outcomes
 pub mod Cells

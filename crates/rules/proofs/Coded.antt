@@ -1,18 +1,18 @@
 -- The first bench example coded, folded and checked; damaged cells and words, with their faults. Assumes nothing.
-use Prim.Native.Nat.{ℕ, suc, _*_}
-use mathlib.Core.Bool.{Bool, true, false, _&&_}
+use Prim.Native.Nat.{ℕ}
+use mathlib.Core.Bool.{_&&_}
 use mathlib.Core.List.{List, [], _∷_, _++_, map}
 use lib.Dec.{T}
 use lib.ListN.{getD, set, replicate}
-use Rattle.rules.specs.Lists.{sameList, padded}
+use Rattle.rules.specs.Lists.{sameList}
 use Rattle.rules.specs.Cells.{empty}
 use Rattle.rules.specs.Graph.{graphOf}
 use Rattle.rules.specs.Traversal.{neededRuns}
-use Rattle.rules.specs.Build.{Stage, stagesOf, answerOf, cellsOf}
+use Rattle.rules.specs.Build.{stagesOf, answerOf, cellsOf}
 use Rattle.rules.specs.Fold.{foldBits}
+use Rattle.rules.specs.Coded.{coded, pins, codedStages, foldCells}
+use Rattle.rules.specs.Faults.{Fault, faultless, faultAt, fault}
 use Rattle.rules.specs.Inside.Opened.{everything}
-use Rattle.rules.specs.Coded.{cellPin, ands, firstInversion, secondInversion, andOf, andCell, codedCell, codedAt, coded, pins, codedStages, codedBit, bitOf, loadOf, cellBits, foldStages, foldCells}
-use Rattle.rules.specs.Faults.{Fault, faultless, faultAt, isFound, splits, rightAbove, rightAt, firstNot, endRight, firstMay, heldIn, faultFrom, holdsIn, writtenIn, lastRight, faultOf, cut, fault}
 
 -- pins 1-4 leaves, 5 = (2,4), 6 = (6,9), 7 = (10,12), output 14
 abbrev gates : List ℕ
@@ -51,6 +51,9 @@ both = 1 ∷ 0 ∷ []
 pub examples : T (
     sameList (some cells) (65543 ∷ 65541 ∷ 327686 ∷ 1 ∷ 3 ∷ 2 ∷ 4 ∷ empty ∷ [])
     && sameList (pins cells) plan
+    -- a pin over itself is copied, over another it ANDs
+    && sameList (some (coded 6 (graphOf gates) (set (set (replicate 128 empty) 32 1) 64 1))) (empty ∷ 1 ∷ empty ∷ 1 ∷ empty ∷ empty ∷ empty ∷ empty ∷ [])
+    && sameList (some (coded 6 (graphOf gates) (set (set (replicate 128 empty) 32 6) 64 3))) (empty ∷ 327686 ∷ empty ∷ 3 ∷ empty ∷ empty ∷ empty ∷ empty ∷ [])
     && sameList (some (foldCells 6 cells bits)) (1 ∷ 1 ∷ 1 ∷ 1 ∷ 1 ∷ 1 ∷ 0 ∷ 0 ∷ [])
     && sameList (foldCells 6 cells bits) (foldBits 6 plan gates [] bits)
     && sameList (faultWith 0 empty both 2) []
@@ -71,5 +74,5 @@ pub examples : T (
     && sameList (shown (fault 6 gates (6 ∷ []) records cells both (2 ∷ []) 1)) (1 ∷ 48 ∷ [])
     && sameList (shown (fault 6 gates (6 ∷ []) records (set (set cells 48 6) 80 6) both (2 ∷ []) 1)) []
     )
-unfolding everything cellPin ands firstInversion secondInversion andOf andCell codedCell codedAt coded pins codedStages codedBit bitOf loadOf cellBits foldStages foldCells isFound splits rightAbove rightAt firstNot endRight firstMay heldIn faultFrom holdsIn writtenIn lastRight faultOf cut fault
+unfolding everything
 examples = tt
