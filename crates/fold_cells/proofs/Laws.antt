@@ -1,0 +1,5 @@
+pub mod Cells
+pub mod Loads
+pub mod Stages
+pub mod Checks
+pub mod Unique

@@ -1,0 +1,20 @@
+-- The bits of one stage: what is left when its cells are folded. Assumes nothing.
+use Prim.Native.Nat.{ℕ, suc, _+_, _^_, _≤_, _<_}
+use mathlib.Core.Path.{_≡_}
+use mathlib.Core.Bool.{Bool}
+use mathlib.Core.List.{List}
+use lib.ListN.{getD}
+use Rattle.rules.specs.Fold.{asNumber}
+use Rattle.rules.specs.Coded.{bitOf, cellBits}
+
+-- the positions from p on hold their bits
+pub record RightFrom (K : ℕ) (cells : List ℕ) (load : ℕ → Bool) (p : ℕ) (bits : List ℕ) : Type 0 where
+  pub bit : (q : ℕ) → p ≤ q → q < 2 ^ (K + 1) → getD bits q 0 ≡ asNumber (bitOf K cells load q)
+
+-- what a stage loads is no value of the program, so this is said of every load that fits
+pub record CellFolds (cells bits : List ℕ) (p : ℕ) (r : Bool) : Type 0 where
+  pub all : (K : ℕ) (load : ℕ → Bool) → 1 ≤ p → p < 2 ^ K → RightFrom K cells load (suc p) bits → r ≡ bitOf K cells load p
+
+-- from level 0 up: all the stage's bits
+pub record FoldsUp (K : ℕ) (cells bits bits′ : List ℕ) : Type 0 where
+  pub all : (load : ℕ → Bool) → RightFrom K cells load (2 ^ K) bits → bits′ ≡ cellBits K cells load
