@@ -52,7 +52,7 @@ pub record Unlisted (m : ℕ) (xs w w′ : List ℕ) : Type 0 where
   pub frame : Frame (LEVEL ∷ REVERSE ∷ LISTED ∷ []) m w w′
   pub gone : Gone m xs w w′
 
--- both
+-- the pins xs retired and unlisted
 pub record Swept (m : ℕ) (xs w w′ : List ℕ) : Type 0 where
   pub frame : Frame (DONE ∷ LEVEL ∷ CELLS ∷ REVERSE ∷ LISTED ∷ MARK ∷ SPARE ∷ []) m w w′
   pub done : (p : ℕ) → p < m → getD w′ (DONE * m + p) 0 ≡ either (mem p xs && not (eqb (getD w (CELLS * m + p) 0) 0)) 1 (getD w (DONE * m + p) 0)

@@ -64,7 +64,7 @@ module _ {C : Context} {m n k top r : ℕ} {gates w₀ w : List ℕ} (P : Prepar
     pub reverse-outside : getD w (REVERSE * m + p) 0 ≡ 0
     reverse-outside = at REVERSE ∙ rw (P .reversed .reverse) (reverse-out C p pin unseen)
 
--- they may be after what names none of their columns
+-- the lists still may after what names none of their columns
 pub forget-frame : {m r : ℕ} {w : List ℕ} → ForgetAt m r w → {fs : List ℕ} {w′ : List ℕ} → Frame fs m w w′ → among fs STARTS ≡ false → among fs ENDS ≡ false → ForgetAt m r w′
 forget-frame A fr c d = record {
   area = frame-room fr (A .area);

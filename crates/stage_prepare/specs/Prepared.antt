@@ -1,4 +1,4 @@
--- What a stage has before its first placing, and how it leaves no trace. Assumes nothing.
+-- What a stage has before its first placing, and how its lists go again. Assumes nothing.
 use mathlib.Core.Path.{_≡_}
 use mathlib.Core.List.{List, [], _∷_, map}
 use Prim.Native.Nat.{ℕ, _≤_}
