@@ -1,12 +1,12 @@
 -- What a coded cell says. Assumes nothing.
-use Prim.Native.Nat.{ℕ, _+_, _*_, _/_, _%_, _≤_, _<_}
-use mathlib.Core.Path.{_≡_, refl, sym, _∙_, ap}
-use mathlib.Core.Bool.{Bool, true, false}
+use Prim.Native.Nat.{ℕ, _+_, _*_, _/_, _%_, _<_}
+use mathlib.Core.Path.{_≡_, _∙_}
+use mathlib.Core.Bool.{true, false}
 use native.Mathlib.Omega.{arith}
 use lib.Dec.{eqb}
 use Rattle.rules.specs.Cells.{empty, filled}
 use Rattle.rules.specs.Graph.{Node, leaf, gate, inversionOf}
-use Rattle.rules.proofs.Lists.Members.{split, true-false, eqb-true, eqb-false, eqb-same}
+use Rattle.rules.proofs.Lists.Members.{split, eqb-true, eqb-same}
 use Rattle.rules.specs.Coded.{cellPin, ands, firstInversion, secondInversion, andOf, andCell}
 
 -- a filled cell's pin stands in its low 16 bits

@@ -1,12 +1,11 @@
 -- A stage that a build makes, coded: its pins are the plan's, and each cell says what it does. Assumes nothing.
-use Prim.Native.Nat.{ℕ, zero, suc, _+_, _-_, _*_, _^_, _≤_, _<_}
+use Prim.Native.Nat.{ℕ, zero, suc, _+_, _-_, _^_, _≤_, _<_}
 use mathlib.Core.Path.{_≡_, refl, sym, _∙_, ap}
-use mathlib.Core.Bool.{Bool, true, false, not}
+use mathlib.Core.Bool.{true, false, not}
 use mathlib.Core.List.{List, [], _∷_, map}
 use native.Mathlib.Omega.{arith}
 use lib.Dec.{eqb, ltb}
-use lib.Pow.{pow-pos}
-use lib.ListN.{length, getD, take, drop, length-map, length-take, length-drop, List·getD-map, List·getD-eq-default}
+use lib.ListN.{length, getD, take, drop, length-map, length-take, length-drop, List·getD-map}
 use lib.Seq.{ext-getD, getD-take, getD-drop}
 use borrow.Author.Tests.{ltb-true, ltb-false, not-false}
 use Rattle.rules.specs.Lists.{found, upTo, In}
@@ -15,7 +14,7 @@ use Rattle.rules.specs.Graph.{Node, leaf, gate, pinOf}
 use Rattle.rules.specs.Placing.{tree}
 use Rattle.rules.specs.Build.{Stage}
 use Rattle.rules.specs.Fold.{firstAt, lowest}
-use Rattle.rules.proofs.Lists.Members.{split, true-false, eqb-true, eqb-same}
+use Rattle.rules.proofs.Lists.Members.{split, eqb-true, eqb-same}
 use Rattle.rules.proofs.Lists.Lengths.{length-upTo}
 use Rattle.rules.proofs.Stage.Staged.{two-step}
 use Rattle.rules.specs.Inside.Walks.{rank}

@@ -2,17 +2,16 @@
 use Prim.Native.Nat.{ℕ, zero, suc, _+_, _-_, _*_, _/_, _%_, _^_, _≤_, _<_}
 use mathlib.Core.Path.{_≡_, refl, sym, _∙_, ap}
 use mathlib.Core.Logic.{_⊎_, inl, inr}
-use mathlib.Core.Bool.{Bool, true, false, not, _&&_, _||_}
+use mathlib.Core.Bool.{Bool, true, not}
 use mathlib.Core.List.{List, [], _∷_, _++_, map, append-assoc}
 use native.Mathlib.Omega.{arith}
-use lib.Dec.{leb, ltb, eqb, le→leb}
-use lib.Pow.{pow-pos}
-use lib.ListN.{length, getD, take, drop, length-take, length-drop, length-append, length-map, List·getD-append, List·getD-map}
+use lib.Dec.{leb, le→leb}
+use lib.ListN.{length, getD, take, drop, length-take, length-drop, length-map, List·getD-append, List·getD-map}
 use lib.Seq.{ext-getD, getD-take, getD-drop, take-append-seam, drop-append-seam}
-use Rattle.rules.specs.Lists.{found, mem, every, padded, upTo, In}
-use Rattle.rules.specs.Cells.{filled, empty, stageSize, wordLimit, rooms, row, firstEmpty}
+use Rattle.rules.specs.Lists.{mem, every, padded, upTo, In}
+use Rattle.rules.specs.Cells.{filled, empty, stageSize, wordLimit, rooms}
 use Rattle.rules.specs.Graph.{Node, leaf}
-use Rattle.rules.specs.Records.{Group, waitingOf}
+use Rattle.rules.specs.Records.{waitingOf}
 use Rattle.rules.specs.Reservation.{reservable, reserved}
 use Rattle.rules.specs.Placing.{tree}
 use Rattle.rules.specs.Traversal.{WordRule}
@@ -29,9 +28,9 @@ use Rattle.sheet_form.proofs.Built.{waits-above}
 use Rattle.coded.specs.Inputs.{Input, graph, groups, built}
 use Rattle.coded.proofs.Passing.{tall, small, few, valid, above, named}
 use Rattle.rules.specs.Coded.{coded, codedStages, pins}
-use Rattle.rules.specs.Faults.{faultless, isFound, rightAt, firstNot, endRight, firstMay, heldIn, faultFrom, holdsIn, writtenIn, lastRight, faultOf, cut, fault}
+use Rattle.rules.specs.Faults.{faultless, rightAt, endRight, firstMay, heldIn, faultFrom, holdsIn, writtenIn, lastRight, faultOf, cut, fault}
 use Rattle.rules.proofs.Fold.Bits.{getD-upTo}
-use Rattle.coded.proofs.Tests.{and-both, lt-true, found-is, all-pass, fits-right, Passes}
+use Rattle.coded.proofs.Tests.{and-both, found-is, all-pass, fits-right, Passes}
 use Rattle.coded.proofs.Shapes.{Shape, Shapes, whole-shapes}
 use Rattle.coded.proofs.Coding.{length-coded, pins-coded, filled-same, fits, free-coded, held-coded}
 

@@ -1,19 +1,18 @@
 -- Any plan of pins decodes to itself, and a stage can be coded in place by rising positions, since lower cells stand behind. Assumes nothing.
-use Prim.Native.Nat.{ℕ, zero, suc, _+_, _-_, _*_, _^_, _≤_, _<_}
+use Prim.Native.Nat.{ℕ, zero, suc, _+_, _-_, _^_, _≤_, _<_}
 use mathlib.Core.Path.{_≡_, refl, sym, _∙_, ap}
-use mathlib.Core.Bool.{Bool, true, false}
+use mathlib.Core.Bool.{true}
 use mathlib.Core.List.{List, [], _∷_, _++_}
 use native.Mathlib.Omega.{arith}
 use lib.Dec.{eqb, ltb}
-use lib.Pow.{pow-pos}
-use lib.ListN.{length, getD, set, take, drop, length-map, length-take, length-drop, length-append, length-set, List·getD-map, List·getD-append, List·getD-eq-default}
+use lib.ListN.{length, getD, set, take, drop, length-map, length-take, length-drop, length-append, length-set, List·getD-map, List·getD-append}
 use lib.Seq.{ext-getD, getD-take, getD-drop, getD-append-add, getD-set-same, getD-set-other}
 use borrow.Author.Tests.{ltb-true, ltb-false}
 use Rattle.rules.specs.Lists.{upTo}
 use Rattle.rules.specs.Cells.{filled, empty, width, stageSize, rowStart, firstLower}
 use Rattle.rules.specs.Graph.{Node, leaf}
 use Rattle.rules.proofs.Lists.Members.{split, eqb-true, eqb-false}
-use Rattle.rules.specs.Coded.{cellPin, andCell, codedCell, codedAt, coded, pins}
+use Rattle.rules.specs.Coded.{cellPin, codedCell, codedAt, coded, pins}
 use Rattle.coded.proofs.Cells.{pin-empty, pin-plain, pin-any}
 use Rattle.rules.proofs.Fold.Bits.{getD-upTo}
 use Rattle.coded.proofs.Bits.{pin-at}

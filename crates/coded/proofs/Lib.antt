@@ -5,6 +5,7 @@ pub mod Tests
 pub mod Sound
 pub mod Stages
 pub mod Reading
+pub mod Real
 pub mod Shapes
 pub mod Coding
 pub mod InPlace

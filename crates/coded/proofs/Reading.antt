@@ -2,7 +2,7 @@
 use Prim.Native.Nat.{ℕ, zero, suc, _+_, _-_, _*_, _/_, _^_, _≤_, _<_, min}
 use mathlib.Core.Path.{_≡_, refl, sym, _∙_, ap}
 use mathlib.Core.Logic.{inl, inr}
-use mathlib.Core.Bool.{Bool, true, false, _&&_, _||_}
+use mathlib.Core.Bool.{Bool, true}
 use mathlib.Core.List.{List, [], _∷_, map}
 use native.Mathlib.Omega.{arith}
 use native.Mathlib.Nat.{suc-mul}
@@ -10,7 +10,7 @@ use lib.ListN.{length, getD, take, drop, length-map, length-take, List·getD-map
 use lib.Seq.{getD-take, getD-drop}
 use Rattle.rules.specs.Lists.{sum, mem, every, upTo, In}
 use Rattle.rules.specs.Cells.{filled, empty, stageSize, wordLimit, rooms}
-use Rattle.rules.specs.Graph.{Node, pinCount, ownBit}
+use Rattle.rules.specs.Graph.{Node, ownBit}
 use Rattle.rules.specs.Records.{Group, waitingOf, Ends}
 use Rattle.rules.specs.Reservation.{reservable, reserved}
 use Rattle.rules.specs.Build.{Stage}
@@ -137,7 +137,8 @@ module _ (K : ℕ) (tall : 6 ≤ K) (g : List Node) (ok : Valid g) (few : length
 
 -- ---- an accepted plan
 
-fault-cases : {P : Type 0} (x : Fault) → (x ≡ faultless → P) → ((k p : ℕ) → x ≡ faultAt k p → P) → P
+-- a plan has no fault, or a first one
+pub fault-cases : {P : Type 0} (x : Fault) → (x ≡ faultless → P) → ((k p : ℕ) → x ≡ faultAt k p → P) → P
 fault-cases faultless a f = a refl
 fault-cases (faultAt k p) a f = f k p refl
 

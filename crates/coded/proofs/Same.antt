@@ -1,18 +1,16 @@
 -- On plans that the placer builds, folding the coded cells with the same bits gives the same result, and decoding gives the plan. Assumes nothing.
 use Prim.Native.Nat.{ℕ, zero, suc, _+_, _-_, _*_, _^_, _≤_, _<_}
 use mathlib.Core.Path.{_≡_, refl, sym, _∙_, ap}
-use mathlib.Core.Logic.{_⊎_}
-use mathlib.Core.Bool.{Bool, true, false}
+use mathlib.Core.Bool.{Bool}
 use mathlib.Core.List.{List, [], _∷_, _++_, map, append-assoc}
 use native.Mathlib.Omega.{arith}
 use native.Mathlib.Nat.{le-div-iff-mul-le}
 use lib.Pow.{pow-pos}
 use lib.ListN.{length, getD, take, drop, replicate, length-append}
 use lib.Seq.{take-append-seam, drop-append-seam}
-use Rattle.rules.specs.Lists.{padded, upTo, In}
-use Rattle.rules.specs.Cells.{filled, empty, stageSize, wordLimit, rooms}
-use Rattle.rules.specs.Graph.{Node, leaf, pinCount, ownBit, value}
-use Rattle.rules.specs.Reservation.{reserved}
+use Rattle.rules.specs.Lists.{padded, upTo}
+use Rattle.rules.specs.Cells.{filled, empty, stageSize, rooms}
+use Rattle.rules.specs.Graph.{Node, pinCount, ownBit}
 use Rattle.rules.specs.Traversal.{WordRule}
 use Rattle.rules.specs.Build.{Stage, whole, cellsOf}
 use Rattle.rules.specs.Fold.{bitAt, firstLoad, loadFrom, asNumber, stageBits, foldFrom, foldBits}

@@ -2,13 +2,13 @@
 use Prim.Native.Nat.{ℕ, zero, suc, _+_, _-_, _*_, _^_, _≤_, _<_}
 use mathlib.Core.Path.{_≡_, refl, sym, _∙_, ap}
 use mathlib.Core.Logic.{_⊎_, inl, inr}
-use mathlib.Core.Bool.{Bool, true, false}
+use mathlib.Core.Bool.{true, false}
 use mathlib.Core.List.{List, [], _∷_, _++_}
 use native.Mathlib.Omega.{arith}
 use lib.ListN.{length, getD}
 use lib.Dec.{ltb}
 use Rattle.rules.specs.Lists.{found, every, In, Out, Sub}
-use Rattle.rules.specs.Cells.{filled, empty, wordLimit, rowStart, levelOf, firstLower, secondLower, row, firstEmpty}
+use Rattle.rules.specs.Cells.{filled, empty, wordLimit, rowStart, firstLower, secondLower, row, firstEmpty}
 use Rattle.rules.specs.Graph.{Node, leaf, gate, pinOf}
 use Rattle.rules.specs.Records.{Group, waitingOf, Ends}
 use Rattle.rules.specs.Reservation.{reserved}

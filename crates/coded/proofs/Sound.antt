@@ -1,18 +1,17 @@
 -- The cells of a stage without a fault fold to their pins' graph values. Assumes nothing.
 use Prim.Native.Nat.{ℕ, zero, suc, _+_, _-_, _*_, _%_, _^_, _≤_, _<_}
 use mathlib.Core.Path.{_≡_, refl, sym, _∙_, ap}
-use mathlib.Core.Logic.{_⊎_, inl, inr}
-use mathlib.Core.Bool.{Bool, true, false, _&&_, _||_}
-use mathlib.Core.List.{List, [], _∷_}
+use mathlib.Core.Logic.{inl, inr}
+use mathlib.Core.Bool.{Bool, true, false, _&&_}
+use mathlib.Core.List.{List}
 use native.Mathlib.Omega.{arith}
 use native.Mathlib.Nat.{pow-succ'}
-use lib.Dec.{eqb}
 use lib.ListN.{length, getD}
-use Rattle.rules.specs.Lists.{mem, In, Out}
+use Rattle.rules.specs.Lists.{mem}
 use Rattle.rules.specs.Cells.{filled, empty, levelOf, rowStart, firstLower, secondLower}
-use Rattle.rules.specs.Graph.{Node, leaf, gate, pinOf, inversionOf, ownBit, literalBit, value}
+use Rattle.rules.specs.Graph.{Node, leaf, pinOf, inversionOf, ownBit, literalBit, value}
 use Rattle.rules.specs.Fold.{isLeaf, lowest}
-use Rattle.rules.proofs.Lists.Members.{split, or-true, true-false}
+use Rattle.rules.proofs.Lists.Members.{or-true, true-false}
 use Rattle.rules.proofs.Cells.Positions.{position-placed}
 use Rattle.rules.proofs.Tree.Loads.{wide}
 use Rattle.rules.proofs.Tree.Held.{node}
@@ -22,7 +21,7 @@ use Rattle.rules.proofs.Fold.Folds.{value-gate, value-own}
 use Rattle.rules.specs.Loops.{Valid}
 use Rattle.rules.specs.Inside.Walks.{rank}
 use Rattle.rules.proofs.Demand.{graph, graph-few}
-use Rattle.rules.specs.Coded.{cellPin, ands, firstInversion, secondInversion, andCell, pins, bitOf, loadOf}
+use Rattle.rules.specs.Coded.{cellPin, ands, firstInversion, secondInversion, pins, bitOf, loadOf}
 use Rattle.rules.specs.Faults.{firstMay, heldIn}
 use Rattle.coded.proofs.Cells.{small-filled, filled-pin, ands-plain, ands-and, first-and, second-and}
 use Rattle.coded.proofs.Bits.{bit-load, bit-copies, bit-ands, load-found, pin-at}

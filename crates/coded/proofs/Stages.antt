@@ -1,12 +1,11 @@
 -- Over several stages: without a fault every filled cell of every stage folds to its pin's graph value. Assumes nothing.
-use Prim.Native.Nat.{ℕ, zero, suc, _+_, _-_, _*_, _/_, _^_, _≤_, _<_}
-use mathlib.Core.Path.{_≡_, refl, sym, _∙_, ap}
+use Prim.Native.Nat.{ℕ, zero, suc, _+_, _-_, _*_, _^_, _≤_, _<_}
+use mathlib.Core.Path.{_≡_, sym, _∙_, ap}
 use mathlib.Core.Bool.{Bool, true, false, not, _&&_}
 use mathlib.Core.List.{List, [], _∷_, _++_}
 use native.Mathlib.Omega.{arith}
 use native.Mathlib.Nat.{suc-mul}
 use lib.Dec.{leb, ltb}
-use lib.Pow.{pow-pos}
 use lib.ListN.{length, getD, take, drop, List·getD-append}
 use lib.Seq.{getD-take, getD-drop, getD-append-add}
 use borrow.Author.Tests.{ltb-true, not-true}
@@ -20,14 +19,10 @@ use Rattle.rules.proofs.Stage.Puts.{cell}
 use Rattle.rules.specs.Loops.{Valid}
 use Rattle.rules.specs.Coded.{cellPin, bitOf, loadOf, cellBits, foldStages}
 use Rattle.rules.specs.Faults.{faultless, faultAt, isFound, rightAt, firstNot, endRight, heldIn, faultFrom, cut}
+use Rattle.coded.specs.Faults.{Checked}
 use Rattle.coded.proofs.Bits.{length-cellBits, getD-cellBits}
 use Rattle.coded.proofs.Tests.{Fit, Passes, right-fits, none-fails}
 use Rattle.coded.proofs.Sound.{val, folds, next-right}
-
--- a stage without a fault: its cells and its end
-pub record Checked (K : ℕ) (g : List Node) (given : List ℕ) (may : ℕ → Bool) (room : ℕ) (s : Stage) : Type 0 where
-  pub cells : (p : ℕ) → 1 ≤ p → p < 2 ^ (K + 1) → rightAt K g given may (s .plan) p ≡ true
-  pub end : endRight K room s ≡ true
 
 -- where no fault is found the first stage passes, and the others have none
 pub passed : (K : ℕ) (g : List Node) (given : List ℕ) (may : ℕ → Bool) (room k : ℕ) (s : Stage) (ss : List Stage) → faultFrom K g given may room k (s ∷ ss) ≡ faultless →

@@ -1,22 +1,20 @@
 -- What the tests of the check say, and how they are passed. Assumes nothing.
-use Prim.Native.Nat.{ℕ, zero, suc, _+_, _*_, _^_, _≤_, _<_}
+use Prim.Native.Nat.{ℕ, zero, suc, _+_, _^_, _≤_, _<_}
 use mathlib.Core.Path.{_≡_, refl, sym, _∙_, ap}
-use mathlib.Core.Logic.{_⊎_, inl, inr}
-use mathlib.Core.Bool.{Bool, true, false, not, _&&_, _||_}
-use mathlib.Core.List.{List, [], _∷_}
+use mathlib.Core.Bool.{Bool, true, false, not, _&&_}
+use mathlib.Core.List.{List}
 use native.Mathlib.Omega.{arith}
-use lib.Dec.{leb, ltb, eqb, lt→ltb}
+use lib.Dec.{ltb, eqb, lt→ltb}
 use lib.ListN.{length, getD}
-use borrow.Author.Tests.{ltb-true, ltb-false, leb-true, not-true}
-use Rattle.rules.specs.Lists.{Found, nothing, found, mem, every, In, Out}
+use borrow.Author.Tests.{ltb-true, ltb-false, not-true}
+use Rattle.rules.specs.Lists.{Found, nothing, found, mem, every, Out}
 use Rattle.rules.specs.Cells.{filled, empty, firstLower, secondLower, width}
 use Rattle.rules.specs.Graph.{Node, leaf, gate, pinOf}
-use Rattle.rules.specs.Fold.{lowest, isLeaf}
-use Rattle.rules.proofs.Lists.Members.{split, true-false, T→true, and-true, or-true, eqb-true, eqb-same}
+use Rattle.rules.proofs.Lists.Members.{split, true-false, T→true, and-true, eqb-true, eqb-same}
 use Rattle.rules.proofs.Stage.Puts.{cell}
 use Rattle.rules.proofs.Tree.Held.{node}
-use Rattle.rules.specs.Coded.{cellPin, andCell, pins}
-use Rattle.rules.specs.Faults.{isFound, splits, rightAbove, rightAt, firstNot, firstMay}
+use Rattle.rules.specs.Coded.{cellPin, andCell}
+use Rattle.rules.specs.Faults.{isFound, splits, rightAbove, rightAt, firstNot}
 use Rattle.coded.proofs.Cells.{and-wide}
 
 -- both hold

@@ -1,5 +1,5 @@
 -- A cell's bit by what the code tests, and a stage's bits from level 0 up. Assumes nothing.
-use Prim.Native.Nat.{ℕ, zero, suc, _+_, _-_, _*_, _%_, _^_, _≤_, _<_}
+use Prim.Native.Nat.{ℕ, suc, _+_, _-_, _%_, _^_, _≤_, _<_}
 use mathlib.Core.Path.{_≡_, refl, sym, _∙_, ap}
 use mathlib.Core.Bool.{Bool, true, false, not, _&&_}
 use mathlib.Core.List.{List}
@@ -14,7 +14,7 @@ use Rattle.rules.specs.Fold.{asNumber}
 use Rattle.rules.specs.Coded.{ands, firstInversion, secondInversion, bitOf, cellBits}
 use Rattle.rules.proofs.Lists.Members.{split}
 use Rattle.rules.proofs.Fold.Bits.{lower-cells}
-use Rattle.fold_stage.specs.Bits.{StageAt, CellAt, UpAt}
+use Rattle.fold_stage.specs.Bits.{CellAt, UpAt}
 use Rattle.fold_stage.proofs.Laws.Cells.{bit-number, getD-inside}
 use Rattle.coded.proofs.Bits.{bit-empty, bit-copies, bit-lacks, bit-ands, length-cellBits, getD-cellBits}
 use Rattle.fold_cells.specs.Bits.{RightFrom, CellFolds, FoldsUp}

@@ -10,7 +10,7 @@ use lib.Seq.{getD-set-same, getD-set-other}
 use Rattle.rules.specs.Cells.{empty, filled}
 use Rattle.rules.specs.Graph.{ownBit}
 use Rattle.rules.specs.Fold.{asNumber}
-use Rattle.rules.specs.Coded.{cellPin, pins, bitOf}
+use Rattle.rules.specs.Coded.{cellPin, pins}
 use Rattle.rules.proofs.Lists.Members.{split, eqb-true, eqb-false}
 use Rattle.fold_stage.specs.Bits.{StageAt, UpAt}
 use Rattle.fold_stage.proofs.Laws.Cells.{getD-inside}

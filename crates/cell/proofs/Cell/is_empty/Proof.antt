@@ -1,6 +1,5 @@
 -- `cell::Cell::is_empty` meets its contract. Assumes nothing.
 use Rattle.cell.proofs.Cells.{empty-tested}
-use borrow.Author.Needs.{needs}
 use Rattle.cell.proofs.Cell.is_empty.Statement.{statement}
 use Rattle.cell.proofs.Cell.is_empty.Tie as tie
 

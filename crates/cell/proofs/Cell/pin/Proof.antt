@@ -1,6 +1,5 @@
 -- `cell::Cell::pin` meets its contract. Assumes nothing.
 use Rattle.cell.proofs.Cells.{pin-none, pin-some}
-use borrow.Author.Needs.{needs}
 use Rattle.cell.proofs.Cell.pin.Statement.{statement}
 use Rattle.cell.proofs.Cell.pin.Tie as tie
 

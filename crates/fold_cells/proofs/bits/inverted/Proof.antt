@@ -1,6 +1,5 @@
 -- `fold_cells::bits::inverted` meets its contract. Assumes nothing.
 use Rattle.fold_cells.proofs.Laws.Cells.{bit-even, bit-odd}
-use borrow.Author.Needs.{needs}
 use Rattle.fold_cells.proofs.bits.inverted.Statement.{statement}
 use Rattle.fold_cells.proofs.bits.inverted.Tie as tie
 
