@@ -54,6 +54,6 @@ int main(int count, char **words_of) {
         double took = now() - start;
         best = took < best ? took : best;
     }
-    printf("%u %zu %zu %.6f\n", number, answer[PLACER_BUILD_STAGES], answer[PLACER_BUILD_WORDS], best);
+    printf("%u %zu %zu %.9f\n", number, answer[PLACER_BUILD_STAGES], answer[PLACER_BUILD_WORDS], best);
     return 0;
 }
