@@ -45,12 +45,11 @@ fn grow(
     requires { ⌜ Some (λ C. GrowAt C m n k h (height .0) (now gates) (now stage) (now work)) ⌝ }
     ensures { λ s. ⌜ Every (λ C. GrowAt C m n k h (height .0) (now (gates .entry)) (now (stage .entry)) (now (work .entry))) (λ C. Grown C m (now (work .entry)) s (now (stage .exit)) (now (work .exit))) ⌝ }
 {
-    let s = note(gates, work, m, n, k);
-    let most = counted(gates, work, m, n, STACK, s);
+    let c = note(gates, work, m, n, k);
     let w = row_at(height, h);
     let half = height.level_one_size();
-    lean(gates, stage, work, m, n, s, h - 1, w, half, most);
-    s
+    lean(gates, stage, work, m, n, c.noted, h - 1, w, half, c.needed);
+    c.noted
 }
 
 // The plan of the tree, with n pins waiting, k listed and `top` the greatest level. Returns how many pins are needed then. Levels 1 and 0

@@ -4,7 +4,7 @@ use mathlib.Core.Bool.{Bool, false, not, _&&_}
 use mathlib.Core.List.{List, [], _∷_, _++_}
 use Prim.Native.Nat.{ℕ, _+_, _*_, _<_, _≤_}
 use lib.Dec.{eqb}
-use lib.ListN.{length, getD, take}
+use lib.ListN.{length, getD, take, drop}
 use Rattle.rules.specs.Lists.{mem, keep, insertAll, distinct, gather, In, Sub}
 use Rattle.rules.specs.Traversal.{levelAt}
 use Rattle.rules.specs.Placing.{treeOf}
@@ -13,6 +13,7 @@ use Rattle.columns.specs.Area.{Room, Frame, among}
 use Rattle.columns.specs.Fields.{CELLS, NEEDED, STACK, PLACE, MARK}
 use Rattle.columns.specs.Lists.{list, span, Holds, Marks, Marked}
 use Rattle.stage_walk.specs.Stands.{Context, Begun, Ordered, Levelled, Reads}
+use Rattle.stage_needed.specs.declared.Counts.{Counts}
 
 -- which pins wait, their levels, and how many cells hold them
 pub record Tells (C : Context) (pl : List ℕ) (m : ℕ) (w : List ℕ) : Type 0 where
@@ -58,26 +59,24 @@ pub record LackAt (C : Context) (m : ℕ) (gates w : List ℕ) (p : ℕ) : Type 
   pub waits : (q : ℕ) → q < m → not (eqb (getD w (PLACE * m + q) 0) 0) ≡ mem q (C .X .waiting)
   pub listed : In p (C .X .seen)
 
--- s pins are noted
-pub record NotePinAt (C : Context) (m : ℕ) (gates w : List ℕ) (s p : ℕ) : Type 0 where
-  pub lack : LackAt C m gates w p
-  pub few : s < m
+-- one more pin may be noted
+pub record NotePinAt (C : Context) (pl : List ℕ) (m : ℕ) (gates w : List ℕ) (c : Counts) (p : ℕ) : Type 0 where
+  pub need : NeedAt C pl m gates w (c .needed) p
+  pub few : c .noted < m
 
-pub record NotedPin (C : Context) (m : ℕ) (w : List ℕ) (s p : ℕ) (w′ : List ℕ) (r : ℕ) : Type 0 where
-  pub frame : Frame (STACK ∷ []) m w w′
-  pub more : r ≤ s + 1
-  pub held : (xs : List ℕ) → Holds STACK m s xs w → Holds STACK m r (xs ++ keep (lacking (C .X)) (p ∷ [])) w′
+pub record NotedPin (C : Context) (pl : List ℕ) (m : ℕ) (w : List ℕ) (c : Counts) (p : ℕ) (w′ : List ℕ) (c′ : Counts) : Type 0 where
+  pub frame : Frame (NEEDED ∷ MARK ∷ STACK ∷ []) m w w′
+  pub more : c′ .noted ≤ c .noted + 1
+  pub held : (xs : List ℕ) → Holds STACK m (c .noted) xs w → Holds STACK m (c′ .noted) (xs ++ keep (lacking (C .X)) (p ∷ [])) w′
+  pub now : Marked NEEDED MARK m (c′ .needed) (insertAll (gather (lacks (C .X) (treeOf (C .X) pl)) (keep (lacking (C .X)) (p ∷ []))) (list NEEDED m (c .needed) w)) w′
 
-pub record NoteAt (C : Context) (m n k : ℕ) (gates w : List ℕ) : Type 0 where
-  pub begun : Begun C m n gates w
-  pub ordered : Ordered C m k w
-  pub levelled : Levelled C m w
-
--- the first i pins of the order have been looked at
-pub record Noting (C : Context) (m i : ℕ) (w₀ w : List ℕ) (s : ℕ) : Type 0 where
-  pub frame : Frame (STACK ∷ []) m w₀ w
-  pub few : s ≤ i
-  pub held : Holds STACK m s (keep (lacking (C .X)) (take i (C .X .order))) w
+-- the first i pins of the order have been looked at, and those from i on have yet to ask
+pub record Noting (C : Context) (pl : List ℕ) (m i : ℕ) (w₀ w : List ℕ) (c : Counts) : Type 0 where
+  pub frame : Frame (NEEDED ∷ MARK ∷ STACK ∷ []) m w₀ w
+  pub few : c .noted ≤ i
+  pub held : Holds STACK m (c .noted) (keep (lacking (C .X)) (take i (C .X .order))) w
+  pub now : Marked NEEDED MARK m (c .needed) (list NEEDED m (c .needed) w) w
+  pub same : insertAll (gather (lacks (C .X) (treeOf (C .X) pl)) (keep (lacking (C .X)) (drop i (C .X .order)))) (list NEEDED m (c .needed) w) ≡ wanted (C .X) pl
 
 -- the k pins of column f stand for the order: of every plan they make the same pins needed
 pub record Asking (C : Context) (m f k : ℕ) (w : List ℕ) : Type 0 where
@@ -87,9 +86,11 @@ pub record Asking (C : Context) (m f k : ℕ) (w : List ℕ) : Type 0 where
   pub listed : Sub (list f m k w) (C .X .seen)
   pub same : (pl : List ℕ) → distinct (gather (lacks (C .X) (treeOf (C .X) pl)) (list f m k w)) ≡ wanted (C .X) pl
 
-pub record Noted (C : Context) (m : ℕ) (w w′ : List ℕ) (s : ℕ) : Type 0 where
-  pub frame : Frame (STACK ∷ []) m w w′
-  pub asking : Asking C m STACK s w′
+-- the noted pins stand for the order, and the needed ones are listed and marked
+pub record Surveyed (C : Context) (pl : List ℕ) (m : ℕ) (w w′ : List ℕ) (c : Counts) : Type 0 where
+  pub frame : Frame (NEEDED ∷ MARK ∷ STACK ∷ []) m w w′
+  pub asking : Asking C m STACK (c .noted) w′
+  pub now : Marked NEEDED MARK m (c .needed) (wanted (C .X) pl) w′
 
 -- the counts of a plan stand in their column, and no pin is marked
 pub record CountAt (C : Context) (pl : List ℕ) (m n f k : ℕ) (gates w : List ℕ) : Type 0 where
@@ -129,3 +130,9 @@ pub record Unmarked (m : ℕ) (xs w w′ : List ℕ) : Type 0 where
 pub record Needed (C : Context) (pl : List ℕ) (m : ℕ) (w w′ : List ℕ) (r : ℕ) : Type 0 where
   pub frame : Frame (NEEDED ∷ []) m w w′
   pub list : Holds NEEDED m r (wanted (C .X) pl) w′
+
+-- with the noted pins beside it, which stand for the order
+pub record Noted (C : Context) (pl : List ℕ) (m : ℕ) (w w′ : List ℕ) (c : Counts) : Type 0 where
+  pub frame : Frame (NEEDED ∷ STACK ∷ []) m w w′
+  pub list : Holds NEEDED m (c .needed) (wanted (C .X) pl) w′
+  pub asking : Asking C m STACK (c .noted) w′

@@ -22,7 +22,13 @@ ghost use Rattle.rules.specs.Placing.{treeOf, asked};
 ghost use Rattle.rules.specs.Inside.Lean.{lacks, lacking};
 ghost use Rattle.rules.specs.Inside.Some.{Some, Every};
 ghost use Rattle.stage_walk.specs.Stands.{SomePlan, EveryPlan};
-ghost use Rattle.stage_needed.specs.Needed.{missing, Needs, AskAt, ItselfAt, NeedAt, LackAt, NotePinAt, NotedPin, NoteAt, Noted, CountAt, NeededAt, Collected, UnmarkAt, Unmarked, Needed};
+ghost use Rattle.stage_needed.specs.Needed.{missing, Needs, AskAt, ItselfAt, NeedAt, LackAt, NotePinAt, NotedPin, Surveyed, Noted, CountAt, NeededAt, Collected, UnmarkAt, Unmarked, Needed};
+
+// Pins that are noted, and pins that they make needed.
+pub struct Counts {
+    pub noted: usize,
+    pub needed: usize,
+}
 
 // Pin p behind the needed list of n pins, if it has level 0 and is not placed. Returns how many are listed.
 fn ask(work: &mut [u32], m: usize, n: usize, p: Pin) -> usize
@@ -110,31 +116,39 @@ fn lacking(gates: &[u32], work: &[u32], m: usize, p: Pin) -> bool
     }
 }
 
-// Pin p behind the s noted pins, if it lacks anything. Returns how many are noted.
-fn note_pin(gates: &[u32], work: &mut [u32], m: usize, s: usize, p: Pin) -> usize
-    requires { ⌜ Some (λ C. NotePinAt C m (now gates) (now work) s (p .0)) ⌝ }
-    ensures { λ r. ⌜ Every (λ C. NotePinAt C m (now (gates .entry)) (now (work .entry)) s (p .0)) (λ C. NotedPin C m (now (work .entry)) s (p .0) (now (work .exit)) r) ⌝ }
+// Pin p, if it lacks anything before anything is placed: what it makes needed goes behind the needed pins, and it behind the noted ones.
+fn note_pin(gates: &[u32], work: &mut [u32], m: usize, c: Counts, p: Pin) -> Counts
+    requires { ⌜ SomePlan (λ C pl. NotePinAt C pl m (now gates) (now work) c (p .0)) ⌝ }
+    ensures { λ r. ⌜ EveryPlan (λ C pl. NotePinAt C pl m (now (gates .entry)) (now (work .entry)) c (p .0)) (λ C pl. NotedPin C pl m (now (work .entry)) c (p .0) (now (work .exit)) r) ⌝ }
 {
     if lacking(gates, work, m, p) {
-        push(work, m, s, STACK, p);
-        return s + 1;
+        let needed = need(gates, work, m, c.needed, p);
+        push(work, m, c.noted, STACK, p);
+        let noted = c.noted + 1;
+        return Counts {
+            noted: noted,
+            needed: needed,
+        };
     }
-    s
+    c
 }
 
-// Of the k listed pins those that lack anything before anything is placed, noted in STACK. Returns how many they are.
-pub fn note(gates: &[u32], work: &mut [u32], m: usize, n: usize, k: usize) -> usize
-    requires { ⌜ Some (λ C. NoteAt C m n k (now gates) (now work)) ⌝ }
-    ensures { λ r. ⌜ Every (λ C. NoteAt C m n k (now (gates .entry)) (now (work .entry))) (λ C. Noted C m (now (work .entry)) (now (work .exit)) r) ⌝ }
+// The k listed pins, one after the other: a pin is looked at once, for the note and for the first count.
+fn survey(gates: &[u32], work: &mut [u32], m: usize, n: usize, k: usize) -> Counts
+    requires { ⌜ SomePlan (λ C pl. NeededAt C pl m n k (now gates) (now work)) ⌝ }
+    ensures { λ r. ⌜ EveryPlan (λ C pl. NeededAt C pl m n k (now (gates .entry)) (now (work .entry))) (λ C pl. Surveyed C pl m (now (work .entry)) (now (work .exit)) r) ⌝ }
 {
-    let mut s = 0;
+    let mut c = Counts {
+        noted: 0,
+        needed: 0,
+    };
     let mut i = 0;
     while i < k {
         let p = pin_at(work, m, i, ORDER);
-        s = note_pin(gates, work, m, s, p);
+        c = note_pin(gates, work, m, c, p);
         i += 1;
     }
-    s
+    c
 }
 
 // What the k pins of column f make needed.
@@ -182,4 +196,14 @@ pub fn needed(gates: &[u32], work: &mut [u32], m: usize, n: usize, k: usize) -> 
     ensures { λ r. ⌜ EveryPlan (λ C pl. NeededAt C pl m n k (now (gates .entry)) (now (work .entry))) (λ C pl. Needed C pl m (now (work .entry)) (now (work .exit)) r) ⌝ }
 {
     counted(gates, work, m, n, ORDER, k)
+}
+
+// The same, and of the k listed pins those that lack anything before anything is placed are noted in STACK: they stand for the order from now on.
+pub fn note(gates: &[u32], work: &mut [u32], m: usize, n: usize, k: usize) -> Counts
+    requires { ⌜ SomePlan (λ C pl. NeededAt C pl m n k (now gates) (now work)) ⌝ }
+    ensures { λ r. ⌜ EveryPlan (λ C pl. NeededAt C pl m n k (now (gates .entry)) (now (work .entry))) (λ C pl. Noted C pl m (now (work .entry)) (now (work .exit)) r) ⌝ }
+{
+    let c = survey(gates, work, m, n, k);
+    unmark(work, m, c.needed);
+    c
 }

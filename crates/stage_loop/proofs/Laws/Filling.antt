@@ -21,15 +21,16 @@ use Rattle.columns.specs.Lists.{Marks, Clear}
 use Rattle.columns.proofs.Area.Frames.{frame-more}
 use Rattle.columns.proofs.Lists.Marks.{marks-frame}
 use Rattle.stage_walk.specs.Stands.{Context, Set, Tally}
-use Rattle.stage_needed.specs.Needed.{NoteAt, Noted, CountAt, NeededAt, Needed}
+use Rattle.stage_needed.specs.declared.Counts.{Counts}
+use Rattle.stage_needed.specs.Needed.{Noted, CountAt, NeededAt, Needed}
 use Rattle.stage_needed.proofs.Laws.Collecting.{asking-frame, step-needed}
 use Rattle.stage_walk.proofs.Contexts.{level-below, work}
 use Rattle.stage_tree.specs.Bits.{Standing}
 use Rattle.stage_tree.proofs.Bits.Standing.{first-stands}
-use Rattle.stage_loop.specs.Loop.{Changed, Counted, SettleAt, LeanAt, Leaned}
+use Rattle.stage_loop.specs.Loop.{Changed, LeanAt, Leaned}
 use Rattle.stage_loop.specs.Filling.{RowAt, GrowAt, Grown, FillAt, FilledTree}
 use Rattle.stage_tree.proofs.Counts.Kept.{tally-frame}
-use Rattle.stage_loop.proofs.Laws.Tries.{kept-none, kept-then, kept-changed, changed-then, set-kept, noted-kept, clear-kept, count-at, counted}
+use Rattle.stage_loop.proofs.Laws.Tries.{kept-none, kept-changed, changed-then, set-kept}
 
 -- a row's start, from what a height answers
 pub row-there : {K h r : ℕ} → RowAt K h → r ≡ orZero (hasLevel K h) (rowAt K h) → r ≡ rowAt K h
@@ -71,57 +72,43 @@ module _ {C : Context} {m n k h K : ℕ} {gates pl w : List ℕ} (A : GrowAt C m
     greatest-most (levelAt (C .X)) (m - 1) 0 (C .X .order) (omega arith) (λ x i. omega (arith, level-below C x (C .S .listed x i), A .set .begun .base .size)),
   )
 
-  -- pins may be noted
-  pub grow-note : NoteAt C m n k gates w
-  grow-note = record { begun = A .set .begun; ordered = A .set .ordered; levelled = A .set .levelled }
+  -- the needed pins of the empty plan may be counted, and pins noted
+  pub grow-note : NeededAt C pl m n k gates w
+  grow-note = step-needed (A .set) pl (A .tally .cells) (A .clear)
 
-  module _ {w1 : List ℕ} {s : ℕ} (N₀ : Noted C m w w1 s) where
+  module _ {w1 : List ℕ} {c : Counts} {wd half : ℕ} (N : Noted C pl m w w1 c) (row : wd ≡ rowAt K h) (one : half ≡ orZero (isHeight K) (levelOneSize K)) where
     noting : Changed m w w1
-    noting = record { frame = frame-more refl (N₀ .frame); rest = λ j a b c d. N₀ .frame .past refl j a }
+    noting = record { frame = frame-more refl (N .frame); rest = λ j a b c d. N .frame .past refl j a }
 
-    settle : SettleAt C m n s (levelOneSize (C .X .K)) 0 gates pl w1
-    settle =
+    up : suc (h - 1) ≡ h
+    up = omega (arith, A .low)
+
+    -- the loop may start
+    pub grow-lean : LeanAt C m n (c .noted) (h - 1) wd half gates pl w1 (c .needed)
+    grow-lean =
         let S = set-kept noting (A .set) in
         record {
-          set = record { begun = S .begun; levelled = S .levelled; listed = S .listed; asking = N₀ .asking };
-          clear = marks-frame (A .clear) (N₀ .frame) refl (omega arith);
-          tally = tally-frame (N₀ .frame) refl refl (A .tally);
-          cap = refl;
-          few = omega arith;
+          plan = record {
+            set = record { begun = S .begun; levelled = S .levelled; listed = S .listed; asking = N .asking };
+            clear = marks-frame (A .clear) (N .frame) refl (omega arith);
+            tally = tally-frame (N .frame) refl refl (A .tally);
+            fair = rw up (A .fair);
+          };
+          wide = record { low = omega arith; high = omega (arith, up, A .level); row = rw (up, ← A .height) row };
+          cap = rw (A .height) at (tall-answer K (row-at .least) (row-at .most) one);
+          enough = omega (arith, N .list .count);
+          few = N .list .few;
+          deep = omega (arith, up, deep);
         }
 
-    -- the needed pins of the empty plan may be counted by them
-    pub grow-count : CountAt C pl m n STACK s gates w1
-    grow-count = count-at settle
-
-    module _ {w2 : List ℕ} {b wd half : ℕ} (N : Needed C pl m w1 w2 b) (row : wd ≡ rowAt K h) (one : half ≡ orZero (isHeight K) (levelOneSize K)) where
-      N₁ : Counted C m pl w1 w2 b
-      N₁ = counted settle N
-
-      up : suc (h - 1) ≡ h
-      up = omega (arith, A .low)
-
-      -- the loop may start
-      pub grow-lean : LeanAt C m n s (h - 1) wd half gates pl w2 b
-      grow-lean = record {
-        plan = record { set = noted-kept (N₁ .kept) (settle .set); clear = clear-kept (N₁ .kept) (settle .clear); tally = N₁ .tally; fair = rw up (A .fair) };
-        wide = record { low = omega arith; high = omega (arith, up, A .level); row = rw (up, ← A .height) row };
-        cap = rw (A .height) at (tall-answer K (row-at .least) (row-at .most) one);
-        enough = omega (arith, N₁ .count);
-        few = N₁ .few;
-        deep = omega (arith, up, deep);
-      }
-
-      -- what the loop comes to is the plan of rules 2 to 7
-      pub grown : {pl3 w3 : List ℕ} → Leaned C m (h - 1) pl w2 b pl3 w3 → Grown C m w s pl3 w3
-      grown L =
-          let kept = kept-then (N₁ .kept) (L .kept) in
-          record {
-            is = L .same ∙ rw (up, N₁ .count) (let z : length (wanted (C .X) pl) ≡ b₀ = rw (A .first) refl in rw z (sym plan-is));
-            kept = changed-then noting (kept-changed kept);
-            tally = L .tally;
-            asking = asking-frame (N₀ .asking) (kept .frame) refl;
-          }
+    -- what the loop comes to is the plan of rules 2 to 7
+    pub grown : {pl2 w2 : List ℕ} → Leaned C m (h - 1) pl w1 (c .needed) pl2 w2 → Grown C m w (c .noted) pl2 w2
+    grown L = record {
+      is = L .same ∙ rw (up, ← N .list .count) (let z : length (wanted (C .X) pl) ≡ b₀ = rw (A .first) refl in rw z (sym plan-is));
+      kept = changed-then noting (kept-changed (L .kept));
+      tally = L .tally;
+      asking = asking-frame (N .asking) (L .kept .frame) refl;
+    }
 
 -- ---- the plan of the tree
 

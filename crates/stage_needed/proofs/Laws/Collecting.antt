@@ -57,8 +57,9 @@ pub count-order : {C : Context} {pl : List ℕ} {m n k : ℕ} {gates w : List �
 count-order A = record { begun = A .begun; asking = asking-order (A .ordered); levelled = A .levelled; cells = A .cells; unmarked = A .unmarked }
 
 module _ {C : Context} {pl : List ℕ} {m n f k : ℕ} {gates w₀ : List ℕ} (A : CountAt C pl m n f k gates w₀) where
-  tells : Tells C pl m w₀
-  tells = record {
+  -- what the columns tell
+  pub count-tells : Tells C pl m w₀
+  count-tells = record {
     area = A .begun .base .area;
     size = A .begun .base .size;
     waits = λ p h. placed-test (A .begun .waiting) p h;
@@ -94,7 +95,7 @@ module _ {C : Context} {pl : List ℕ} {m n f k : ℕ} {gates w₀ : List ℕ} (
       -- the next pin may ask
       pub need-at : NeedAt C pl m gates w r p
       need-at = record {
-        needing = record { tells = tells-frame tells (U .frame) refl refl refl; now = U .now };
+        needing = record { tells = tells-frame count-tells (U .frame) refl refl refl; now = U .now };
         reads = reads-frame C (begun-reads (A .begun)) (U .frame) refl;
         listed = A .asking .listed p (rw is-pin (holds-in (A .asking .held) i h));
       }

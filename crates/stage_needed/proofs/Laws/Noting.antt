@@ -1,4 +1,4 @@
--- Which pins lack anything before anything is placed, noted along the order. Assumes nothing.
+-- Which pins lack anything before anything is placed, noted along the order while the needed pins are listed. Assumes nothing.
 use mathlib.Core.Path.{_≡_, refl, sym, _∙_}
 use mathlib.Core.Bool.{Bool, true, false, not, _&&_, _||_}
 use mathlib.Core.List.{List, [], _∷_, append-nil}
@@ -7,25 +7,28 @@ use native.Mathlib.Omega.{arith}
 use native.Mathlib.Numerals.{add-one}
 use borrow.Author.Tests.{eq-eqb, ne-eqb}
 use lib.Dec.{eqb}
-use lib.ListN.{getD, set, take}
-use lib.Seq.{take-suc, take-all}
-use Rattle.rules.specs.Lists.{mem, keep, isNil}
+use lib.ListN.{getD, set, take, drop, drop-of-length-le}
+use lib.Seq.{take-suc, take-all, drop-cons}
+use Rattle.rules.specs.Lists.{mem, keep, isNil, gather, insertAll, distinct, nobody}
 use Rattle.rules.specs.Graph.{below}
 use Rattle.rules.specs.Traversal.{levelAt}
-use Rattle.rules.specs.Placing.{asked}
-use Rattle.rules.specs.Inside.Lean.{lacks, lacking, noted}
-use Rattle.rules.proofs.Lists.Members.{split, keep-in, keep-append}
+use Rattle.rules.specs.Placing.{asked, treeOf}
+use Rattle.rules.specs.Inside.Lean.{lacks, lacking, noted, wanted}
+use Rattle.rules.proofs.Lists.Members.{split, keep-in, keep-append, insertAll-append}
 use Rattle.rules.proofs.Needed.Lacks.{noted-wanted}
-use Rattle.columns.specs.Fields.{ORDER, LEVEL, STACK, PLACE}
-use Rattle.columns.specs.Lists.{Holds}
-use Rattle.columns.proofs.Area.Frames.{frame-none, frame-then, frame-set, frame-col}
+use Rattle.columns.specs.Area.{Frame}
+use Rattle.columns.specs.Fields.{ORDER, LEVEL, NEEDED, STACK, PLACE, MARK}
+use Rattle.columns.specs.Lists.{list, Holds}
+use Rattle.columns.proofs.Area.Frames.{frame-none, frame-then, frame-set, frame-more, frame-less, frame-room}
 use Rattle.columns.proofs.Lists.Entries.{holds-self, holds-none, holds-frame, holds-at, holds-in, holds-push}
-use Rattle.columns.proofs.Lists.Places.{placed-test}
+use Rattle.columns.proofs.Lists.Marks.{marked-self, marked-frame}
 use Rattle.stage_walk.specs.Stands.{Context}
 use Rattle.stage_walk.proofs.Gates.{Both, none-of, both-of, reads-frame}
 use Rattle.stage_walk.proofs.traversal.Loops.{begun-reads}
-use Rattle.stage_needed.specs.Needed.{LackAt, NotePinAt, NotedPin, NoteAt, Noting, Noted}
-use Rattle.stage_needed.proofs.Laws.Asking.{level-told}
+use Rattle.stage_needed.specs.declared.Counts.{Counts}
+use Rattle.stage_needed.specs.Needed.{Needs, LackAt, NotePinAt, NotedPin, Noting, NeededAt, Surveyed, UnmarkAt, Unmarked, Noted}
+use Rattle.stage_needed.proofs.Laws.Asking.{level-told, tells-frame}
+use Rattle.stage_needed.proofs.Laws.Collecting.{asking-frame, count-order, count-tells}
 
 -- ---- one pin
 
@@ -108,35 +111,61 @@ module _ {C : Context} {m : ℕ} {gates w : List ℕ} {p : ℕ} (A : LackAt C m 
 
 -- ---- one pin more
 
-module _ {C : Context} {m : ℕ} {gates w : List ℕ} {s p : ℕ} (A : NotePinAt C m gates w s p) where
-  -- a pin that lacks something goes behind the noted ones
-  pub note-more : true ≡ lacking (C .X) p → NotedPin C m w s p (set w (STACK * m + s) p) (s + 1)
-  unfolding keep
-  note-more t = record {
-    frame = frame-set STACK s p (A .few) (omega arith) refl;
-    more = omega arith;
-    held = λ xs H. rw (sym t, keep) (holds-push H p (lack-pin (A .lack)) (A .few) (omega (arith, A .lack .reads .base .area .room)));
-  }
+-- what a pin makes needed goes in before what the pins after it do
+note-next : (t : ℕ → Bool) (f : ℕ → List ℕ) (p : ℕ) (ps zs : List ℕ) → insertAll (gather f (keep t (p ∷ ps))) zs ≡ insertAll (gather f (keep t ps)) (insertAll (gather f (keep t (p ∷ []))) zs)
+unfolding keep gather insertAll
+note-next t f p ps zs = split (t p) (λ e. rw (e, keep, append-nil) (insertAll-append (f p) (gather f (keep t ps)) zs)) (λ e. rw (e, keep))
 
-  -- one that lacks nothing doesn't
-  pub note-none : false ≡ lacking (C .X) p → NotedPin C m w s p w s
-  unfolding keep
-  note-none t = record { frame = frame-none; more = omega arith; held = λ xs H. rw (sym t, keep, append-nil) H }
+module _ {C : Context} {pl : List ℕ} {m : ℕ} {gates w : List ℕ} {c : Counts} {p : ℕ} (A : NotePinAt C pl m gates w c p) where
+  -- whether it lacks anything may be asked
+  pub note-lack : LackAt C m gates w p
+  note-lack =
+      let N = A .need in
+      record { reads = N .reads; levelled = N .needing .tells .levelled; waits = N .needing .tells .waits; listed = N .listed }
+
+  -- a pin that lacks something makes pins needed, and goes behind the noted ones
+  pub note-more : true ≡ lacking (C .X) p → {w₁ : List ℕ} {r : ℕ} → Needs m w (c .needed) w₁ r (lacks (C .X) (treeOf (C .X) pl) p) → NotedPin C pl m w c p (set w₁ (STACK * m + c .noted) p) (record { noted = c .noted + 1; needed = r })
+  unfolding keep gather
+  note-more t {w₁} {r} N =
+      let own : Frame (STACK ∷ []) m w₁ (set w₁ (STACK * m + c .noted) p) = frame-set STACK (c .noted) p (A .few) (omega arith) refl in
+      record {
+        frame = frame-then (frame-more refl (N .frame)) (frame-more refl own);
+        more = omega arith;
+        held = λ xs H. rw (sym t, keep) (holds-push (holds-frame H (N .frame) refl (omega arith)) p (lack-pin note-lack) (A .few) (omega (arith, A .need .reads .base .area .room, N .frame .len)));
+        now = rw (sym t, keep, append-nil) (marked-frame (N .now) own refl refl (omega arith) (omega arith));
+      }
+
+  -- one that lacks nothing does neither
+  pub note-none : false ≡ lacking (C .X) p → NotedPin C pl m w c p w c
+  unfolding keep gather insertAll
+  note-none t = record {
+    frame = frame-none;
+    more = omega arith;
+    held = λ xs H. rw (sym t, keep, append-nil) H;
+    now = rw (sym t, keep) (A .need .needing .now);
+  }
 
 -- ---- along the order
 
-module _ {C : Context} {m n k : ℕ} {gates w₀ : List ℕ} (A : NoteAt C m n k gates w₀) where
-  -- at the start none is noted
-  pub noting-start : Noting C m 0 w₀ w₀ 0
-  unfolding keep
-  noting-start = record { frame = frame-none; few = omega arith; held = holds-none }
+module _ {C : Context} {pl : List ℕ} {m n k : ℕ} {gates w₀ : List ℕ} (A : NeededAt C pl m n k gates w₀) where
+  -- at the start none is noted, and none needed
+  pub noting-start : Noting C pl m 0 w₀ w₀ (record { noted = 0; needed = 0 })
+  unfolding keep list distinct noted
+  noting-start = record {
+    frame = frame-none;
+    few = omega arith;
+    held = holds-none;
+    now = record { held = holds-none; once = nobody; marks = A .unmarked };
+    same = noted-wanted (C .X) pl;
+  }
 
-  module _ {i : ℕ} {w : List ℕ} {s : ℕ} (U : Noting C m i w₀ w s) where
-    -- at the end the noted pins stand for the order
-    pub noting-end : k ≤ i → Noted C m w₀ w s
-    unfolding noted
+  module _ {i : ℕ} {w : List ℕ} {c : Counts} (U : Noting C pl m i w₀ w c) where
+    -- at the end the noted pins stand for the order, and the needed ones are listed
+    pub noting-end : k ≤ i → Surveyed C pl m w₀ w c
+    unfolding noted keep gather insertAll
     noting-end h =
-        let H : Holds STACK m s (noted (C .X)) w = rw (take-all i (C .X .order) (omega (arith, A .ordered .order .count))) at (U .held) in
+        let H : Holds STACK m (c .noted) (noted (C .X)) w = rw (take-all i (C .X .order) (omega (arith, A .ordered .order .count))) at (U .held) in
+        let e : list NEEDED m (c .needed) w ≡ wanted (C .X) pl = rw (drop-of-length-le (C .X .order) {i = i} (omega (arith, A .ordered .order .count))) at (U .same) in
         record {
           frame = U .frame;
           asking = record {
@@ -146,6 +175,7 @@ module _ {C : Context} {m n k : ℕ} {gates w₀ : List ℕ} (A : NoteAt C m n k
             listed = λ x e. C .S .listed x (keep-in (lacking (C .X)) x (C .X .order) (rw (H .is) at e) .0);
             same = λ pl. rw (H .is) (noted-wanted (C .X) pl);
           };
+          now = rw e at (U .now);
         }
 
     module _ (h : i < k) (p : ℕ) (ep : p ≡ getD w (ORDER * m + i) 0) where
@@ -153,21 +183,40 @@ module _ {C : Context} {m n k : ℕ} {gates w₀ : List ℕ} (A : NoteAt C m n k
       order = holds-frame (A .ordered .order) (U .frame) refl (omega arith)
 
       -- the next pin of the order may be looked at
-      pub note-pin-at : NotePinAt C m gates w s p
+      pub note-pin-at : NotePinAt C pl m gates w c p
       note-pin-at = record {
-        lack = record {
+        need = record {
+          needing = record { tells = tells-frame (count-tells (count-order A)) (U .frame) refl refl refl; now = U .now };
           reads = reads-frame C (begun-reads (A .begun)) (U .frame) refl;
-          levelled = record { levels = frame-col (U .frame) LEVEL refl (omega arith) ∙ A .levelled .levels };
-          waits = λ q b. rw (U .frame .cell PLACE refl (omega arith) q b) (placed-test (A .begun .waiting) q b);
           listed = C .S .listed p (rw ep (holds-in order i h));
         };
         few = omega (arith, U .few, order .few);
       }
 
+      first : p ≡ getD (C .X .order) i 0
+      first = ep ∙ holds-at order i h
+
       -- one more has been
-      pub noting-more : {w′ : List ℕ} {r : ℕ} → NotedPin C m w s p w′ r → Noting C m (i + 1) w₀ w′ r
+      pub noting-more : {w′ : List ℕ} {r : Counts} → NotedPin C pl m w c p w′ r → Noting C pl m (i + 1) w₀ w′ r
       noting-more {w′} {r} N = record {
         frame = frame-then (U .frame) (N .frame);
         few = omega (arith, U .few, N .more);
-        held = rw (add-one i, take-suc (C .X .order) i 0 (omega (arith, order .count)), sym (holds-at order i h), sym ep, keep-append) (N .held (keep (lacking (C .X)) (take i (C .X .order))) (U .held));
+        held = rw (add-one i, take-suc (C .X .order) i 0 (omega (arith, order .count)), sym first, keep-append) (N .held (keep (lacking (C .X)) (take i (C .X .order))) (U .held));
+        now = marked-self (N .now);
+        same = rw (add-one i, N .now .held .is) (sym (note-next (lacking (C .X)) (lacks (C .X) (treeOf (C .X) pl)) p (drop (suc i) (C .X .order)) (list NEEDED m (c .needed) w)) ∙ (rw (drop-cons (C .X .order) i 0 (omega (arith, order .count)), sym first) at (U .same)));
       }
+
+-- ---- the marks go
+
+module _ {C : Context} {pl : List ℕ} {m n k : ℕ} {gates w : List ℕ} (A : NeededAt C pl m n k gates w) {v : List ℕ} {c : Counts} (L : Surveyed C pl m w v c) where
+  -- the marks of the needed pins may go
+  pub note-unmark : UnmarkAt m (c .needed) v
+  note-unmark = record { area = frame-room (L .frame) (A .begun .base .area); now = marked-self (L .now) }
+
+  -- with the marks gone the needed pins are listed and the noted ones stand, and all else is as it was
+  pub note-all : {w′ : List ℕ} → Unmarked m [] v w′ → Noted C pl m w w′ c
+  note-all U = record {
+    frame = frame-less MARK (omega arith) (frame-then (frame-more refl (L .frame)) (frame-more refl (U .frame))) (λ p h. U .marks .mark p h ∙ sym (A .unmarked .mark p h));
+    list = holds-frame (L .now .held) (U .frame) refl (omega arith);
+    asking = asking-frame (L .asking) (U .frame) refl;
+  }
