@@ -1,13 +1,12 @@
 #!/usr/bin/env python3
-"""Write the inputs that speed/versions measures, a file each, always the same.
+"""Write the inputs that speed/versions measures, a file each, always the same. The first six are those of oracle/bench, number for number.
 
 usage: speed/inputs.py FOLDER
-A file has 32-bit numbers, lowest byte first: how many numbers of gates, of records, of group indices and partitions it has (0 of the last two for a
-build), then these lists. Its name says what it is.
+A file has 32-bit numbers, lowest byte first: the word rule, how many numbers of gates, of records, of group indices and partitions it has (0 of the last
+two for a build), then these lists. Its name says what it is.
 """
 import array
 import pathlib
-import random
 import sys
 
 sys.dont_write_bytecode = True
@@ -16,27 +15,56 @@ sys.path.insert(0, str(ROOT / "aiger"))
 import reader  # noqa: E402
 
 EMPTY = 4294967295
-chance = random.Random(2024)
+NEEDED_RUNS, EVERY_RUN = 0, 1  # word rules
+WORD = 2**64 - 1
 
 
-def literal(pin):
-    return 2 * pin + chance.randrange(2)
+class Random:
+    """Splitmix64, and the draws of oracle/src/random.rs."""
+
+    def __init__(self, seed):
+        self.state = seed
+
+    def between(self, low, high):
+        self.state = self.state + 0x9E3779B97F4A7C15 & WORD
+        z = self.state
+        z = (z ^ z >> 30) * 0xBF58476D1CE4E5B9 & WORD
+        z = (z ^ z >> 27) * 0x94D049BB133111EB & WORD
+        return low + (z ^ z >> 31) % (max(high, low) - low + 1)
+
+    def chance(self, percent):
+        return self.between(1, 100) <= percent
+
+    def literal(self, pin):
+        return 2 * pin + self.between(0, 1)
 
 
-def scattered(leaves, gates, near, far):
-    """Operands from the `near` pins before, or, so many in a hundred, from any."""
-    numbers = [EMPTY] * (2 + 2 * leaves)
-    for pin in range(leaves + 1, leaves + gates + 1):
-        for _ in range(2):
-            low = 1 if chance.randrange(100) < far else max(1, pin - near)
-            numbers.append(literal(chance.randrange(low, pin)))
+def scattered(r, leaves, gates, near, far):
+    """Operands from the `near` pins before, or, so many in a hundred, from any; leaves may stand among the gates."""
+    is_leaf = [True] * leaves + [False] * gates
+    if r.chance(30):
+        for i in range(leaves + gates - 2, 0, -1):
+            j = r.between(0, i)
+            is_leaf[1 + i], is_leaf[1 + j] = is_leaf[1 + j], is_leaf[1 + i]
+    numbers = [EMPTY] * 2
+    for pin, leaf in enumerate(is_leaf, 1):
+        if leaf:
+            numbers += [EMPTY] * 2
+            continue
+        a, b = (r.between(1 if r.chance(far) else max(1, pin - near), pin - 1) for _ in range(2))
+        if r.chance(5):
+            b = a
+        numbers += [r.literal(a), r.literal(b)]
     return numbers
 
 
-def chain(leaves, gates):
+def chain(r, leaves, gates):
+    """Each gate on the one before and a leaf, in either order."""
     numbers = [EMPTY] * (2 + 2 * leaves)
     for pin in range(leaves + 1, leaves + gates + 1):
-        numbers += [literal(pin - 1), literal(chance.randint(1, leaves))]
+        leaf = r.between(1, leaves)
+        both = [r.literal(pin - 1), r.literal(leaf)]
+        numbers += both if r.chance(50) else both[::-1]
     return numbers
 
 
@@ -73,11 +101,11 @@ def outputs(gates, count, last=65535):
     return [number for pin in [pin for pin in tops(gates) if pin <= last][-count:] for number in (1, 2 * pin)]
 
 
-def spread(records, parts):
+def spread(r, records, parts):
     """The records, two numbers each, spread over partitions."""
     lists = [[] for _ in range(parts)]
     for record in range(len(records) // 2):
-        lists[chance.randrange(parts)].append(record)
+        lists[r.between(0, parts - 1)].append(record)
     lists = [part for part in lists if part]
     return [record for part in lists for record in part], [len(part) for part in lists]
 
@@ -87,36 +115,44 @@ def main():
         sys.exit(__doc__)
     room = pathlib.Path(sys.argv[1])
 
-    def put(name, gates, records, indices=(), lengths=()):
+    def put(name, rule, gates, records, indices=(), lengths=()):
         lists = [list(gates), list(records), list(indices), list(lengths)]
-        numbers = array.array("I", [len(part) for part in lists] + [number for part in lists for number in part])
+        numbers = array.array("I", [rule] + [len(part) for part in lists] + [number for part in lists for number in part])
         if sys.byteorder == "big":
             numbers.byteswap()
         (room / name).write_bytes(numbers.tobytes())
 
-    for name, leaves, gates, near, far, count, last in (
-        ("20,000 gates, near 1,000", 2000, 20_000, 1000, 0, 200, 20_000),
-        ("20,000 gates, near 1,000, far operands", 2000, 20_000, 1000, 20, 200, 20_000),
-        ("60,000 gates, near 3,000", 3000, 60_000, 3000, 0, 100, 30_000),
-        ("60,000 gates, near 3,000, far operands", 3000, 60_000, 3000, 20, 100, 40_000),
-        ("20,000 gates, near 2,000", 2000, 20_000, 2000, 0, 400, 65_535),
-        ("20,000 gates, near 300", 2000, 20_000, 300, 0, 400, 65_535),
-        ("60,000 gates, near 300", 3000, 60_000, 300, 0, 400, 65_535),
+    # those of oracle/bench: one stream of draws, in its order, and the Rust's word rule
+    r = Random(2024)
+    for name, leaves, gates, near, far, last, count in (
+        ("20,000 gates, near operands", 2000, 20_000, 1000, 0, 20_000, 200),
+        ("20,000 gates, far operands", 2000, 20_000, 1000, 20, 20_000, 200),
+        ("60,000 gates, near operands", 3000, 60_000, 3000, 0, 30_000, 100),
+        ("60,000 gates, far operands", 3000, 60_000, 3000, 20, 40_000, 200),
     ):
-        graph = scattered(leaves, gates, near, far)
-        put(name, graph, outputs(graph, count, last))
-    graph = chain(64, 10_000)
-    put("a chain of 10,000 gates", graph, outputs(graph, 1))
+        graph = scattered(r, leaves, gates, near, far)
+        put(name, EVERY_RUN, graph, outputs(graph, count, last))
+    graph = chain(r, 64, 10_000)
+    put("a chain of 10,000 gates", EVERY_RUN, graph, outputs(graph, 1))
     graph = adders(16, 64)
-    put("64 adders of 16 bits", graph, outputs(graph, 1000))
+    put("64 adders of 16 bits", EVERY_RUN, graph, outputs(graph, 1000))
+    # others
+    r = Random(2025)
+    for name, leaves, gates, near in (
+        ("20,000 gates, near 2,000", 2000, 20_000, 2000),
+        ("20,000 gates, near 300", 2000, 20_000, 300),
+        ("60,000 gates, near 300", 3000, 60_000, 300),
+    ):
+        graph = scattered(r, leaves, gates, near, 0)
+        put(name, NEEDED_RUNS, graph, outputs(graph, 400))
     graph = adders(64, 112)
-    put("ripple adders, 50,000 gates", graph, outputs(graph, 2000))
+    put("ripple adders, 50,000 gates", NEEDED_RUNS, graph, outputs(graph, 2000))
     for name in ("adder", "checksum", "dupfilter"):
         gates, records, _ = reader.read((ROOT / f"examples/{name}.aag").read_bytes())
-        put(name, gates, records)
-    graph = scattered(2000, 20_000, 300, 0)
+        put(name, NEEDED_RUNS, gates, records)
+    graph = scattered(r, 2000, 20_000, 300, 0)
     records = outputs(graph, 3000)
-    put("a merge of 200 partitions, 20,000 gates", graph, records, *spread(records, 200))
+    put("a merge of 200 partitions, 20,000 gates", NEEDED_RUNS, graph, records, *spread(r, records, 200))
 
 
 if __name__ == "__main__":
