@@ -15,7 +15,6 @@ use Rattle.rules.specs.Placing.{tree}
 use Rattle.rules.specs.Build.{Stage}
 use Rattle.rules.specs.Fold.{firstAt, lowest}
 use Rattle.rules.proofs.Lists.Members.{split, eqb-true, eqb-same}
-use Rattle.rules.proofs.Lists.Lengths.{length-upTo}
 use Rattle.rules.proofs.Stage.Staged.{two-step}
 use Rattle.rules.specs.Inside.Walks.{rank}
 use Rattle.rules.proofs.Tree.Held.{tree-in}
@@ -27,6 +26,7 @@ use Rattle.rules.specs.Coded.{cellPin, andCell, codedCell, codedAt, coded, pins
 use Rattle.rules.specs.Faults.{isFound, heldIn}
 use Rattle.coded.proofs.Cells.{pin-empty, filled-pin, pin-plain, pin-and}
 use Rattle.rules.proofs.Fold.Bits.{getD-upTo}
+use Rattle.rules.proofs.Build.Coding.{length-coded}
 use Rattle.coded.proofs.Bits.{pin-at}
 use Rattle.coded.proofs.Tests.{Does, Fit, lt-true, lt-false}
 use Rattle.coded.proofs.Tests as tests
@@ -102,11 +102,6 @@ unfolding row pins
 row-same K h cl = ap (take (rowAt K h)) (map-drop cellPin (rowAt K h) cl) ∙ map-take cellPin (rowAt K h) (drop (rowAt K h) cl)
 
 -- ---- a stage
-
--- a cell a position
-pub length-coded : (K : ℕ) (g : List Node) (pl : List ℕ) → length (coded K g pl) ≡ 2 ^ (K + 1)
-unfolding coded
-length-coded K g pl = length-map (upTo (stageSize K) 0) (codedAt K g pl) ∙ length-upTo (stageSize K) 0
 
 module _ (K : ℕ) (g : List Node) (ok : Valid g) (few : length g ≤ 65536) (given : List ℕ) (held : ℕ → Type 0) (room : ℕ) (s : Stage) (H : Shape K g given held room s) where
   abbrev pl : List ℕ

@@ -15,7 +15,7 @@ use Rattle.rules.specs.Records.{waitingOf}
 use Rattle.rules.specs.Reservation.{reservable, reserved}
 use Rattle.rules.specs.Placing.{tree}
 use Rattle.rules.specs.Traversal.{WordRule}
-use Rattle.rules.specs.Build.{Stage, refusal, whole, build, cellsOf, wordsOf, countsOf}
+use Rattle.rules.specs.Build.{Stage, refusal, whole, build, cellsOf, wordsOf, countsOf, codedStages}
 use Rattle.rules.specs.Fold.{isLeaf}
 use Rattle.rules.proofs.Lists.Members.{split, T→true, in-here, in-there, in-cons, in-nil, in-getD}
 use Rattle.rules.proofs.Lists.Lengths.{length-upTo}
@@ -27,12 +27,13 @@ use Rattle.rules.proofs.Demand.{whole-written, wait-ends}
 use Rattle.sheet_form.proofs.Built.{waits-above}
 use Rattle.coded.specs.Inputs.{Input, graph, groups, built}
 use Rattle.coded.proofs.Passing.{tall, small, few, valid, above, named}
-use Rattle.rules.specs.Coded.{coded, codedStages, pins}
+use Rattle.rules.specs.Coded.{coded, pins}
 use Rattle.rules.specs.Faults.{faultless, rightAt, endRight, firstMay, heldIn, faultFrom, holdsIn, writtenIn, lastRight, faultOf, cut, fault}
 use Rattle.rules.proofs.Fold.Bits.{getD-upTo}
 use Rattle.coded.proofs.Tests.{and-both, found-is, all-pass, fits-right, Passes}
 use Rattle.coded.proofs.Shapes.{Shape, Shapes, whole-shapes}
-use Rattle.coded.proofs.Coding.{length-coded, pins-coded, filled-same, fits, free-coded, held-coded}
+use Rattle.rules.proofs.Build.Coding.{length-coded}
+use Rattle.coded.proofs.Coding.{pins-coded, filled-same, fits, free-coded, held-coded}
 
 in-every : (f : ℕ → Bool) (xs : List ℕ) → ((x : ℕ) → In x xs → f x ≡ true) → every f xs ≡ true
 unfolding every

@@ -16,7 +16,8 @@ use Rattle.rules.specs.Coded.{cellPin, codedCell, codedAt, coded, pins}
 use Rattle.coded.proofs.Cells.{pin-empty, pin-plain, pin-any}
 use Rattle.rules.proofs.Fold.Bits.{getD-upTo}
 use Rattle.coded.proofs.Bits.{pin-at}
-use Rattle.coded.proofs.Coding.{not-filled, length-coded}
+use Rattle.rules.proofs.Build.Coding.{length-coded}
+use Rattle.coded.proofs.Coding.{not-filled}
 
 -- what stands inside a list does not depend on what stands for the outside
 pub default-same : (xs : List ℕ) (i d e : ℕ) → i < length xs → getD xs i d ≡ getD xs i e

@@ -12,7 +12,7 @@ use Rattle.rules.specs.Lists.{padded, upTo}
 use Rattle.rules.specs.Cells.{filled, empty, stageSize, rooms}
 use Rattle.rules.specs.Graph.{Node, pinCount, ownBit}
 use Rattle.rules.specs.Traversal.{WordRule}
-use Rattle.rules.specs.Build.{Stage, whole, cellsOf}
+use Rattle.rules.specs.Build.{Stage, whole, cellsOf, codedStages}
 use Rattle.rules.specs.Fold.{bitAt, firstLoad, loadFrom, asNumber, stageBits, foldFrom, foldBits}
 use Rattle.rules.proofs.Lists.Members.{split}
 use Rattle.rules.proofs.Stage.Runs.{Blank, blank-take, blank-drop}
@@ -24,7 +24,7 @@ use Rattle.rules.specs.Loops.{Valid}
 use Rattle.rules.proofs.Demand.{Right, whole-right, whole-sizes}
 use Rattle.coded.specs.Inputs.{Input, graph, groups, built}
 use Rattle.coded.proofs.Passing.{tall, small, few, valid, named, counted}
-use Rattle.rules.specs.Coded.{cellPin, coded, codedStages, pins, bitOf, loadOf, cellBits, foldStages, foldCells}
+use Rattle.rules.specs.Coded.{cellPin, coded, pins, bitOf, loadOf, cellBits, foldStages, foldCells}
 use Rattle.rules.specs.Faults.{firstMay}
 use Rattle.coded.proofs.Cells.{pin-empty}
 use Rattle.coded.proofs.Bits.{bit-empty}
@@ -32,7 +32,8 @@ use Rattle.coded.proofs.Sound.{val, first-right}
 use Rattle.coded.proofs.Stages.{Folded, all-folded}
 use Rattle.coded.proofs.Reading.{accepted-parts}
 use Rattle.coded.proofs.Shapes.{Shape, Shapes}
-use Rattle.coded.proofs.Coding.{length-coded, pins-coded, pin-is, filled-same}
+use Rattle.rules.proofs.Build.Coding.{length-coded}
+use Rattle.coded.proofs.Coding.{pins-coded, pin-is, filled-same}
 use Rattle.coded.proofs.Complete.{built-shapes, built-right}
 use Rattle.rules.proofs.Fold.Bits as old
 

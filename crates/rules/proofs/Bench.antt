@@ -13,7 +13,7 @@ use Rattle.rules.specs.Traversal.{WordRule, everyRun, neededRuns, settin
 use Rattle.rules.specs.Placing.{place, takeBack, filledPlan}
 use Rattle.rules.specs.Checks.{workSize, pinShown}
 use Rattle.rules.specs.Build.{Areas, Outcome, placer}
-use Rattle.rules.specs.Fold.{folder}
+use Rattle.rules.specs.Coded.{foldCells}
 use Rattle.rules.specs.Merge.{MergeOutcome, merger, begun}
 use Rattle.rules.specs.Job.{Job?, noJob, job, readJob, File?, noFile, file, writeJob}
 use Rattle.rules.specs.Listing.{text, printed}
@@ -95,13 +95,12 @@ refusedAt r n k = (n ∷ 0 ∷ 0 ∷ k ∷ []) ∷ (empty ∷ empty ∷ 7 ∷ []
 abbrev unchanged : ℕ → List (List ℕ)
 unchanged n = (n ∷ 0 ∷ 0 ∷ 0 ∷ []) ∷ (7 ∷ 7 ∷ 7 ∷ []) ∷ (7 ∷ 7 ∷ 7 ∷ 7 ∷ 7 ∷ []) ∷ []
 
--- the first example's plan and work area at exit, its row of level 2, and its fold where all leaves are 1, in a result area of the plan's length
+-- the first example's plan of cells and work area at exit, its row of level 2, and its fold where all leaves are 1
 abbrev firstAreas : List (List ℕ)
 firstAreas =
     let o = placer everyRun 6 first [] (outputs (14 ∷ [])) (sevens 6 2 656) in
-    let f = folder 6 (o .areas .plan) first [] (replicate 8 1) (replicate 256 7) (replicate 9 7) in
     take 17 (o .areas .plan) ∷ take 2 (rowOf 6 1 4 (o .areas .plan)) ∷ rowOf 6 3 4 (o .areas .plan) ∷ o .areas .work
-    ∷ take 49 (f .result) ∷ f .work ∷ []
+    ∷ take 49 (foldCells 6 (o .areas .plan) (replicate 8 1)) ∷ []
 
 abbrev firstJob : List ℕ
 firstJob = 96 ∷ 0 ∷ 112 ∷ 128 ∷ 0 ∷ 128 ∷ 0 ∷ 144 ∷ 0 ∷ 48 ∷ 0 ∷ 38 ∷ 0 ∷ 10 ∷ 0 ∷ 6 ∷ 0 ∷ 0 ∷ 0 ∷ 0 ∷ 144 ∷ 0 ∷ 112 ∷ []
@@ -131,7 +130,7 @@ table =
     }
     ∷ record {
       gives = firstAreas;
-      says = (replicate 16 empty ++ (7 ∷ [])) ∷ (empty ∷ empty ∷ []) ∷ [] ∷ (replicate 656 0 ++ (7 ∷ [])) ∷ (replicate 32 0 ++ (1 ∷ replicate 16 0)) ∷ (replicate 8 0 ++ (7 ∷ [])) ∷ [];
+      says = (replicate 16 empty ++ (65543 ∷ [])) ∷ (empty ∷ empty ∷ []) ∷ [] ∷ (replicate 656 0 ++ (7 ∷ [])) ∷ (replicate 32 0 ++ (1 ∷ replicate 16 0)) ∷ [];
     }
     ∷ record { gives = built everyRun 6 4 first (outputs (14 ∷ 15 ∷ [])); says = refusedAt 4 7 2 }
     -- the word rule that is the default: no idle run is written

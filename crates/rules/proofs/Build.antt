@@ -4,3 +4,4 @@ pub mod Bounds
 pub mod Rules
 pub mod Counted
 pub mod Costs
+pub mod Coding

@@ -8,9 +8,9 @@ use Rattle.rules.specs.Lists.{sameList}
 use Rattle.rules.specs.Cells.{empty}
 use Rattle.rules.specs.Graph.{graphOf}
 use Rattle.rules.specs.Traversal.{neededRuns}
-use Rattle.rules.specs.Build.{stagesOf, answerOf, cellsOf}
+use Rattle.rules.specs.Build.{stagesOf, codedStages, answerOf, cellsOf}
 use Rattle.rules.specs.Fold.{foldBits}
-use Rattle.rules.specs.Coded.{coded, pins, codedStages, foldCells}
+use Rattle.rules.specs.Coded.{coded, pins, foldCells}
 use Rattle.rules.specs.Faults.{Fault, faultless, faultAt, fault}
 use Rattle.rules.specs.Inside.Opened.{everything}
 

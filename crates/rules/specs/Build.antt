@@ -11,6 +11,7 @@ use Rattle.rules.specs.Reservation.{reserved, reservable}
 use Rattle.rules.specs.Traversal.{WordRule}
 use Rattle.rules.specs.Checks.{workSize, areasSized, pinShown, refusalOf}
 use Rattle.rules.specs.Ending.{refused, stage, oneStage}
+use Rattle.rules.specs.Coded.{coded}
 
 -- a stage: its cells and its words
 pub record Stage : Type 0 where
@@ -111,6 +112,11 @@ unfoldable pub stagesOf : Answer → List Stage
 stagesOf (refusal n k) = []
 stagesOf (whole ss) = ss
 
+-- what a user is handed: the same stages, their pins as cells with their inversions
+unfoldable pub codedStages : ℕ → List Node → List Stage → List Stage
+codedStages K g [] = []
+codedStages K g (s ∷ ss) = record { plan = coded K g (s .plan); words = s .words } ∷ codedStages K g ss
+
 -- answer and areas together
 pub record Outcome : Type 0 where
   pub reply : Reply
@@ -129,6 +135,6 @@ placer rule K gates given records a =
     elim (refusalOf K (sizesRight K gates records a) gates given records) [
       | zero ↦
           let b = answerOf rule K gates given records (length (a .plan)) in
-          record { reply = reply b; areas = areasAfter K (workSize gates records) (stagesOf b) a }
+          record { reply = reply b; areas = areasAfter K (workSize gates records) (codedStages K (graphOf gates) (stagesOf b)) a }
       | suc n ↦ record { reply = refuseChecked (suc n) gates; areas = a }
     ]

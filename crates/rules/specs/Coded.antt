@@ -8,7 +8,6 @@ use Rattle.rules.specs.Lists.{nothing, found, upTo, laidOver}
 use Rattle.rules.specs.Cells.{empty, filled, isHeight, width, stageSize, rooms, levelOf, rowStart, firstLower}
 use Rattle.rules.specs.Graph.{Node, leaf, gate, inversionOf, ownBit, literalBit}
 use Rattle.rules.specs.Checks.{planSized}
-use Rattle.rules.specs.Build.{Stage}
 use Rattle.rules.specs.Fold.{lowest, asNumber}
 
 -- ---- a cell
@@ -59,11 +58,6 @@ coded K g pl = map (codedAt K g pl) (upTo (stageSize K) 0)
 -- and back: the pins of cells
 unfoldable pub pins : List ℕ → List ℕ
 pins cl = map cellPin cl
-
--- all stages
-unfoldable pub codedStages : ℕ → List Node → List Stage → List Stage
-codedStages K g [] = []
-codedStages K g (s ∷ ss) = record { plan = coded K g (s .plan); words = s .words } ∷ codedStages K g ss
 
 -- ---- the fold of cells
 

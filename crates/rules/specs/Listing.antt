@@ -12,6 +12,7 @@ use Rattle.rules.specs.Graph.{graphOf}
 use Rattle.rules.specs.Records.{groupsOf}
 use Rattle.rules.specs.Checks.{refusalOf, pinShown}
 use Rattle.rules.specs.Traversal.{WordRule}
+use Rattle.rules.specs.Coded.{cellPin}
 use Rattle.rules.specs.Build.{Stage, Answer, refusal, whole, build}
 use Rattle.rules.specs.Job.{Job, noJob, job, readJob, jobRooms}
 
@@ -40,7 +41,7 @@ wordsText (w ∷ ws) = spaced (w ∷ ws)
 -- a line a filled position: the position and its pin
 unfoldable pub cellLines : ℕ → List ℕ → List ℕ
 cellLines p [] = []
-cellLines p (c ∷ cs) = elim (filled c) [ true ↦ decimal p ++ text " " ++ decimal c ++ text "\n" ++ cellLines (suc p) cs | false ↦ cellLines (suc p) cs ]
+cellLines p (c ∷ cs) = elim (filled c) [ true ↦ decimal p ++ text " " ++ decimal (cellPin c) ++ text "\n" ++ cellLines (suc p) cs | false ↦ cellLines (suc p) cs ]
 
 unfoldable pub stageLines : ℕ → Stage → List ℕ
 stageLines k s =

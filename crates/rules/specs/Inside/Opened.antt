@@ -9,10 +9,10 @@ use Rattle.rules.specs.Checks.{planSized, workSize, areasSized, nodesRig
 use Rattle.rules.specs.Traversal.{thread, visit, traverse, over, levels, greatest, setting, levelAt, raise, lift, reverseLevels}
 use Rattle.rules.specs.Placing.{tree, choose, place, cost, takeBack, freed, asked, asks, needed, treeOf, reverseOf, neededOf, roomy, cellAt, pinAt, placed, fill, filledPlan}
 use Rattle.rules.specs.Ending.{addSparse, sparseFrom, sparseRuns, meet, fillIn, putCell, putCells, putRun, allows, goesOn, putRuns, putRest, wordsIn, wordsUp, close, inTree, inNeed, untouched, lastStage, written, rest, moreWords, ending, finish, oneStage}
-use Rattle.rules.specs.Build.{more, stages, build, cellsOf, wordsOf, countsOf, refuse, refuseChecked, reply, areasAfter, stagesOf, answerOf, sizesRight, placer}
+use Rattle.rules.specs.Build.{more, stages, build, cellsOf, wordsOf, countsOf, refuse, refuseChecked, reply, areasAfter, stagesOf, codedStages, answerOf, sizesRight, placer}
 use Rattle.rules.specs.Depth.{depth, remaining, deepest}
 use Rattle.rules.specs.Fold.{cellBit, bitAt, isLeaf, firstLoad, firstAt, lowest, loadFrom, asNumber, stageBits, foldFrom, foldBits, foldSized, foldRefusal, folder}
-use Rattle.rules.specs.Coded.{cellPin, ands, firstInversion, secondInversion, andOf, andCell, codedCell, codedAt, coded, pins, codedStages, codedBit, bitOf, loadOf, cellBits, foldStages, foldCells, cellsSized, cellsRefusal, cellsFolder}
+use Rattle.rules.specs.Coded.{cellPin, ands, firstInversion, secondInversion, andOf, andCell, codedCell, codedAt, coded, pins, codedBit, bitOf, loadOf, cellBits, foldStages, foldCells, cellsSized, cellsRefusal, cellsFolder}
 use Rattle.rules.specs.Faults.{isFound, splits, rightAbove, rightAt, firstNot, endRight, firstMay, heldIn, faultFrom, holdsIn, writtenIn, lastRight, faultOf, cut, fault}
 use Rattle.rules.specs.Merge.{named, builtOf, sizeFor, partOf, before, addRank, rankOf, ranking, begun, accepted, attempt, without, rounds, addPart, merging, cons, original, mostStages, occupied, merge, splitBy, mergeWorkSize, mergeSized, mergeable, refuseMerge, refuseMergeChecked, indicesOf, lengthsOf, stagesIn, wordsFor, cellsFor, mergeReply, groupListAfter, mergeRefusal, mergeAnswerOf, merger}
 use Rattle.rules.specs.Job.{bitsOf, numberOf, next, field, fields, readPin, readPins, numberWidth, readRecord, readRecords, readFields, fitsProgram, isPadding, accept, readJob, pinBits, pinsBits, groupBits, groupsBits, jobBits, toByte, bytesOf, isMark, literalFits, pinFits, nodeFits, nodesFit, groupFits, groupsFit, gatesFit, fileOf, writeJob}
