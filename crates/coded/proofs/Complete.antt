@@ -24,7 +24,7 @@ use Rattle.rules.proofs.Written.Words.{Stands}
 use Rattle.rules.proofs.Written.Writes.{Written, here, there}
 use Rattle.rules.specs.Loops.{Valid}
 use Rattle.rules.proofs.Demand.{whole-written, wait-ends}
-use Rattle.sheet_form.proofs.Built.{waits-above}
+use Rattle.rules.proofs.Build.Above.{waits-above}
 use Rattle.coded.specs.Inputs.{Input, graph, groups, built}
 use Rattle.coded.proofs.Passing.{tall, small, few, valid, above, named}
 use Rattle.rules.specs.Coded.{coded, pins}
@@ -145,7 +145,7 @@ module _ (rule : WordRule) (I : Input) where
       (λ q i. elim (wait-ends q (groups I) [] i) [
         | inl z ↦ in-nil q z
         | inr z ↦ written-shown (I .K) (graph I) (valid I) (few I) (I .given) q _ _ H
-            (whole-written rule (I .K) (graph I) (valid I) (tall I) (small I) (I .given) [] (groups I) (named I) rooms ss e q (waits-above rule (I .K) (graph I) (valid I) (above I) (tall I) (small I) (I .given) (groups I) (named I) (groups I) [] (λ x j. in-nil x j) q i) z)
+            (whole-written rule (I .K) (graph I) (valid I) (tall I) (small I) (I .given) [] (groups I) (named I) rooms ss e q (waits-above (groups I) [] (λ x j. in-nil x j) q i) z)
       ])) in
       rw (a, b, faultOf)
 

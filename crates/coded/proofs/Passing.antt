@@ -12,7 +12,7 @@ use Rattle.rules.specs.Records.{Ends}
 use Rattle.rules.proofs.Lists.Members.{and-true}
 use Rattle.checks.specs.Passed.{Passed}
 use Rattle.checks.proofs.Laws.Passed.{passed}
-use Rattle.sheet_form.proofs.Built.{Above}
+use Rattle.rules.proofs.Build.Above.{Above}
 use Rattle.coded.specs.Inputs.{Input, graph, groups}
 
 module _ (I : Input) where

@@ -6,9 +6,8 @@ use mathlib.Core.Bool.{true, false}
 use mathlib.Core.List.{List, [], _∷_, _++_}
 use native.Mathlib.Omega.{arith}
 use lib.ListN.{length, getD}
-use lib.Dec.{ltb}
 use Rattle.rules.specs.Lists.{found, every, In, Out, Sub}
-use Rattle.rules.specs.Cells.{filled, empty, wordLimit, rowStart, firstLower, secondLower, row, firstEmpty}
+use Rattle.rules.specs.Cells.{filled, empty, wordLimit, wordFits, rowStart, firstLower, secondLower, row, firstEmpty}
 use Rattle.rules.specs.Graph.{Node, leaf, gate, pinOf}
 use Rattle.rules.specs.Records.{Group, waitingOf, Ends}
 use Rattle.rules.specs.Reservation.{reserved}
@@ -35,9 +34,8 @@ use Rattle.rules.proofs.Fold.Whole.{mark, level-zero, zero-kept}
 use Rattle.rules.proofs.Written.Writes.{more-whole}
 use Rattle.rules.specs.Loops.{Valid}
 use Rattle.rules.proofs.Demand.{graph, ready, whole-stages}
-use Rattle.sheet_form.specs.Sheets.{wordFits}
-use Rattle.sheet_form.proofs.Words.{words-low}
-use Rattle.sheet_form.proofs.Built.{Above, from-above, waits-above}
+use Rattle.rules.proofs.Build.Low.{words-low}
+use Rattle.rules.proofs.Build.Above.{Above, from-above, waits-above}
 
 -- what the filled cell at position p above level 0 does, in a plan of pins
 pub data Acts (g : List Node) (given pl : List ℕ) (p : ℕ) : Type 0 where
@@ -52,7 +50,7 @@ pub record Shape (K : ℕ) (g : List Node) (given : List ℕ) (held : ℕ → Ty
   pub acts : (p : ℕ) → 1 ≤ p → p < 2 ^ K → filled (getD (s .plan) p empty) ≡ true → Acts g given (s .plan) p
   pub loads : (q : ℕ) → 2 ^ K ≤ q → filled (getD (s .plan) q empty) ≡ true → held (getD (s .plan) q empty)
   pub free : (c : ℕ) × (firstEmpty 0 (row K 1 (s .plan)) ≡ found c)
-  pub words : every (λ w. ltb w (wordLimit K)) (s .words) ≡ true
+  pub words : every (wordFits K) (s .words) ≡ true
   pub fits : length (s .words) ≤ room
 
 -- and every stage in turn
@@ -79,7 +77,7 @@ module _ (rule : WordRule) (K : ℕ) (g : List Node) (ok : Valid g) (A : Above g
       (room : ℕ) (plan2 words realised waiting2 : List ℕ) → oneStage rule K g done waiting room ≡ stage plan2 words realised waiting2 →
       Shape K g given held room (record { plan = plan2; words = words }) × Ready g r waiting2 × ((x : ℕ) → In x waiting2 → 0 < x)
       × ((n : ℕ) → In n (setting rule K g (realised ++ done) waiting2 .seen) → levelAt (setting rule K g (realised ++ done) waiting2) n ≡ 0 → In n (tree K plan2))
-  unfolding setting firstLower secondLower wordFits
+  unfolding setting firstLower secondLower
   one-shape done waiting R above some held right room plan2 words realised waiting2 d =
       let X : Setting = setting rule K g done waiting in
       let S : Sound X r (length g) = setting-sound rule K g r G done waiting (R .bounded) in
@@ -138,5 +136,5 @@ module _ (rule : WordRule) (K : ℕ) (g : List Node) (ok : Valid g) (A : Above g
     unfolding setting
     whole-shapes rooms ss e =
         let S : Sound (setting rule K g given waiting) r (length g) = setting-sound rule K g r G given waiting (R .bounded) in
-        shapes rooms 1 given waiting R (waits-above rule K g ok A tall small given groups named groups [] (λ z j. in-nil z j)) (λ q i. i) (λ n. In n given ⊎ (getD g n leaf ≡ leaf))
+        shapes rooms 1 given waiting R (waits-above groups [] (λ z j. in-nil z j)) (λ q i. i) (λ n. In n given ⊎ (getD g n leaf ≡ leaf))
         (λ n i z. level-zero (setting rule K g given waiting) r (length g) S n i z) (wordLimit K - reserved groups) ss (whole-stages rule K g ok tall small given [] groups named rooms ss e)

@@ -5,12 +5,12 @@ use mathlib.Core.Bool.{Bool, true, false, not, _&&_}
 use mathlib.Core.List.{List, [], _∷_, _++_}
 use native.Mathlib.Omega.{arith}
 use native.Mathlib.Nat.{suc-mul}
-use lib.Dec.{leb, ltb}
+use lib.Dec.{leb}
 use lib.ListN.{length, getD, take, drop, List·getD-append}
 use lib.Seq.{getD-take, getD-drop, getD-append-add}
 use borrow.Author.Tests.{ltb-true, not-true}
 use Rattle.rules.specs.Lists.{nothing, found, every, In}
-use Rattle.rules.specs.Cells.{filled, empty, stageSize, wordLimit, row, firstEmpty}
+use Rattle.rules.specs.Cells.{filled, empty, stageSize, wordLimit, wordFits, row, firstEmpty}
 use Rattle.rules.specs.Graph.{Node}
 use Rattle.rules.specs.Build.{Stage}
 use Rattle.rules.specs.Fold.{asNumber}
@@ -41,12 +41,12 @@ pub record Ends (K : ℕ) (s : Stage) : Type 0 where
 
 -- a stage's end that passes
 pub end-says : (K room : ℕ) (s : Stage) → endRight K room s ≡ true → Ends K s
-unfolding endRight
+unfolding endRight wordFits
 end-says K room s e =
-    let a = and-true (not (filled (getD (s .plan) 0 empty))) (isFound (firstEmpty 0 (row K 1 (s .plan))) && (every (λ w. ltb w (wordLimit K)) (s .words) && leb (length (s .words)) room)) e in
-    let b = and-true (isFound (firstEmpty 0 (row K 1 (s .plan)))) (every (λ w. ltb w (wordLimit K)) (s .words) && leb (length (s .words)) room) (a .1) in
-    let c = and-true (every (λ w. ltb w (wordLimit K)) (s .words)) (leb (length (s .words)) room) (b .1) in
-    record { zeroth = not-true (filled (getD (s .plan) 0 empty)) (a .0); words = λ w i. ltb-true w (wordLimit K) (every-in (λ x. ltb x (wordLimit K)) w (s .words) (c .0) i) }
+    let a = and-true (not (filled (getD (s .plan) 0 empty))) (isFound (firstEmpty 0 (row K 1 (s .plan))) && (every (wordFits K) (s .words) && leb (length (s .words)) room)) e in
+    let b = and-true (isFound (firstEmpty 0 (row K 1 (s .plan)))) (every (wordFits K) (s .words) && leb (length (s .words)) room) (a .1) in
+    let c = and-true (every (wordFits K) (s .words)) (leb (length (s .words)) room) (b .1) in
+    record { zeroth = not-true (filled (getD (s .plan) 0 empty)) (a .0); words = λ w i. ltb-true w (wordLimit K) (every-in (wordFits K) w (s .words) (c .0) i) }
 
 module _ (K : ℕ) (g : List Node) (ok : Valid g) (few : length g ≤ 65536) (given bits : List ℕ) where
   -- every filled cell of a stage folds to its pin's graph value

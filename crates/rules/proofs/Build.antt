@@ -5,3 +5,5 @@ pub mod Rules
 pub mod Counted
 pub mod Costs
 pub mod Coding
+pub mod Low
+pub mod Above

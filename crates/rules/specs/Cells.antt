@@ -33,6 +33,10 @@ stageSize K = 2 ^ (K + 1)
 unfoldable pub wordLimit : ℕ → ℕ
 wordLimit K = 2 ^ (K - 5)
 
+-- a word is below it
+unfoldable pub wordFits : ℕ → ℕ → Bool
+wordFits K w = ltb w (wordLimit K)
+
 -- level h has 2^(K-h) cells, and its row begins at the position of the same number
 unfoldable pub rowAt : ℕ → ℕ → ℕ
 rowAt K h = 2 ^ (K - h)

@@ -101,23 +101,23 @@ unfoldable pub foldCells : ℕ → (plan bits : List ℕ) → List ℕ
 foldCells K plan bits = foldStages (rooms K (length plan)) K (ownBit bits) plan
 
 -- plan, result and work have a right size: a number a position, and in the work area a number for each pin that a cell may hold
-unfoldable pub cellsSized : ℕ → (plan result work : ℕ) → Bool
-cellsSized K plan result work = planSized K plan && leb plan result && leb 65536 work
+unfoldable pub foldSized : ℕ → (plan result work : ℕ) → Bool
+foldSized K plan result work = planSized K plan && leb plan result && leb 65536 work
 
 -- 1 or 2, else 0
-unfoldable pub cellsRefusal : ℕ → (plan result work : ℕ) → ℕ
-cellsRefusal K plan result work = elim (isHeight K) [ false ↦ 1 | true ↦ elim (cellsSized K plan result work) [ false ↦ 2 | true ↦ 0 ] ]
+unfoldable pub foldRefusal : ℕ → (plan result work : ℕ) → ℕ
+foldRefusal K plan result work = elim (isHeight K) [ false ↦ 1 | true ↦ elim (foldSized K plan result work) [ false ↦ 2 | true ↦ 0 ] ]
 
 -- the number and the lent areas at exit
-pub record CellsOutcome : Type 0 where
+pub record FoldOutcome : Type 0 where
   pub number : ℕ
   pub result : List ℕ
   pub work : List ℕ
 
 -- a refusal changes nothing; else the bits lie over the result area, and 0 over the numbers for looking up
-unfoldable pub cellsFolder : ℕ → (plan bits result work : List ℕ) → CellsOutcome
-cellsFolder K plan bits result work =
-    elim (cellsRefusal K (length plan) (length result) (length work)) [
+unfoldable pub folder : ℕ → (plan bits result work : List ℕ) → FoldOutcome
+folder K plan bits result work =
+    elim (foldRefusal K (length plan) (length result) (length work)) [
       | zero ↦ record { number = 0; result = laidOver (foldCells K plan bits) result; work = laidOver (replicate 65536 0) work }
       | suc n ↦ record { number = suc n; result = result; work = work }
     ]

@@ -5,7 +5,7 @@ use mathlib.Core.List.{List, [], _∷_, map}
 use lib.Dec.{leb, ltb, eqb}
 use lib.ListN.{length, getD, take, drop}
 use Rattle.rules.specs.Lists.{Found, nothing, found, mem, every, upTo}
-use Rattle.rules.specs.Cells.{empty, filled, width, stageSize, wordLimit, firstLower, secondLower, row, firstEmpty}
+use Rattle.rules.specs.Cells.{empty, filled, width, stageSize, wordLimit, wordFits, firstLower, secondLower, row, firstEmpty}
 use Rattle.rules.specs.Graph.{Node, leaf, gate, pinOf, graphOf}
 use Rattle.rules.specs.Records.{Group, groupsOf, waitingOf}
 use Rattle.rules.specs.Reservation.{reserved, reservable}
@@ -55,7 +55,7 @@ firstNot f (suc n) i = elim (f i) [ true ↦ firstNot f n (suc i) | false ↦ fo
 -- what stands at position 0: it is empty, level 1 keeps an empty cell, and the words are words of level 1 upward, no more than may be written
 unfoldable pub endRight : ℕ → ℕ → Stage → Bool
 endRight K room s =
-    not (filled (getD (s .plan) 0 empty)) && (isFound (firstEmpty 0 (row K 1 (s .plan))) && (every (λ w. ltb w (wordLimit K)) (s .words) && leb (length (s .words)) room))
+    not (filled (getD (s .plan) 0 empty)) && (isFound (firstEmpty 0 (row K 1 (s .plan))) && (every (wordFits K) (s .words) && leb (length (s .words)) room))
 
 -- what stage 1 may load: leaves and given pins; and a later one: pins held above level 0 in the stage before
 unfoldable pub firstMay : List Node → List ℕ → ℕ → Bool

@@ -1,13 +1,12 @@
--- The fold: one bit a position, of any plan. Assumes nothing.
+-- The fold of a plan of pins with its graph: what the rules' plans mean, and what the fold of cells equals on the plans of a build. Assumes nothing.
 use Prim.Native.Nat.{ℕ, zero, suc, _+_, _-_, _*_}
 use mathlib.Core.Bool.{Bool, true, false, _&&_, _||_}
 use mathlib.Core.List.{List, [], _∷_, _++_, map}
-use lib.Dec.{leb, eqb}
-use lib.ListN.{length, getD, take, drop, replicate}
-use Rattle.rules.specs.Lists.{Found, nothing, found, mem, upTo, laidOver}
+use lib.Dec.{eqb}
+use lib.ListN.{length, getD, take, drop}
+use Rattle.rules.specs.Lists.{Found, nothing, found, mem, upTo}
 use Rattle.rules.specs.Cells.{empty, filled, width, stageSize, rooms, levelOf, rowStart}
 use Rattle.rules.specs.Graph.{Node, leaf, gate, ownBit, gateBit, graphOf, pinCount}
-use Rattle.rules.specs.Checks.{planSized, refusalOf, pinShown}
 
 -- the cell at position p of level h, w being its row's start: level 0 takes what is loaded by pin. A filled cell above level 0 whose first
 -- lower cell holds the same pin copies it; otherwise it ANDs both lower cells, if both are filled and a gate drives its pin
@@ -67,26 +66,3 @@ foldFrom (suc n) K g load plan =
 
 unfoldable pub foldBits : ℕ → (plan gates given bits : List ℕ) → List ℕ
 foldBits K plan gates given bits = foldFrom (rooms K (length plan)) K (graphOf gates) (firstLoad (graphOf gates) given (take (pinCount gates) bits)) plan
-
--- plan, bits, result and work have a right size: a bit a pin, a number a position, and in the work area a number a pin
-unfoldable pub foldSized : ℕ → (plan gates : List ℕ) → (bits result work : ℕ) → Bool
-foldSized K plan gates bits result work = planSized K (length plan) && leb (pinCount gates) bits && leb (length plan) result && leb (pinCount gates) work
-
--- 1, 2, 3, 23 or 5, else 0: there are no records to refuse
-unfoldable pub foldRefusal : ℕ → (plan gates given bits result work : List ℕ) → ℕ
-foldRefusal K plan gates given bits result work = refusalOf K (foldSized K plan gates (length bits) (length result) (length work)) gates given []
-
--- the number, with 23 the smallest pin on any loop, and the lent areas at exit
-pub record FoldOutcome : Type 0 where
-  pub number : ℕ
-  pub pin : ℕ
-  pub result : List ℕ
-  pub work : List ℕ
-
--- a refusal changes nothing; else the bits lie over the result area, and 0 over the numbers for looking up
-unfoldable pub folder : ℕ → (plan gates given bits result work : List ℕ) → FoldOutcome
-folder K plan gates given bits result work =
-    elim (foldRefusal K plan gates given bits result work) [
-      | zero ↦ record { number = 0; pin = 0; result = laidOver (foldBits K plan gates given bits) result; work = laidOver (replicate (pinCount gates) 0) work }
-      | suc n ↦ record { number = suc n; pin = pinShown (suc n) gates; result = result; work = work }
-    ]

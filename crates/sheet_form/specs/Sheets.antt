@@ -2,10 +2,10 @@
 use Prim.Native.Nat.{ℕ, zero, suc, _-_}
 use mathlib.Core.Bool.{Bool, true, false, not, _&&_}
 use mathlib.Core.List.{List, [], _∷_, _++_}
-use lib.Dec.{leb, ltb, eqb}
+use lib.Dec.{leb, eqb}
 use lib.ListN.{length, getD, drop}
 use Rattle.rules.specs.Lists.{every, gather}
-use Rattle.rules.specs.Cells.{empty, filled, isHeight, stageSize, wordLimit}
+use Rattle.rules.specs.Cells.{empty, filled, isHeight, stageSize, wordFits}
 use Rattle.rules.specs.Build.{Stage}
 use Rattle.rules.specs.Job.{bitsOf, Read, cut, got, next, field, fields, isPadding, toByte, bytesOf, File?, noFile, file}
 use Rattle.sheet_form.specs.Forms.{Form}
@@ -51,10 +51,6 @@ cellFits F K p c = elim (filled c) [ true ↦ F .fits K p c | false ↦ true ]
 unfoldable pub cellsFit : Form → (K p : ℕ) → List ℕ → Bool
 cellsFit F K p [] = true
 cellsFit F K p (c ∷ cs) = cellFits F K p c && cellsFit F K (suc p) cs
-
--- a word is below W
-unfoldable pub wordFits : ℕ → ℕ → Bool
-wordFits K w = ltb w (wordLimit K)
 
 -- a cell a position, position 0 empty, at most 65,535 words
 unfoldable pub stageFits : Form → ℕ → Stage → Bool

@@ -8,19 +8,18 @@ use native.Mathlib.Omega.{arith}
 use lib.ListN.{length, getD, take, drop, length-take}
 use lib.Pow.{pow-mono, pow-add}
 use borrow.Author.Tests.{lt-ltb}
 use Rattle.rules.specs.Lists.{mem, every, insert}
-use Rattle.rules.specs.Cells.{empty, filled, wordLimit, rowAt, row}
+use Rattle.rules.specs.Cells.{empty, filled, wordLimit, wordFits, rowAt, row}
 use Rattle.rules.specs.Graph.{Node}
 use Rattle.rules.specs.Traversal.{WordRule, Setting, setting}
 use Rattle.rules.specs.Placing.{filledPlan}
 use Rattle.rules.specs.Ending.{Put, meet, fillIn, putCell, putCells, Sparse, putRun, goesOn, putRuns, written, wordsIn, wordsUp, moreWords, stage, oneStage}
 use Rattle.rules.proofs.Lists.Members.{split}
 use Rattle.rules.proofs.Job.Fields.{every-cons, every-parts}
 use Rattle.rules.specs.Inside.Counts.{Runs, none, more}
 use Rattle.rules.proofs.Stage.Puts.{list, runs-fit}
 use Rattle.rules.proofs.Stage.Staged.{half-height}
 use Rattle.rules.proofs.Written.Words.{finished-words}
-use Rattle.sheet_form.specs.Sheets.{wordFits}
 
 every-append : (f : ℕ → Bool) (xs ys : List ℕ) → every f xs ≡ true → every f ys ≡ true → every f (xs ++ ys) ≡ true
 unfolding every
