@@ -1,3 +1,3 @@
-pub mod Checks
 pub mod Stages
+pub mod Checks
 pub mod Unique

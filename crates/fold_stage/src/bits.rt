@@ -1,18 +1,16 @@
 // The bits of one stage, from level 0 up.
+use cell::Cell;
 use cells::Height;
-use columns::wide;
-use graph::EMPTY;
-use graph::Literal;
-use graph::Node;
-use graph::Pin;
-use graph::inversion_of;
-use graph::node_at;
-use positions::row_start;
+use cells::wide;
+use positions::first_lower;
+use positions::second_lower;
 ghost use mathlib.Core.Path.{_≡_};
-ghost use Rattle.rules.specs.Graph.{graphOf, literalBit, gateBit};
+ghost use mathlib.Core.Bool.{_&&_};
+ghost use Rattle.rules.specs.Graph.{literalBit};
 ghost use Rattle.rules.specs.Fold.{asNumber};
-ghost use Rattle.graph.specs.Values.{nodeFor};
-ghost use Rattle.fold_stage.specs.Bits.{CellAt, CellFolds, UpAt, FoldsUp};
+ghost use Rattle.rules.specs.Coded.{firstInversion, secondInversion};
+ghost use Rattle.fold_stage.specs.Bits.{CellAt, UpAt};
+ghost use Rattle.fold_stage.specs.Bits.{CellFolds, FoldsUp};
 
 pub fn as_number(bit: bool) -> u32
     ensures { λ r. ⌜ r ≡ asNumber bit ⌝ }
@@ -20,63 +18,55 @@ pub fn as_number(bit: bool) -> u32
     if bit { 1 } else { 0 }
 }
 
-// A literal's bit, by its pin's.
-fn literal_bit(l: Literal, bit: bool) -> bool
-    ensures { λ r. ⌜ r ≡ literalBit (l .0) bit ⌝ }
+fn inverted(inversion: u32, bit: bool) -> bool
+    ensures { λ r. ⌜ r ≡ literalBit inversion bit ⌝ }
 {
-    if inversion_of(l) == 0 { bit } else { !bit }
+    if inversion % 2 == 0 { bit } else { !bit }
 }
 
-// A gate's bit, by the bits of its pins.
-fn gate_bit(node: Node, first: bool, second: bool) -> bool
-    ensures { λ r. ⌜ r ≡ gateBit first second (nodeFor node) ⌝ }
+// The bit of a cell that ANDs, by those of its lower cells.
+fn and_bit(cell: Cell, first: bool, second: bool) -> bool
+    ensures { λ r. ⌜ r ≡ (literalBit (firstInversion (cell .0)) first && literalBit (secondInversion (cell .0)) second) ⌝ }
 {
-    match node {
-        Node::Leaf => false,
-        Node::Gate(a, b) => {
-            if literal_bit(a, first) {
-                literal_bit(b, second)
-            } else {
-                false
-            }
-        }
+    if inverted(cell.first_inversion(), first) {
+        inverted(cell.second_inversion(), second)
+    } else {
+        false
     }
 }
 
-// The bit of the cell at position c, above level 0, by those of its lower cells.
-fn fold_cell(cells: &[u32], gates: &[u32], bits: &[u32], c: u32) -> bool
-    requires { ⌜ CellAt c (now cells) (now bits) ⌝ }
-    ensures { λ r. ⌜ CellFolds (graphOf (now (gates .entry))) (now (cells .entry)) (now (bits .entry)) c r ⌝ }
+// The bit of the cell at position p, above level 0, by those of its lower cells.
+fn fold_cell(cells: &[u32], bits: &[u32], p: u32) -> bool
+    requires { ⌜ CellAt p (now cells) (now bits) ⌝ }
+    ensures { λ r. ⌜ CellFolds (now (cells .entry)) (now (bits .entry)) p r ⌝ }
 {
-    let i = wide(c);
-    let held = cells[i];
-    if held == EMPTY {
+    let held = Cell(cells[wide(p)]);
+    if held.is_empty() {
         return false;
     }
-    let w = wide(row_start(c));
-    let a = i + w;
-    if cells[a] == held {
+    let a = first_lower(p);
+    if !held.ands() {
         return bits[a] != 0;
     }
-    let b = i + 2 * w;
-    if cells[a] == EMPTY {
+    let b = second_lower(p);
+    if Cell(cells[a]).is_empty() {
         return false;
     }
-    if cells[b] == EMPTY {
+    if Cell(cells[b]).is_empty() {
         return false;
     }
-    gate_bit(node_at(gates, Pin(held)), bits[a] != 0, bits[b] != 0)
+    and_bit(held, bits[a] != 0, bits[b] != 0)
 }
 
 // All levels above level 0, whose bits are there. Lower cells stand at higher positions.
-pub fn fold_up(height: Height, cells: &[u32], gates: &[u32], bits: &mut [u32])
+pub fn fold_up(height: Height, cells: &[u32], bits: &mut [u32])
     requires { ⌜ UpAt (height .0) (now cells) (now bits) ⌝ }
-    ensures { λ _. ⌜ FoldsUp (height .0) (graphOf (now (gates .entry))) (now (cells .entry)) (now (bits .entry)) (now (bits .exit)) ⌝ }
+    ensures { λ _. ⌜ FoldsUp (height .0) (now (cells .entry)) (now (bits .entry)) (now (bits .exit)) ⌝ }
 {
     let mut c = height.width();
     while 1 < c {
         c -= 1;
-        bits[c] = as_number(fold_cell(cells, gates, bits, c as u32));
+        bits[c] = as_number(fold_cell(cells, bits, c as u32));
     }
     bits[0] = 0;
 }

@@ -1,75 +1,32 @@
-// What a stage loads: a number a pin.
+// What a stage loads: stage 1 from the bits that are handed in, a later one from a number a pin.
 use crate::bits::as_number;
+use cell::Cell;
 use cells::Height;
-use graph::Node;
 use graph::Pin;
-use graph::node_at;
 ghost use mathlib.Core.Path.{_≡_};
-ghost use mathlib.Core.Bool.{_&&_};
-ghost use Prim.Native.Nat.{ℕ, _<_, _≤_};
-ghost use lib.ListN.{length, getD};
-ghost use Rattle.rules.specs.Graph.{leaf, graphOf, ownBit};
-ghost use Rattle.rules.specs.Fold.{isLeaf};
+ghost use Prim.Native.Nat.{ℕ};
+ghost use lib.ListN.{getD};
+ghost use Rattle.rules.specs.Graph.{ownBit};
+ghost use Rattle.rules.specs.Coded.{pins};
 ghost use Rattle.fold_stage.specs.Bits.{StageAt, UpAt};
-ghost use Rattle.fold_stage.specs.Loads.{held, Loads, Spread, FirstAt, LeafLoads, GivenAt, GivenLoads, FirstLoads};
+ghost use Rattle.fold_stage.specs.Loads.{held, Spread};
+ghost use Rattle.fold_stage.specs.Loads.{loadCell, Loads};
 
-// A pin's own bit; the constant's is 0.
+// A pin's own bit; the constant's is 0, and so is that of a pin past the bits.
 fn own_bit(bits: &[u32], p: Pin) -> bool
-    requires { do ⌜ p .0 < (← ⟦bits.len()⟧) ⌝ }
     ensures { λ r. ⌜ r ≡ ownBit (now (bits .entry)) (p .0) ⌝ }
 {
     let i = p.index();
     if i == 0 {
         return false;
     }
+    if bits.len() <= i {
+        return false;
+    }
     bits[i] != 0
 }
 
-fn leaf_bit(gates: &[u32], bits: &[u32], p: Pin) -> bool
-    requires { do ⌜ p .0 < (← ⟦bits.len()⟧) ⌝ }
-    ensures { λ r. ⌜ r ≡ (isLeaf (getD (graphOf (now (gates .entry))) (p .0) leaf) && ownBit (now (bits .entry)) (p .0)) ⌝ }
-{
-    let node = node_at(gates, p);
-    match node {
-        Node::Leaf => own_bit(bits, p),
-        Node::Gate(_, _) => false,
-    }
-}
-
-fn leaf_loads(gates: &[u32], bits: &[u32], looks: &mut [u32])
-    requires { ⌜ length (now looks) ≤ length (now bits) ⌝ }
-    requires { ⌜ length (now looks) ≤ 65536 ⌝ }
-    ensures { λ _. ⌜ LeafLoads (now (gates .entry)) (now (bits .entry)) (now (looks .entry)) (now (looks .exit)) ⌝ }
-{
-    let mut p = 0;
-    while p < looks.len() {
-        looks[p] = as_number(leaf_bit(gates, bits, Pin(p as u32)));
-        p += 1;
-    }
-}
-
-fn given_loads(given: &[u32], bits: &[u32], looks: &mut [u32])
-    requires { ⌜ GivenAt (now given) (now bits) (now looks) ⌝ }
-    ensures { λ _. ⌜ GivenLoads (now (given .entry)) (now (bits .entry)) (now (looks .entry)) (now (looks .exit)) ⌝ }
-{
-    let mut i = given.len();
-    while 0 < i {
-        i -= 1;
-        let p = Pin(given[i]);
-        looks[p.index()] = as_number(own_bit(bits, p));
-    }
-}
-
-// Stage 1 loads the bits of leaves and given pins.
-pub fn first_loads(gates: &[u32], given: &[u32], bits: &[u32], looks: &mut [u32])
-    requires { ⌜ FirstAt (now gates) (now given) (now bits) (now looks) ⌝ }
-    ensures { λ _. ⌜ FirstLoads (now (gates .entry)) (now (given .entry)) (now (bits .entry)) (now (looks .entry)) (now (looks .exit)) ⌝ }
-{
-    leaf_loads(gates, bits, looks);
-    given_loads(given, bits, looks);
-}
-
-// What pin p loads. A pin above N loads 0.
+// What pin p loads. A pin past the numbers loads 0.
 fn looked(looks: &[u32], p: Pin) -> bool
     ensures { λ r. ⌜ r ≡ held (now (looks .entry)) (p .0) ⌝ }
 {
@@ -80,14 +37,44 @@ fn looked(looks: &[u32], p: Pin) -> bool
     looks[i] != 0
 }
 
-// Level 0 of a stage's bits.
-pub fn load_row(height: Height, cells: &[u32], looks: &[u32], bits: &mut [u32])
+fn first_load(bits: &[u32], cell: Cell) -> bool
+    ensures { λ r. ⌜ r ≡ loadCell (ownBit (now (bits .entry))) (cell .0) ⌝ }
+{
+    if cell.is_empty() {
+        return false;
+    }
+    own_bit(bits, cell.pin())
+}
+
+fn next_load(looks: &[u32], cell: Cell) -> bool
+    ensures { λ r. ⌜ r ≡ loadCell (held (now (looks .entry))) (cell .0) ⌝ }
+{
+    if cell.is_empty() {
+        return false;
+    }
+    looked(looks, cell.pin())
+}
+
+// Level 0 of stage 1.
+pub fn load_first(height: Height, cells: &[u32], own: &[u32], bits: &mut [u32])
     requires { ⌜ UpAt (height .0) (now cells) (now bits) ⌝ }
-    ensures { λ _. ⌜ Loads (height .0) (now (cells .entry)) (now (looks .entry)) (now (bits .entry)) (now (bits .exit)) ⌝ }
+    ensures { λ _. ⌜ Loads (height .0) (now (cells .entry)) (ownBit (now (own .entry))) (now (bits .entry)) (now (bits .exit)) ⌝ }
 {
     let mut c = height.width();
     while c < cells.len() {
-        bits[c] = as_number(looked(looks, Pin(cells[c])));
+        bits[c] = as_number(first_load(own, Cell(cells[c])));
+        c += 1;
+    }
+}
+
+// Level 0 of a later stage.
+pub fn load_next(height: Height, cells: &[u32], looks: &[u32], bits: &mut [u32])
+    requires { ⌜ UpAt (height .0) (now cells) (now bits) ⌝ }
+    ensures { λ _. ⌜ Loads (height .0) (now (cells .entry)) (held (now (looks .entry))) (now (bits .entry)) (now (bits .exit)) ⌝ }
+{
+    let mut c = height.width();
+    while c < cells.len() {
+        bits[c] = as_number(next_load(looks, Cell(cells[c])));
         c += 1;
     }
 }
@@ -95,12 +82,12 @@ pub fn load_row(height: Height, cells: &[u32], looks: &[u32], bits: &mut [u32])
 // What the next stage loads: each pin above level 0 the bit at its lowest position, which is written last.
 pub fn remember(height: Height, cells: &[u32], bits: &[u32], looks: &mut [u32])
     requires { ⌜ UpAt (height .0) (now cells) (now bits) ⌝ }
-    ensures { λ _. ⌜ Spread (height .0) (now (cells .entry)) (λ (c : ℕ). getD (now (bits .entry)) c 0) (now (looks .entry)) (now (looks .exit)) ⌝ }
+    ensures { λ _. ⌜ Spread (height .0) (pins (now (cells .entry))) (λ (c : ℕ). getD (now (bits .entry)) c 0) (now (looks .entry)) (now (looks .exit)) ⌝ }
 {
     let mut c = height.width();
     while 1 < c {
         c -= 1;
-        let p = Pin(cells[c]).index();
+        let p = Cell(cells[c]).pin().index();
         if p < looks.len() {
             looks[p] = bits[c];
         }
@@ -110,12 +97,12 @@ pub fn remember(height: Height, cells: &[u32], bits: &[u32], looks: &mut [u32])
 // These pins load 0 again.
 pub fn forget(height: Height, cells: &[u32], looks: &mut [u32])
     requires { ⌜ StageAt (height .0) (now cells) ⌝ }
-    ensures { λ _. ⌜ Spread (height .0) (now (cells .entry)) (λ (c : ℕ). 0) (now (looks .entry)) (now (looks .exit)) ⌝ }
+    ensures { λ _. ⌜ Spread (height .0) (pins (now (cells .entry))) (λ (c : ℕ). 0) (now (looks .entry)) (now (looks .exit)) ⌝ }
 {
     let mut c = height.width();
     while 1 < c {
         c -= 1;
-        let p = Pin(cells[c]).index();
+        let p = Cell(cells[c]).pin().index();
         if p < looks.len() {
             looks[p] = 0;
         }

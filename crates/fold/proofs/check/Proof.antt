@@ -1,61 +1,45 @@
--- `fold::check` meets its contract: a number that is not 0 to 3 or 23 is 5. Assumes nothing.
-use mathlib.Core.Path.{refl}
-use native.Mathlib.Omega.{arith}
-use Rattle.fold.specs.Answers.{numberFor, pinFor}
-use Rattle.fold.proofs.Laws.Checks.{told-plain, told-looped, told-five}
+-- `fold::check` meets its contract. Assumes nothing.
+use Rattle.rules.proofs.Bools.{no, yes}
+use Rattle.fold.specs.Answers.{numberFor}
+use Rattle.fold.proofs.Laws.Checks.{refused-1, plan-wrong, result-few, work-few, refused-0}
 use borrow.Author.Needs.{needs}
 use Rattle.fold.proofs.check.Statement.{statement}
 use Rattle.fold.proofs.check.Tie as tie
 
-areas-sized-requires : tie.Need-areas-sized-requires
-areas-sized-requires c κs = search needs
-
-sub-refusal : tie.Need-sub-refusal
-sub-refusal c = search needs
-
-part-refusal-start : tie.Need-part-refusal-start
-part-refusal-start c = search needs
-
-part-refusal-end : tie.Need-part-refusal-end
-part-refusal-end c = search needs
-
-refusal-requires : tie.Need-refusal-requires
-refusal-requires c κs = search needs
+is-height-requires : tie.Need-is-height-requires
+is-height-requires c κs = search needs
 
 returns : tie.Need-returns
-unfolding numberFor pinFor
-returns c = told-plain _ _ _ _ _ _ _ _ (c .before .before .before .before .areas-sized .ensures) _ (c .before .before .refusal .ensures) _ _ (c .match .keys1) (λ z. omega arith) refl refl
+unfolding numberFor
+returns c = refused-1 _ _ _ _ (no (c .before .is-height .ensures) (c .if1 .taken))
+
+plan-sized-requires : tie.Need-plan-sized-requires
+plan-sized-requires c κs = search needs
 
 returns-2 : tie.Need-returns-2
-unfolding numberFor pinFor
-returns-2 c = told-plain _ _ _ _ _ _ _ _ (c .before .before .before .before .areas-sized .ensures) _ (c .before .before .refusal .ensures) _ _ (c .match .keys2) (λ z. omega arith) refl refl
+unfolding numberFor
+returns-2 c = plan-wrong _ _ _ _ (yes (c .before .before .before .is-height .ensures) (c .before .before .if1 .left)) (no (c .before .plan-sized .ensures) (c .if2 .taken))
 
 returns-3 : tie.Need-returns-3
-unfolding numberFor pinFor
-returns-3 c = told-plain _ _ _ _ _ _ _ _ (c .before .before .before .before .areas-sized .ensures) _ (c .before .before .refusal .ensures) _ _ (c .match .keys3) (λ z. omega arith) refl refl
+unfolding numberFor
+returns-3 c = result-few _ _ _ _ (yes (c .before .before .before .before .is-height .ensures) (c .before .before .before .if1 .left)) (yes (c .before .before .plan-sized .ensures) (c .before .if2 .left)) (c .if3 .taken)
 
 returns-4 : tie.Need-returns-4
-unfolding numberFor pinFor
-returns-4 c = told-plain _ _ _ _ _ _ _ _ (c .before .before .before .before .areas-sized .ensures) _ (c .before .before .refusal .ensures) _ _ (c .match .keys4) (λ z. omega arith) refl refl
+unfolding numberFor
+returns-4 c = work-few _ _ _ _ (yes (c .before .before .before .before .before .is-height .ensures) (c .before .before .before .before .if1 .left)) (yes (c .before .before .before .plan-sized .ensures) (c .before .before .if2 .left)) (c .before .if3 .left) (c .if4 .taken)
 
 returns-5 : tie.Need-returns-5
-returns-5 c = told-looped _ _ _ _ _ _ _ _ (c .before .before .before .before .areas-sized .ensures) _ (c .before .before .refusal .ensures) (c .match .keys5)
-
-returns-6 : tie.Need-returns-6
-returns-6 c = told-five _ _ _ _ _ _ _ _ (c .before .before .before .before .areas-sized .ensures) _ (c .before .before .refusal .ensures) (c .match .rest .0 .0 .0 .0 .1) (c .match .rest .0 .0 .0 .1) (c .match .rest .0 .0 .1) (c .match .rest .0 .1) (c .match .rest .1)
+unfolding numberFor
+returns-5 c = refused-0 _ _ _ _ (yes (c .before .before .before .before .before .is-height .ensures) (c .before .before .before .before .if1 .left)) (yes (c .before .before .before .plan-sized .ensures) (c .before .before .if2 .left)) (c .before .if3 .left) (c .if4 .left)
 
 pub check-spec : {M : Type 1} → statement M
 check-spec =
     tie.close
     (tie.spec
-    areas-sized-requires
-    sub-refusal
-    part-refusal-start
-    part-refusal-end
-    refusal-requires
+    is-height-requires
     returns
+    plan-sized-requires
     returns-2
     returns-3
     returns-4
-    returns-5
-    returns-6)
+    returns-5)

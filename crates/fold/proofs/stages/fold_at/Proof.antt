@@ -10,10 +10,10 @@ stage-size-requires : tie.Need-stage-size-requires
 stage-size-requires c κs = search needs
 
 sub-last : tie.Need-sub-last
-sub-last c = omega (arith, c .before .before .before .before .before .pre .before, size-there _ _ (c .before .before .before .before .before .pre .passed .height) (c .stage-size .ensures))
+sub-last c = omega (arith, c .before .before .before .before .pre .before, size-there _ _ (c .before .before .before .before .pre .passed .height) (c .stage-size .ensures))
 
 add-end : tie.Need-add-end
-add-end c = omega (arith, c .before .before .before .before .before .pre .here, size-there _ _ (c .before .before .before .before .before .pre .passed .height) (c .stage-size .ensures))
+add-end c = omega (arith, c .before .before .before .before .pre .here, size-there _ _ (c .before .before .before .before .pre .passed .height) (c .stage-size .ensures))
 
 mul-fold-next : tie.Need-mul-fold-next
 mul-fold-next c = search needs
@@ -37,7 +37,7 @@ part-fold-next-start-2 : tie.Need-part-fold-next-start-2
 part-fold-next-start-2 c = search needs
 
 part-fold-next-end-2 : tie.Need-part-fold-next-end-2
-part-fold-next-end-2 c = omega (arith, c .before .before .before .before .before .before .pre .here, size-there _ _ (c .before .before .before .before .before .before .pre .passed .height) (c .before .stage-size .ensures))
+part-fold-next-end-2 c = omega (arith, c .before .before .before .before .before .pre .here, size-there _ _ (c .before .before .before .before .before .pre .passed .height) (c .before .stage-size .ensures))
 
 mul-fold-next-3 : tie.Need-mul-fold-next-3
 mul-fold-next-3 c = search needs
@@ -49,10 +49,10 @@ part-fold-next-start-3 : tie.Need-part-fold-next-start-3
 part-fold-next-start-3 c = search needs
 
 part-fold-next-end-3 : tie.Need-part-fold-next-end-3
-part-fold-next-end-3 c = omega (arith, c .before .before .before .before .before .before .before .pre .here, c .before .before .before .before .before .before .before .pre .passed .room, size-there _ _ (c .before .before .before .before .before .before .before .pre .passed .height) (c .before .before .stage-size .ensures))
+part-fold-next-end-3 c = omega (arith, c .before .before .before .before .before .before .pre .here, c .before .before .before .before .before .before .pre .passed .room, size-there _ _ (c .before .before .before .before .before .before .pre .passed .height) (c .before .before .stage-size .ensures))
 
 fold-next-requires : tie.Need-fold-next-requires
-fold-next-requires c κs = next-at _ _ _ (c .before .before .before .before .before .before .before .before .before .pre .passed) _ _ _ (c .before .before .before .before .before .before .before .before .before .pre) _ _ _ (size-there _ _ (c .before .before .before .before .before .before .before .before .before .pre .passed .height) (c .before .before .before .before .stage-size .ensures)) refl refl
+fold-next-requires c κs = next-at _ _ _ (c .before .before .before .before .before .before .before .before .pre .passed) _ _ (c .before .before .before .before .before .before .before .before .pre) _ _ _ (size-there _ _ (c .before .before .before .before .before .before .before .before .pre .passed .height) (c .before .before .before .before .stage-size .ensures)) refl refl
 
 same-length : tie.Need-same-length
 same-length c = search needs
@@ -61,7 +61,7 @@ same-length-2 : tie.Need-same-length-2
 same-length-2 c = search needs
 
 returns : tie.Need-returns
-returns c = stepped _ _ _ _ _ _ _ _ _ _ _ (size-there _ _ (c .before .before .before .before .before .before .before .before .before .before .before .before .before .before .pre .passed .height) (c .before .before .before .before .before .before .before .before .before .stage-size .ensures)) refl (c .before .before .before .before .fold-next .ensures)
+returns c = stepped _ _ _ _ _ _ _ _ _ _ (size-there _ _ (c .before .before .before .before .before .before .before .before .before .before .before .before .before .pre .passed .height) (c .before .before .before .before .before .before .before .before .before .stage-size .ensures)) refl (c .before .before .before .before .fold-next .ensures)
 
 pub fold-at-spec : {M : Type 1} → statement M
 fold-at-spec =

@@ -19,7 +19,7 @@ same-length-2 : tie.Need-same-length-2
 same-length-2 c = search needs
 
 returns : tie.Need-returns
-returns c = (c .before .before .before .before .before .before .before .before .fold-stages .ensures, c .before .before .fill-part .ensures ∙ ap (λ (n : ℕ). replicate n 0) (c .before .before .before .before .before .before .before .before .fold-stages .kept .1 .1 .1 .1 .1 .1 .0))
+returns c = (c .before .before .before .before .before .before .before .before .fold-stages .ensures, c .before .before .fill-part .ensures ∙ ap (λ (n : ℕ). replicate n 0) (c .before .before .before .before .before .before .before .before .fold-stages .kept .1 .1 .1 .1 .0))
 
 pub fold-plan-spec : {M : Type 1} → statement M
 fold-plan-spec =

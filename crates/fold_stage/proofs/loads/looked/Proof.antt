@@ -21,5 +21,4 @@ returns-2 c = held-there _ _ _ (c .before .before .index .ensures)
 
 pub looked-spec : {M : Type 1} → statement M
 looked-spec =
-    tie.close
-    (tie.spec index-requires returns mul-result shared-slice-read-result returns-2)
+    tie.close (tie.spec index-requires returns mul-result shared-slice-read-result returns-2)

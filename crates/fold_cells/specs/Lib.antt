@@ -1,4 +1,0 @@
-pub mod Answers
-pub mod Bits
-pub mod Loads
-pub mod Stages
