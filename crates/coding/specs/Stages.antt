@@ -1,10 +1,12 @@
--- A stage of pins that is to be coded. Assumes nothing.
-use Prim.Native.Nat.{ℕ, _+_, _*_, _^_, _≤_, _<_}
+-- A stage of pins that is to be coded, and a plan of them. Assumes nothing.
+use Prim.Native.Nat.{ℕ, zero, suc, _+_, _*_, _^_, _≤_, _<_}
 use mathlib.Core.Path.{_≡_}
 use mathlib.Core.Bool.{true}
-use mathlib.Core.List.{List}
-use lib.ListN.{length, getD}
-use Rattle.rules.specs.Cells.{isHeight, empty, filled, firstLower}
+use mathlib.Core.List.{List, _++_}
+use lib.ListN.{length, getD, take, drop}
+use Rattle.rules.specs.Cells.{isHeight, empty, filled, stageSize, firstLower}
+use Rattle.rules.specs.Graph.{Node}
+use Rattle.rules.specs.Coded.{coded}
 
 -- a cell a position, and pins of 16 bits
 pub record StageAt (K : ℕ) (cells : List ℕ) : Type 0 where
@@ -21,3 +23,17 @@ pub record CellAt (K : ℕ) (cells : List ℕ) (p : ℕ) : Type 0 where
   pub here : p < length cells
   pub first : p < 2 ^ K → firstLower p < length cells
   pub pin : filled (getD cells p empty) ≡ true → getD cells p empty < 65536
+
+-- the first n stages of a plan, coded
+unfoldable pub codedPlan : ℕ → ℕ → List Node → List ℕ → List ℕ
+codedPlan zero K g pl = pl
+codedPlan (suc n) K g pl = coded K g (take (stageSize K) pl) ++ codedPlan n K g (drop (stageSize K) pl)
+
+-- n stages of a plan hold pins of 16 bits
+pub record PlanAt (K n : ℕ) (pl : List ℕ) : Type 0 where
+  pub height : isHeight K ≡ true
+  pub low : 1 ≤ 2 ^ K
+  pub high : 2 ^ K ≤ 8192
+  pub double : 2 ^ (K + 1) ≡ 2 * 2 ^ K
+  pub room : n * 2 ^ (K + 1) ≤ length pl
+  pub pins : (p : ℕ) → filled (getD pl p empty) ≡ true → getD pl p empty < 65536

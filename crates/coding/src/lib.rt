@@ -12,7 +12,7 @@ ghost use Prim.Native.Nat.{_<_};
 ghost use Rattle.rules.specs.Graph.{graphOf};
 ghost use Rattle.rules.specs.Coded.{andCell, codedAt, coded};
 ghost use Rattle.graph.specs.Values.{nodeFor};
-ghost use Rattle.coding.specs.Stages.{StageAt, CellAt};
+ghost use Rattle.coding.specs.Stages.{StageAt, CellAt, PlanAt, codedPlan};
 
 // The cell of a pin that ANDs as its node says.
 fn and_cell(pin: Pin, node: Node) -> Cell
@@ -54,5 +54,21 @@ pub fn code_stage(height: Height, cells: &mut [u32], gates: &[u32])
     while p < cells.len() {
         cells[p] = coded_cell(height, cells, gates, p as u32).0;
         p += 1;
+    }
+}
+
+// The first n stages of a plan.
+pub fn code_plan(height: Height, plan: &mut [u32], gates: &[u32], n: usize)
+    requires { ⌜ PlanAt (height .0) n (now plan) ⌝ }
+    ensures { λ _. ⌜ now (plan .exit) ≡ codedPlan n (height .0) (graphOf (now (gates .entry))) (now (plan .entry)) ⌝ }
+{
+    let size = height.stage_size();
+    let mut k = 0;
+    let mut at = 0;
+    while k < n {
+        let end = at + size;
+        code_stage(height, &mut plan[at..end], gates);
+        at = end;
+        k += 1;
     }
 }

@@ -1,4 +1,5 @@
 // The lines of a listing, each laid behind the cursor `at`.
+use cell::Cell;
 use cells::wide;
 use graph::EMPTY;
 use graph::Pin;
@@ -31,16 +32,16 @@ fn filled(cells: &[u32]) -> usize
     n
 }
 
-// A filled position's line, and nothing for an empty one.
+// A filled position's line, with its pin alone, and nothing for an empty one.
 fn cell_line(out: &mut [u8], limit: usize, at: usize, p: usize, c: u32) -> usize
     ensures { λ r. ⌜ Laid limit at (cellLines p (c ∷ [])) (now (out .entry)) r (now (out .exit)) ⌝ }
 {
-    if c == EMPTY {
+    if Cell(c).is_empty() {
         return at;
     }
     let a = put_decimal(out, limit, at, p);
     let b = put_text(out, limit, a, b" ");
-    let d = put_decimal(out, limit, b, wide(c));
+    let d = put_decimal(out, limit, b, Cell(c).pin().index());
     put_text(out, limit, d, b"\n")
 }
 

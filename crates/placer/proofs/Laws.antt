@@ -5,3 +5,4 @@ pub mod Build
 pub mod Outcome
 pub mod Unique
 pub mod Filled
+pub mod Coding

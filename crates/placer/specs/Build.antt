@@ -7,6 +7,7 @@ use Prim.Native.Nat.{ℕ, _*_}
 use lib.ListN.{length, replicate}
 use Rattle.rules.specs.Lists.{padded}
 use Rattle.rules.specs.Cells.{empty, wordLimit, stageSize, rooms}
+use Rattle.rules.specs.Graph.{Node}
 use Rattle.rules.specs.Checks.{workSize}
 use Rattle.rules.specs.Build as rules
 use Rattle.checks.specs.Passed.{Passed}
@@ -65,7 +66,14 @@ pub record Tidied (number : ℕ) (pl ws cs w pl′ ws′ cs′ w′ : List ℕ) 
   pub none : number ≢ 0 → Emptied pl ws cs w pl′ ws′ cs′ w′
   pub work : w′ ≡ replicate (length w) 0
 
-pub record Placed (b : rules.Answer) (pl ws cs w : List ℕ) (a : Answer) (pl′ ws′ cs′ w′ : List ℕ) : Type 0 where
+-- stages of pins in the areas, none after a refusal
+pub record Laid (b : rules.Answer) (pl ws cs w : List ℕ) (a : Answer) (pl′ ws′ cs′ w′ : List ℕ) : Type 0 where
   pub reply : told a ≡ rules.reply b
   pub filled : Filled (length pl) (length ws) (length cs) (rules.stagesOf b) pl′ ws′ cs′
+  pub work : w′ ≡ replicate (length w) 0
+
+-- the same, coded with the graph
+pub record Placed (g : List Node) (b : rules.Answer) (K : ℕ) (pl ws cs w : List ℕ) (a : Answer) (pl′ ws′ cs′ w′ : List ℕ) : Type 0 where
+  pub reply : told a ≡ rules.reply b
+  pub filled : Filled (length pl) (length ws) (length cs) (rules.codedStages K g (rules.stagesOf b)) pl′ ws′ cs′
   pub work : w′ ≡ replicate (length w) 0

@@ -3,6 +3,7 @@ use areas::empty_all;
 use areas::tidy;
 use cells::Height;
 use checks::check;
+use coding::code_plan;
 use columns::RECORDS;
 use graph::Pin;
 use graph::pin_count;
@@ -13,11 +14,12 @@ use stage_runs::WordRule;
 use stages::stages;
 ghost use mathlib.Core.Path.{_≡_};
 ghost use lib.ListN.{length};
+ghost use Rattle.rules.specs.Graph.{graphOf};
 ghost use Rattle.rules.specs.Build.{placer, answerOf};
 ghost use Rattle.rules.specs.Traversal.{neededRuns};
 ghost use Rattle.stage_runs.specs.Rule.{ruleOf};
 ghost use Rattle.placer.specs.Answers.{areas, outcome};
-ghost use Rattle.placer.specs.Build.{PlaceAt, TryAt, Tried, Placed};
+ghost use Rattle.placer.specs.Build.{PlaceAt, TryAt, Tried, Laid, Placed};
 
 pub mod areas;
 pub mod stages;
@@ -80,8 +82,8 @@ fn attempt(
     }
 }
 
-// The build of records that passed the checks, in areas of exactly their counted sizes.
-fn place(
+// The build of records that passed the checks, in areas of exactly their counted sizes: stages of pins.
+fn lay(
     height: Height,
     rule: WordRule,
     gates: &[u32],
@@ -93,7 +95,7 @@ fn place(
     work: &mut [u32],
 ) -> Answer
     requires { ⌜ PlaceAt (height .0) (now gates) (now given) (now records) (now plan) (now words) (now counts) (now work) ⌝ }
-    ensures { λ r. ⌜ Placed (answerOf (ruleOf rule) (height .0) (now (gates .entry)) (now (given .entry)) (now (records .entry)) (length (now (plan .entry)))) (now (plan .entry)) (now (words .entry)) (now (counts .entry)) (now (work .entry)) r (now (plan .exit)) (now (words .exit)) (now (counts .exit)) (now (work .exit)) ⌝ }
+    ensures { λ r. ⌜ Laid (answerOf (ruleOf rule) (height .0) (now (gates .entry)) (now (given .entry)) (now (records .entry)) (length (now (plan .entry)))) (now (plan .entry)) (now (words .entry)) (now (counts .entry)) (now (work .entry)) r (now (plan .exit)) (now (words .exit)) (now (counts .exit)) (now (work .exit)) ⌝ }
 {
     empty_all(plan, words, counts, work);
     let a = attempt(
@@ -108,6 +110,36 @@ fn place(
         work,
     );
     tidy(a.number, plan, words, counts, work);
+    a
+}
+
+// The same as cells with their inversions. A refusal has no stages, so nothing is coded.
+fn place(
+    height: Height,
+    rule: WordRule,
+    gates: &[u32],
+    given: &[u32],
+    records: &[u32],
+    plan: &mut [u32],
+    words: &mut [u32],
+    counts: &mut [u32],
+    work: &mut [u32],
+) -> Answer
+    requires { ⌜ PlaceAt (height .0) (now gates) (now given) (now records) (now plan) (now words) (now counts) (now work) ⌝ }
+    ensures { λ r. ⌜ Placed (graphOf (now (gates .entry))) (answerOf (ruleOf rule) (height .0) (now (gates .entry)) (now (given .entry)) (now (records .entry)) (length (now (plan .entry)))) (height .0) (now (plan .entry)) (now (words .entry)) (now (counts .entry)) (now (work .entry)) r (now (plan .exit)) (now (words .exit)) (now (counts .exit)) (now (work .exit)) ⌝ }
+{
+    let a = lay(
+        height,
+        rule,
+        gates,
+        given,
+        records,
+        plan,
+        words,
+        counts,
+        work,
+    );
+    code_plan(height, plan, gates, a.stages);
     a
 }
 

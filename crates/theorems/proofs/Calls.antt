@@ -1,31 +1,34 @@
 -- The same for the code: what the contracts of `placer::build` and `fold::fold` say, by the theorems. Assumes nothing.
-use Prim.Native.Nat.{ℕ, zero, suc, _+_, _*_, _≤_, _<_}
+use Prim.Native.Nat.{ℕ, zero, suc, _+_, _*_, _^_, _≤_, _<_}
 use mathlib.Core.Path.{_≡_, refl, sym, _∙_, ap}
 use mathlib.Core.Logic.{_⊎_, inl, inr, _≢_}
 use mathlib.Core.Bool.{Bool}
 use mathlib.Core.List.{List, _++_, append-assoc}
 use native.Mathlib.Omega.{arith}
 use native.Mathlib.Nat.{mul-le-mul-right, suc-mul}
-use lib.ListN.{length, getD, List·getD-append}
+use lib.ListN.{length, getD, take, drop, length-append, List·getD-append}
 use Rattle.rules.specs.Lists.{padded, laidOver}
 use Rattle.rules.specs.Cells.{empty, isHeight, wordLimit, stageSize, rooms}
-use Rattle.rules.specs.Graph.{graphOf, pinCount, value}
+use Rattle.rules.specs.Graph.{graphOf, pinCount, ownBit, value}
 use Rattle.rules.specs.Records.{groupsOf, Ends}
 use Rattle.rules.specs.Traversal.{WordRule}
 use Rattle.rules.specs.Checks.{graphRight, loopsRight, recordsRight, givenRight, refusalOf}
 use Rattle.rules.specs.Build as rules
-use Rattle.rules.specs.Fold.{asNumber, foldBits, foldRefusal, FoldOutcome, folder}
+use Rattle.rules.specs.Fold.{asNumber}
+use Rattle.rules.specs.Coded.{loadOf, cellBits, foldStages, foldCells, foldRefusal, FoldOutcome, folder}
 use Rattle.rules.proofs.Lists.Members.{split}
 use Rattle.rules.proofs.Stage.Refusals.{refused-some}
 use Rattle.rules.proofs.Stage.Staged.{two-step}
-use Rattle.rules.proofs.Build.Lengths.{length-fold}
+use Rattle.rules.proofs.Build.Coding.{words-coded, counts-coded}
+use Rattle.coded.specs.Reading.{Read}
+use Rattle.coded.proofs.Bits.{length-cellBits}
 use Rattle.placer.specs.declared.Answer.{Answer}
 use Rattle.placer.specs.Answers.{told, areas, outcome}
 use Rattle.fold.specs.declared.Answer.{Answer as Folded}
 use Rattle.fold.specs.Answers.{numberFor, outcome as outcomeOf}
-use Rattle.theorems.specs.Inputs.{Input, D, built, Refused}
-use Rattle.theorems.specs.Reading.{Read}
+use Rattle.theorems.specs.Inputs.{Input, D, built, planArea, Refused}
 use Rattle.theorems.proofs.Rooms.{rooms-enough, refused-where, refusal-given}
+use Rattle.theorems.proofs.Folding.{stages-there}
 use Rattle.theorems.proofs.Reading.{endpoints-read}
 
 -- a call of `build`, by its contract
@@ -55,7 +58,7 @@ roomsOf C = rooms (C .height) (length (C .entry .plan))
 -- it tells the answer of the rules, and leaves the areas as they say
 pub record Told (C : Call) (b : rules.Answer) : Type 0 where
   pub reply : told (C .answer) ≡ rules.reply b
-  pub plan : C .exit .plan ≡ padded (length (C .entry .plan)) empty (rules.cellsOf (rules.stagesOf b))
+  pub plan : C .exit .plan ≡ padded (length (C .entry .plan)) empty (rules.cellsOf (rules.codedStages (C .height) (graphOf (C .gates)) (rules.stagesOf b)))
   pub words : C .exit .words ≡ laidOver (padded (wordLimit (C .height)) empty (rules.wordsOf (rules.stagesOf b))) (C .entry .words)
   pub counts : C .exit .counts ≡ laidOver (padded (roomsOf C) 0 (rules.countsOf (rules.stagesOf b))) (C .entry .counts)
 
@@ -64,11 +67,12 @@ pub answered : (C : Call) (e : checked C ≡ 0) → Told C (built (input C e) (r
 unfolding outcome areas rules.placer rules.answerOf rules.areasAfter
 answered C e =
     let E = rw (e, rules.placer) at (C .ensures) in
+    let ss = rules.stagesOf (built (input C e) (roomsOf C)) in
     record {
       reply = ap (λ (o : rules.Outcome). o .reply) E;
       plan = ap (λ (o : rules.Outcome). o .areas .plan) E;
-      words = ap (λ (o : rules.Outcome). o .areas .words) E;
-      counts = ap (λ (o : rules.Outcome). o .areas .counts) E;
+      words = ap (λ (o : rules.Outcome). o .areas .words) E ∙ ap (λ (ws : List ℕ). laidOver (padded (wordLimit (C .height)) empty ws) (C .entry .words)) (words-coded (C .height) (graphOf (C .gates)) ss);
+      counts = ap (λ (o : rules.Outcome). o .areas .counts) E ∙ ap (λ (cs : List ℕ). laidOver (padded (roomsOf C) 0 cs) (C .entry .counts)) (counts-coded (C .height) (graphOf (C .gates)) ss);
     }
 
 -- an answer of 0 passed the checks
@@ -87,7 +91,8 @@ pub record Whole (C : Call) : Type 0 where
   pub passes : checked C ≡ 0
   pub ss : List rules.Stage
   pub built : built (input C passes) (roomsOf C) ≡ rules.whole ss
-  pub plan : C .exit .plan ≡ padded (length (C .entry .plan)) empty (rules.cellsOf ss)
+  pub stages : C .answer .stages ≡ length ss
+  pub plan : C .exit .plan ≡ planArea (input C passes) (length (C .entry .plan)) ss
   pub behind : List ℕ
   pub words : C .exit .words ≡ rules.wordsOf ss ++ behind
   pub after : List ℕ
@@ -100,6 +105,7 @@ whole-told C e (rules.whole ss) d z t = record {
   passes = e;
   ss = ss;
   built = d;
+  stages = ap (λ (r : rules.Reply). r .stages) (t .reply);
   plan = t .plan;
   behind = _;
   words = t .words ∙ append-assoc (rules.wordsOf ss) _ _;
@@ -181,28 +187,38 @@ counts-refused C e n k h =
 within : (s r size p : ℕ) → s < r → p < size → s * size + p < r * size
 within s r size p a b = omega (arith, mul-le-mul-right size a, suc-mul s size)
 
-same-read : {K q b : ℕ} {p p′ w w′ c c′ : List ℕ} (f : List ℕ → List ℕ) → p′ ≡ p → w′ ≡ w → c′ ≡ c → Read K p w c (f p) q b → Read K p′ w′ c′ (f p′) q b
+length-cells : (n K : ℕ) (load : ℕ → Bool) (plan : List ℕ) → length (foldStages n K load plan) ≡ n * 2 ^ (K + 1)
+unfolding foldStages
+length-cells zero K load plan = omega arith
+length-cells (suc n) K load plan =
+    length-append (cellBits K (take (stageSize K) plan) load) _
+    ∙ rw (length-cellBits K (take (stageSize K) plan) load, length-cells n K (loadOf K (take (stageSize K) plan) load) (drop (stageSize K) plan)) (omega (arith, suc-mul n (2 ^ (K + 1))))
+
+same-read : {K n q b : ℕ} {p p′ w w′ c c′ : List ℕ} (f : List ℕ → List ℕ) → p′ ≡ p → w′ ≡ w → c′ ≡ c → Read K n p w c (f p) q b → Read K n p′ w′ c′ (f p′) q b
 same-read f ep ew ec R = rw (ep, ew, ec) R
 
-fold-laid : (K : ℕ) (plan gates given bits result work : List ℕ) (n : ℕ) → n ≡ foldRefusal K plan gates given bits result work → folder K plan gates given bits result work .number ≡ 0 → folder K plan gates given bits result work .result ≡ laidOver (foldBits K plan gates given bits) result
+fold-laid : (K : ℕ) (plan bits result work : List ℕ) (n : ℕ) → n ≡ foldRefusal K (length plan) (length result) (length work) → folder K plan bits result work .number ≡ 0 → folder K plan bits result work .result ≡ laidOver (foldCells K plan bits) result
 unfolding folder
-fold-laid K plan gates given bits result work zero e z = rw (← e, folder) refl
-fold-laid K plan gates given bits result work (suc n) e z = let d : suc n ≡ 0 = rw (← e, folder) at z in absurd (omega arith)
+fold-laid K plan bits result work zero e z = rw (← e, folder) refl
+fold-laid K plan bits result work (suc n) e z = let d : suc n ≡ 0 = rw (← e, folder) at z in absurd (omega arith)
 
 -- Fold the plan that an answer of 0 left, read the bits of its written words, and every endpoint's graph value is there.
-pub reads : (C : Call) (z : C .answer .number ≡ 0) (bits result work : List ℕ) (a : Folded) (result′ work′ : List ℕ) → outcomeOf a result′ work′ ≡ folder (C .height) (C .exit .plan) (C .gates) (C .given) bits result work → numberFor a ≡ 0 →
+pub reads : (C : Call) (z : C .answer .number ≡ 0) (bits result work : List ℕ) (a : Folded) (result′ work′ : List ℕ) → outcomeOf a result′ work′ ≡ folder (C .height) (C .exit .plan) bits result work → numberFor a ≡ 0 →
     (q : ℕ) → 0 < q → Ends q (groupsOf (C .records)) →
-    Read (C .height) (C .exit .plan) (C .exit .words) (C .exit .counts) result′ q (asNumber (value (length (graphOf (C .gates))) (graphOf (C .gates)) (C .given) bits q))
-unfolding outcomeOf laidOver foldBits
+    Read (C .height) (C .answer .stages) (C .exit .plan) (C .exit .words) (C .exit .counts) result′ q (asNumber (value (length (graphOf (C .gates))) (graphOf (C .gates)) (C .given) bits q))
+unfolding outcomeOf laidOver foldCells
 reads C z bits result work a result′ work′ e f q b i =
     let W = whole C z in
-    let R = endpoints-read (input C (W .passes)) (length (C .entry .plan)) (W .ss) (W .built) bits (W .behind) (W .after) q b i in
+    let I = input C (W .passes) in
+    let R = endpoints-read I (length (C .entry .plan)) (W .ss) (W .built) bits (W .behind) (W .after) q b i in
     let P = C .exit .plan in
-    let r = same-read (λ p. foldBits (C .height) p (C .gates) (C .given) bits) (W .plan) (W .words) (W .counts) R in
-    let s = foldBits (C .height) P (C .gates) (C .given) bits in
-    let l : length s ≡ rooms (C .height) (length P) * stageSize (C .height) = length-fold (rooms (C .height) (length P)) (C .height) _ _ P in
-    let k : r .stage * stageSize (C .height) + r .position < length s = omega (arith, within (r .stage) (rooms (C .height) (length P)) (stageSize (C .height)) (r .position) (r .room) (omega (arith, r .high, two-step (C .height)))) in
-    let o = fold-laid (C .height) P (C .gates) (C .given) bits result work _ refl (sym (ap (λ (x : FoldOutcome). x .number) e) ∙ f) in
+    let r = same-read (λ p. foldCells (C .height) p bits) (W .plan) (W .words) (W .counts) R in
+    let s = foldCells (C .height) P bits in
+    let l : length s ≡ rooms (C .height) (length P) * stageSize (C .height) = length-cells (rooms (C .height) (length P)) (C .height) (ownBit bits) P in
+    let there : length (W .ss) ≤ rooms (C .height) (length P) = rw (W .plan) (stages-there I (length (C .entry .plan)) (W .ss) (W .built)) in
+    let k : r .stage * stageSize (C .height) + r .position < length s =
+    omega (arith, l, within (r .stage) (rooms (C .height) (length P)) (stageSize (C .height)) (r .position) (omega (arith, r .room, there)) (omega (arith, r .high, two-step (C .height)))) in
+    let o = fold-laid (C .height) P bits result work _ refl (sym (ap (λ (x : FoldOutcome). x .number) e) ∙ f) in
     let v : getD result′ (r .stage * stageSize (C .height) + r .position) 0 ≡ getD s (r .stage * stageSize (C .height) + r .position) 0 =
     ap (λ (x : List ℕ). getD x (r .stage * stageSize (C .height) + r .position) 0) (ap (λ (x : FoldOutcome). x .result) e ∙ o) ∙ List·getD-append s _ 0 _ k in
-    record { stage = r .stage; at = r .at; position = r .position; room = r .room; from = r .from; to = r .to; word = r .word; low = r .low; high = r .high; cell = r .cell; bit = v ∙ r .bit }
+    record { stage = r .stage; at = r .at; position = r .position; room = omega (arith, r .room, W .stages); from = r .from; to = r .to; word = r .word; low = r .low; high = r .high; cell = r .cell; bit = v ∙ r .bit }

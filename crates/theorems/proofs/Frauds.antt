@@ -83,12 +83,12 @@ two-fits = refl
 abbrev two : Handed
 two = handed chain (outputs (30 ∷ [])) two-fits
 
--- accepted, with one word; pin 7 at position 16, and position 0 empty
+-- accepted, with one word; pin 7, which ANDs, at position 16, and position 0 empty
 one-reply : (right one .reply .number ≡ 0) × (right one .reply .words ≡ 1)
 unfolding everything
 one-reply = (refl, refl)
 
-one-cells : (getD (right one .areas .plan) 16 empty ≡ 7) × (getD (right one .areas .plan) 0 empty ≡ 4294967295)
+one-cells : (getD (right one .areas .plan) 16 empty ≡ 65543) × (getD (right one .areas .plan) 0 empty ≡ 4294967295)
 unfolding everything
 one-cells = (refl, refl)
 
@@ -109,7 +109,7 @@ two-reply : (right two .reply .number ≡ 0) × (right two .reply .stages ≡ 2)
 unfolding everything
 two-reply = (refl, refl)
 
-two-cells : (getD (stageOf 6 1 (right two .areas .plan)) 1 empty ≡ 14) × (getD (stageOf 6 2 (right two .areas .plan)) 1 empty ≡ 4294967295)
+two-cells : (getD (stageOf 6 1 (right two .areas .plan)) 1 empty ≡ 65550) × (getD (stageOf 6 2 (right two .areas .plan)) 1 empty ≡ 4294967295)
 unfolding everything
 two-cells = (refl, refl)
 
@@ -144,7 +144,7 @@ module _ (f : Handed → Left) (M : Meets f) where
   pub not-one-plan : ((x y : Handed) → f x .answer .number ≡ 0 → f y .answer .number ≡ 0 → length (x .entry .plan) ≡ length (y .entry .plan) → f x .exit .plan ≡ f y .exit .plan) → ⊥
   not-one-plan h =
       let e : f one .exit .plan ≡ f many .exit .plan = h one many (number-is one (one-reply .0)) (number-is many many-reply) refl in
-      let d : _≡_ {A = ℕ} 7 4294967295 = sym (one-cells .0) ∙ ap (λ (p : List ℕ). getD p 16 empty) (sym (plan-is one) ∙ e ∙ plan-is many) ∙ many-cell in
+      let d : _≡_ {A = ℕ} 65543 4294967295 = sym (one-cells .0) ∙ ap (λ (p : List ℕ). getD p 16 empty) (sym (plan-is one) ∙ e ∙ plan-is many) ∙ many-cell in
       omega arith
 
   -- It doesn't write nothing: accepted calls don't all leave the areas as they were,
@@ -158,7 +158,7 @@ module _ (f : Handed → Left) (M : Meets f) where
   pub not-empty : ((x : Handed) → f x .answer .number ≡ 0 → (p : ℕ) → getD (f x .exit .plan) p empty ≡ empty) → ⊥
   unfolding empty
   not-empty h =
-      let d : _≡_ {A = ℕ} 7 4294967295 = sym (one-cells .0) ∙ ap (λ (p : List ℕ). getD p 16 empty) (sym (plan-is one)) ∙ h one (number-is one (one-reply .0)) 16 in
+      let d : _≡_ {A = ℕ} 65543 4294967295 = sym (one-cells .0) ∙ ap (λ (p : List ℕ). getD p 16 empty) (sym (plan-is one)) ∙ h one (number-is one (one-reply .0)) 16 in
       omega arith
 
   -- nor do they all report no word.
@@ -174,7 +174,7 @@ module _ (f : Handed → Left) (M : Meets f) where
   not-repeated h =
       let e = h two (number-is two (two-reply .0)) (ap (λ r. r .stages) (reply-is two) ∙ two-reply .1) in
       let p : f two .exit .plan ≡ right two .areas .plan = plan-is two in
-      let d : _≡_ {A = ℕ} 4294967295 14 = sym (two-cells .1) ∙ ap (λ (c : List ℕ). getD c 1 empty) (ap (stageOf 6 2) (sym p) ∙ e ∙ ap (stageOf 6 1) p) ∙ two-cells .0 in
+      let d : _≡_ {A = ℕ} 4294967295 65550 = sym (two-cells .1) ∙ ap (λ (c : List ℕ). getD c 1 empty) (ap (stageOf 6 2) (sym p) ∙ e ∙ ap (stageOf 6 1) p) ∙ two-cells .0 in
       omega arith
 
   -- nor are its words as many.

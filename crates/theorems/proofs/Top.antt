@@ -8,7 +8,7 @@ use Rattle.rules.specs.Graph.{graphOf, value}
 use Rattle.rules.specs.Records.{groupsOf, Ends}
 use Rattle.rules.specs.Fold.{asNumber}
 use Rattle.fold.specs.Answers.{numberFor}
-use Rattle.theorems.specs.Reading.{Read}
+use Rattle.coded.specs.Reading.{Read}
 use Rattle.theorems.proofs.Calls.{Call, reads}
 use Rattle.theorems.proofs.Folds.{FoldCall}
 
@@ -21,5 +21,5 @@ chipValue C bits q = value (length (graphOf (C .gates))) (graphOf (C .gates)) (C
 -- word, whose cell holds the pin and whose folded bit is the pin's value in the graph. (The fold does answer 0 where its areas are large enough:
 -- `folds` in `Folds.antt`.)
 pub relied-on : (C : Call) → C .answer .number ≡ 0 → (F : FoldCall C) → numberFor (F .answer) ≡ 0 → (q : ℕ) → 0 < q → Ends q (groupsOf (C .records)) →
-    Read (C .height) (C .exit .plan) (C .exit .words) (C .exit .counts) (F .exit) q (asNumber (chipValue C (F .bits) q))
+    Read (C .height) (C .answer .stages) (C .exit .plan) (C .exit .words) (C .exit .counts) (F .exit) q (asNumber (chipValue C (F .bits) q))
 relied-on C z F f = reads C z (F .bits) (F .entry) (F .work) (F .answer) (F .exit) (F .cleared) (F .ensures) f

@@ -4,6 +4,8 @@ use mathlib.Core.Path.{_≡_}
 use mathlib.Core.Bool.{Bool}
 use mathlib.Core.List.{List}
 use lib.ListN.{length}
+use Rattle.rules.specs.Lists.{padded}
+use Rattle.rules.specs.Cells.{empty}
 use Rattle.rules.specs.Graph.{Node, graphOf, value}
 use Rattle.rules.specs.Records.{Group, groupsOf}
 use Rattle.rules.specs.Traversal.{WordRule}
@@ -12,6 +14,7 @@ use Rattle.rules.specs.Build as build
 use Rattle.rules.specs.States as states
 use Rattle.rules.specs.Capacity as capacity
 use Rattle.rules.specs.Depth as depth
+use Rattle.coded.specs.Inputs as coded
 
 -- under either word rule; `sized` says whether every lent area has a right size
 pub record Input : Type 0 where
@@ -26,6 +29,10 @@ pub record Input : Type 0 where
 -- the same input under a word rule
 abbrev pub under : WordRule → Input → Input
 under rule I = record { rule = rule; K = I .K; sized = I .sized; gates = I .gates; given = I .given; records = I .records; passes = I .passes }
+
+-- and without one
+abbrev pub plain : Input → coded.Input
+plain I = record { K = I .K; sized = I .sized; gates = I .gates; given = I .given; records = I .records; passes = I .passes }
 
 abbrev pub graph : Input → List Node
 graph I = graphOf (I .gates)
@@ -44,6 +51,10 @@ remaining I done waiting = depth.remaining (length (graph I)) (graph I) done wai
 -- the build with so many rooms
 abbrev pub built : Input → ℕ → build.Answer
 built I rooms = build.build (I .rule) (I .K) (graph I) (I .given) (groups I) rooms
+
+-- the plan area of L numbers that its stages fill, as cells with their inversions
+abbrev pub planArea : Input → ℕ → List build.Stage → List ℕ
+planArea I L ss = padded L empty (build.cellsOf (build.codedStages (I .K) (graph I) ss))
 
 -- where it stands after s completed stages
 abbrev pub after : Input → ℕ → states.State

@@ -1,28 +1,35 @@
 -- The stages that a build leaves in its areas are those that the listing prints. Assumes nothing.
 use mathlib.Core.Path.{_≡_, refl, sym, _∙_, ap}
-use mathlib.Core.Bool.{true}
+use mathlib.Core.Bool.{true, false}
 use mathlib.Core.List.{List, [], _∷_, _++_, append-assoc}
-use Prim.Native.Nat.{ℕ, _+_, _-_, _*_, _/_, _≤_, _<_}
+use Prim.Native.Nat.{ℕ, suc, _+_, _-_, _*_, _/_, _%_, _≤_, _<_}
 use native.Mathlib.Nat.{mul-le-mul-right, div-mul-le-self}
 use native.Mathlib.Omega.{arith}
 use lib.Dec.{leb}
 use lib.ListN.{length, take, drop, replicate, length-append}
 use lib.Seq.{take-at, drop-at, take-append-seam, drop-append-seam}
 use borrow.Author.Tests.{le-leb}
-use Rattle.rules.specs.Lists.{sum, padded, laidOver}
-use Rattle.rules.specs.Cells.{empty, isHeight, wordLimit, stageSize, rooms}
+use Rattle.rules.specs.Lists.{sum, count, padded, laidOver}
+use Rattle.rules.specs.Cells.{empty, filled, isHeight, wordLimit, stageSize, rooms}
 use Rattle.rules.specs.Graph.{Node}
-use Rattle.rules.specs.Records.{Group}
 use Rattle.rules.specs.Traversal.{WordRule}
-use Rattle.rules.specs.Ending.{stage}
-use Rattle.rules.specs.Build.{Stage, Answer, stages, build, cellsOf, wordsOf, countsOf, reply, refuse, stagesOf, Areas, areasAfter}
-use Rattle.rules.specs.Listing.{answerText}
+use Rattle.rules.specs.Build.{Stage, Answer, cellsOf, wordsOf, countsOf, reply, refuse, stagesOf, codedStages, Areas, areasAfter}
+use Rattle.rules.specs.Coded.{cellPin, coded, pins}
+use Rattle.rules.specs.Listing.{cellLines, stageLines, stagesLines, listing, answerText}
 use Rattle.rules.specs.Loops.{Valid}
-use Rattle.rules.specs.Records as spec-records
 use Rattle.rules.proofs.Demand as demand
 use Rattle.rules.proofs.Stage.Refusals.{refused-some}
 use Rattle.rules.proofs.Build.Lengths.{Sized, length-padded}
+use Rattle.rules.proofs.Lists.Members.{split}
 use Rattle.rules.proofs.Build.Words.{answer-cases}
+use Rattle.rules.proofs.Build.Coding.{stages-coded, counts-coded, sized-coded, cells-coded}
+use Rattle.coded.specs.Inputs.{Input, graph, groups, built}
+use Rattle.coded.proofs.Passing.{tall, small, few, valid, named}
+use Rattle.coded.proofs.Cells.{pin-filled, pin-empty, pin-plain, filled-pin}
+use Rattle.coded.proofs.Shapes.{Shapes}
+use Rattle.coded.proofs.Coding.{pins-coded}
+use Rattle.coded.proofs.Complete.{built-shapes}
+use Rattle.checks.proofs.Laws.Passed.{passed}
 use Rattle.listing_lines.specs.Stages.{stagesIn}
 use Rattle.listing.specs.Listing.{written, hold, answered}
 use Rattle.listing.proofs.Laws.Answered.{listed-all, answered-no, answered-yes}
@@ -75,18 +82,64 @@ module _ (K : ℕ) (ss : List Stage) (a : Areas) (need : ℕ) (each-sized : Size
       let w : leb (sum (take (length ss) (after .counts))) (length (after .words)) ≡ true = rw (counts-front, words-front, counts-sum) (long-front (length (wordsOf ss)) (wordsOf ss) _ (omega arith)) in
       rw (p, q, w)
 
--- what is printed of a build's answer and areas is the answer's text
-module _ (rule : WordRule) (K : ℕ) (g : List Node) (ok : Valid g) (height : isHeight K ≡ true) (tall : 6 ≤ K) (small : length g ≤ empty) (given : List ℕ) (groups : List Group) (named : (q : ℕ) → spec-records.Ends q groups → q < length g)
-    (a : Areas) (need : ℕ) (out : List ℕ) where
-  abbrev b : Answer
-  b = build rule K g given groups (rooms K (length (a .plan)))
+-- ---- cells print as their pins
 
-  -- what is printed of a build's answer and areas is the text of the answer
-  pub answer-printed : answered K (reply b .number) (reply b .stages) (reply b .stage) (reply b .pin) (areasAfter K need (stagesOf b) a .plan) (areasAfter K need (stagesOf b) a .words) (areasAfter K need (stagesOf b) a .counts) out ≡ written (answerText K b) out
-  unfolding reply refuse stagesOf answerText
+pin-twice : (c : ℕ) → cellPin (cellPin c) ≡ cellPin c
+pin-twice c = split (filled c)
+    (λ t. let e = pin-filled c t in rw e (pin-plain (c % 65536) (omega arith)))
+    (λ t. let e = pin-empty c t in pin-empty (cellPin c) (filled-pin c ∙ t) ∙ sym e)
+
+lines-pins : (p : ℕ) (cl : List ℕ) → cellLines p (pins cl) ≡ cellLines p cl
+unfolding cellLines pins
+lines-pins p [] = refl
+lines-pins p (c ∷ cs) = split (filled c)
+    (λ t. let f : filled (cellPin c) ≡ true = filled-pin c ∙ t in rw (t, f, cellLines, pin-twice c, lines-pins (suc p) cs))
+    (λ t. let f : filled (cellPin c) ≡ false = filled-pin c ∙ t in rw (t, f, cellLines, lines-pins (suc p) cs))
+
+count-pins : (cl : List ℕ) → count filled (pins cl) ≡ count filled cl
+unfolding count pins
+count-pins [] = refl
+count-pins (c ∷ cs) = split (filled c)
+    (λ t. let f : filled (cellPin c) ≡ true = filled-pin c ∙ t in rw (t, f, count, count-pins cs))
+    (λ t. let f : filled (cellPin c) ≡ false = filled-pin c ∙ t in rw (t, f, count, count-pins cs))
+
+module _ (K : ℕ) (g : List Node) (ok : Valid g) (few : length g ≤ 65536) (given : List ℕ) where
+  lines-coded : (k : ℕ) (held : ℕ → Type 0) (room : ℕ) (ss : List Stage) → Shapes K g given held room ss → stagesLines k (codedStages K g ss) ≡ stagesLines k ss
+  unfolding stagesLines stageLines codedStages
+  lines-coded k held room [] H = refl
+  lines-coded k held room (s ∷ ss) H =
+      let e : pins (coded K g (s .plan)) ≡ s .plan = pins-coded K g ok few given held room s (H .0) in
+      let c : count filled (coded K g (s .plan)) ≡ count filled (s .plan) = sym (count-pins (coded K g (s .plan))) ∙ ap (count filled) e in
+      let l : cellLines 0 (coded K g (s .plan)) ≡ cellLines 0 (s .plan) = sym (lines-pins 0 (coded K g (s .plan))) ∙ ap (cellLines 0) e in
+      rw (c, l, lines-coded (suc k) _ _ ss (H .1))
+
+-- what is printed of a build's answer and areas is the answer's text
+module _ (rule : WordRule) (I : Input) (a : Areas) (need : ℕ) (out : List ℕ) where
+  abbrev b : Answer
+  b = built rule I (rooms (I .K) (length (a .plan)))
+
+  abbrev left : Areas
+  left = areasAfter (I .K) need (codedStages (I .K) (graph I) (stagesOf b)) a
+
+  -- a build's answer and areas, listed, are the text of the answer
+  pub answer-printed : answered (I .K) (reply b .number) (reply b .stages) (reply b .stage) (reply b .pin) (left .plan) (left .words) (left .counts) out ≡ written (answerText (I .K) b) out
+  unfolding reply refuse stagesOf answerText listing
   answer-printed = answer-cases b
-      (λ n k e. rw e (sym (answered-no K 0 _ _ _ out n k 0 (refused-some rule K g given groups (rooms K (length (a .plan))) n k e))))
+      (λ n k e. rw e (sym (answered-no (I .K) 0 _ _ _ out n k 0 (refused-some rule (I .K) (graph I) (I .given) (groups I) (rooms (I .K) (length (a .plan))) n k e))))
       (λ ss e.
-      let S = demand.whole-sizes rule K g ok tall small given [] groups named (rooms K (length (a .plan))) ss e in
-      let E = demand.whole-sized rule K g ok tall small given [] groups named (rooms K (length (a .plan))) ss e in
-      rw e (sym (answered-yes K (length ss) _ _ _ out 0 0 0 refl) ∙ sym (listed-all K (length ss) _ _ _ out height (after-hold K ss a need E (S .cells) (S .few) (S .counts))) ∙ rw (after-stages K ss a need E (S .cells) (S .few) (S .counts))))
+      let K = I .K in
+      let cs = codedStages K (graph I) ss in
+      let S = demand.whole-sizes rule K (graph I) (valid I) (tall I) (small I) (I .given) [] (groups I) (named I) (rooms K (length (a .plan))) ss e in
+      let Z = demand.whole-sized rule K (graph I) (valid I) (tall I) (small I) (I .given) [] (groups I) (named I) (rooms K (length (a .plan))) ss e in
+      let n : length cs ≡ length ss = stages-coded K (graph I) ss in
+      let E = sized-coded K (graph I) ss in
+      let C : length (cellsOf cs) ≡ length cs * stageSize K = cells-coded K (graph I) ss Z ∙ S .cells ∙ ap (λ (x : ℕ). x * stageSize K) (sym n) in
+      let F : length cs ≤ rooms K (length (a .plan)) = omega (arith, n, S .few) in
+      let D : length (countsOf cs) ≡ length cs = ap length (counts-coded K (graph I) ss) ∙ S .counts ∙ sym n in
+      let L : listing K cs ≡ listing K ss = rw (n, lines-coded K (graph I) (valid I) (few I) (I .given) 1 _ _ ss (built-shapes rule I (rooms K (length (a .plan))) ss e)) in
+      let A = after-stages K cs a need E C F D in
+      let H = after-hold K cs a need E C F D in
+      let aft = areasAfter K need cs a in
+      let G : answered K 0 (length cs) 0 0 (aft .plan) (aft .words) (aft .counts) out ≡ written (listing K ss) out =
+      sym (answered-yes K (length cs) _ _ _ out 0 0 0 refl) ∙ sym (listed-all K (length cs) _ _ _ out (passed (I .K) (I .sized) (I .gates) (I .given) (I .records) (I .passes) .height) H) ∙ rw (A, L) in
+      rw e (rw n at G))

@@ -1,6 +1,6 @@
 -- The lines of a listing, one entry after the other. Assumes nothing.
 use mathlib.Core.Path.{_≡_, refl, sym, _∙_, ap}
-use mathlib.Core.Bool.{true, false}
+use mathlib.Core.Bool.{Bool, true, false, not}
 use mathlib.Core.List.{List, [], _∷_, _++_, append-assoc, append-nil}
 use Prim.Native.Nat.{ℕ, zero, suc, _+_, _*_, _^_, _≤_, _<_}
 use native.Mathlib.Nat.{suc-mul, zero-mul, mul-le-mul-right}
@@ -8,10 +8,11 @@ use native.Mathlib.Numerals.{add-one}
 use native.Mathlib.Omega.{arith}
 use lib.ListN.{length, take, drop, getD}
 use lib.Seq.{take-suc, take-all, take-nil, drop-drop, length-take-le}
-use borrow.Author.Tests.{eq-eqb, ne-eqb}
+use borrow.Author.Tests.{eq-eqb, ne-eqb, not-true, not-false}
 use Rattle.rules.specs.Lists.{count, sum}
 use Rattle.rules.specs.Cells.{empty, filled}
 use Rattle.rules.specs.Build as rules
+use Rattle.rules.specs.Coded.{cellPin}
 use Rattle.rules.specs.Listing.{text, decimal, spaced, wordsText, cellLines, stageLines, stagesLines, listing, pinText}
 use Rattle.rules.proofs.Lists.Members.{split, count-append}
 use Rattle.listing_lines.specs.Laid.{Laid}
@@ -53,14 +54,14 @@ count-all cs i n h e = rw (take-all i cs h) at e
 -- ---- cells
 
 -- an empty cell has no line
-pub cell-none : (p c : ℕ) → c ≡ 4294967295 → [] ≡ cellLines p (c ∷ [])
+pub cell-none : (p c : ℕ) {t : Bool} → t ≡ not (filled c) → t ≡ true → [] ≡ cellLines p (c ∷ [])
 unfolding cellLines
-cell-none p c h = rw (filled-no c h, cellLines)
+cell-none p c e h = rw (not-true (filled c) (sym e ∙ h), cellLines)
 
 -- a filled cell's line: its position and its pin
-pub cell-one : (p c : ℕ) → (c ≡ 4294967295 → ⊥) → decimal p ++ text " " ++ decimal c ++ text "\n" ≡ cellLines p (c ∷ [])
+pub cell-one : (p c : ℕ) {t : Bool} → t ≡ not (filled c) → t ≡ false → decimal p ++ text " " ++ decimal (cellPin c) ++ text "\n" ≡ cellLines p (c ∷ [])
 unfolding cellLines text
-cell-one p c h = rw (filled-yes c h, cellLines, append-nil)
+cell-one p c e h = rw (not-false (filled c) (sym e ∙ h), cellLines, append-nil)
 
 cells-append : (p : ℕ) (xs ys : List ℕ) → cellLines p (xs ++ ys) ≡ cellLines p xs ++ cellLines (p + length xs) ys
 unfolding cellLines

@@ -30,7 +30,7 @@ use Rattle.stage_runs.specs.Rule.{ruleOf}
 use Rattle.placer.specs.declared.Answer.{Answer}
 use Rattle.placer.specs.Answers.{told}
 use Rattle.placer.specs.Stages.{Course, answer, StagesAt, Ran, Underway}
-use Rattle.placer.specs.Build.{PlaceAt, Emptied, Blank, TryAt, Filled, Tried, Tidied, Placed}
+use Rattle.placer.specs.Build.{PlaceAt, Emptied, Blank, TryAt, Filled, Tried, Tidied, Laid}
 use Rattle.placer.proofs.Laws.Laying.{padded-none}
 
 -- ---- the reservation's answer
@@ -239,7 +239,7 @@ module _ {K : ℕ} {gates given records pl ws cs w pl₁ ws₁ cs₁ w₁ : List
           counts = N .counts ∙ ap (λ (i : ℕ). replicate i 0) (T .kept .counts ∙ counts-same) ∙ sym (padded-none (length cs) 0);
         }
 
-    so : Placed b pl ws cs w a pl₃ ws₃ cs₃ w₃
+    so : Laid b pl ws cs w a pl₃ ws₃ cs₃ w₃
     so = record {
       reply = T .reply;
       filled = split (eqb (a .number) 0) (λ t. stands (eqb-true (a .number) 0 t)) (λ t. let h = eqb-false (a .number) 0 t in rw (no-stages b a (T .reply) h) (bare h));
@@ -247,6 +247,6 @@ module _ {K : ℕ} {gates given records pl ws cs w pl₁ ws₁ cs₁ w₁ : List
     }
 
   -- emptied, built and tidied: the areas are as the rules leave them
-  pub placed : (asked : Asked) {a : Answer} {pl₂ ws₂ cs₂ w₂ pl₃ ws₃ cs₃ w₃ : List ℕ} → Tried (rules.answerOf (ruleOf asked) K gates given records (length pl₁)) pl₁ ws₁ cs₁ w₁ a pl₂ ws₂ cs₂ w₂ → Tidied (a .number) pl₂ ws₂ cs₂ w₂ pl₃ ws₃ cs₃ w₃ →
-      Placed (rules.answerOf (ruleOf asked) K gates given records (length pl)) pl ws cs w a pl₃ ws₃ cs₃ w₃
-  placed asked T D = so (rw plan-same at T) D
+  pub laid : (asked : Asked) {a : Answer} {pl₂ ws₂ cs₂ w₂ pl₃ ws₃ cs₃ w₃ : List ℕ} → Tried (rules.answerOf (ruleOf asked) K gates given records (length pl₁)) pl₁ ws₁ cs₁ w₁ a pl₂ ws₂ cs₂ w₂ → Tidied (a .number) pl₂ ws₂ cs₂ w₂ pl₃ ws₃ cs₃ w₃ →
+      Laid (rules.answerOf (ruleOf asked) K gates given records (length pl)) pl ws cs w a pl₃ ws₃ cs₃ w₃
+  laid asked T D = so (rw plan-same at T) D

@@ -13,7 +13,7 @@ use Rattle.graph.specs.declared.Pin.{Pin}
 use Rattle.rules.proofs.Lists.Parts.{part-laid, divides}
 use Rattle.rules.specs.Lists.{padded, laidOver}
 use Rattle.rules.specs.Cells.{empty, wordLimit, stageSize, rooms, isHeight}
-use Rattle.rules.specs.Graph.{pinCount}
+use Rattle.rules.specs.Graph.{graphOf, pinCount}
 use Rattle.rules.specs.Checks.{workSize, planSized, areasSized, refusalOf, pinShown}
 use Rattle.rules.specs.Traversal.{WordRule}
 use Rattle.rules.specs.Build as rules
@@ -113,16 +113,16 @@ module _ {K : ℕ} {gates given records : List ℕ} (pl ws cs w : List ℕ) (H :
       work = length-take-le (need - 0) w (omega (arith, work-inside H el er en)) ∙ omega (arith, en);
     }
 
-    module _ (rule : WordRule) {a : Answer} {pl′ ys zs vs : List ℕ} (D : Placed (rules.answerOf rule K gates given records (length pl)) pl (take (limit - 0) ws) (take (rms - 0) cs) (take (need - 0) w) a pl′ ys zs vs)
+    module _ (rule : WordRule) {a : Answer} {pl′ ys zs vs : List ℕ} (D : Placed (graphOf gates) (rules.answerOf rule K gates given records (length pl)) K pl (take (limit - 0) ws) (take (rms - 0) cs) (take (need - 0) w) a pl′ ys zs vs)
         (ly : length ys ≡ length (take (limit - 0) ws)) (lz : length zs ≡ length (take (rms - 0) cs)) (lv : length vs ≡ length (take (need - 0) w)) where
-      abbrev b : rules.Answer
-      b = rules.answerOf rule K gates given records (length pl)
+      abbrev ss : List rules.Stage
+      ss = rules.codedStages K (graphOf gates) (rules.stagesOf (rules.answerOf rule K gates given records (length pl)))
 
-      words-laid : ys ++ drop (limit - 0) ws ≡ laidOver (padded (wordLimit K) empty (rules.wordsOf (rules.stagesOf b))) ws
-      words-laid = part-laid (limit - 0) ws ys (omega (arith, words-inside H el er en)) ly ∙ ap (λ (x : List ℕ). laidOver x ws) (D .filled .words ∙ ap (λ (i : ℕ). padded i empty (rules.wordsOf (rules.stagesOf b))) (place-at .words))
+      words-laid : ys ++ drop (limit - 0) ws ≡ laidOver (padded (wordLimit K) empty (rules.wordsOf ss)) ws
+      words-laid = part-laid (limit - 0) ws ys (omega (arith, words-inside H el er en)) ly ∙ ap (λ (x : List ℕ). laidOver x ws) (D .filled .words ∙ ap (λ (i : ℕ). padded i empty (rules.wordsOf ss)) (place-at .words))
 
-      counts-laid : zs ++ drop (rms - 0) cs ≡ laidOver (padded (rooms K (length pl)) 0 (rules.countsOf (rules.stagesOf b))) cs
-      counts-laid = part-laid (rms - 0) cs zs (omega (arith, counts-inside H el er en)) lz ∙ ap (λ (x : List ℕ). laidOver x cs) (D .filled .counts ∙ ap (λ (i : ℕ). padded i 0 (rules.countsOf (rules.stagesOf b))) (place-at .counts))
+      counts-laid : zs ++ drop (rms - 0) cs ≡ laidOver (padded (rooms K (length pl)) 0 (rules.countsOf ss)) cs
+      counts-laid = part-laid (rms - 0) cs zs (omega (arith, counts-inside H el er en)) lz ∙ ap (λ (x : List ℕ). laidOver x cs) (D .filled .counts ∙ ap (λ (i : ℕ). padded i 0 (rules.countsOf ss)) (place-at .counts))
 
       work-laid : vs ++ drop (need - 0) w ≡ laidOver (replicate (workSize gates records) 0) w
       work-laid = part-laid (need - 0) w vs (omega (arith, work-inside H el er en)) lv ∙ ap (λ (x : List ℕ). laidOver x w) (D .work ∙ ap (λ (i : ℕ). replicate i 0) (place-at .work))

@@ -32,10 +32,6 @@ number-cases : {P : Type 0} (n : ℕ) → (n ≡ 0 → P) → ((m : ℕ) → n �
 number-cases zero f g = f refl
 number-cases (suc n) f g = g n refl
 
-low : (K : ℕ) → isHeight K ≡ true → 6 ≤ K
-unfolding isHeight
-low K h = leb-true 6 K (and-true (leb 6 K) (leb K 13) h .0)
-
 -- areas of right sizes with four rooms, wherever there is such a height
 module _ (rule : WordRule) (K : ℕ) (gates given records : List ℕ) (A : rules.Areas) (out : List ℕ)
     (right : isHeight K ≡ true → rules.sizesRight K gates records A ≡ true) (four : isHeight K ≡ true → rooms K (length (A .plan)) ≡ 4) where
@@ -50,7 +46,7 @@ module _ (rule : WordRule) (K : ℕ) (gates given records : List ℕ) (A : rules
       (λ z.
       let P : Passed K true gates given records = passed K true gates given records z in
       rw (same-refusal, z, rules.placer, jobText)
-      (answer-printed rule K (graphOf gates) (P .valid) (P .height) (low K (P .height)) (omega (arith, P .pins, P .few)) given (groupsOf records) (λ q i. rw (P .pins) (P .named q i)) A (workSize gates records) out
+      (answer-printed rule (record { K = K; sized = true; gates = gates; given = given; records = records; passes = z }) A (workSize gates records) out
       ∙ ap (λ (r : ℕ). written (answerText K (rules.build rule K (graphOf gates) given (groupsOf records) r)) out) (four (P .height))))
       (λ n z. rw (same-refusal, z, rules.placer, jobText) (sym (answered-no K 0 _ _ _ out (suc n) 0 _ (λ e. omega arith))))
 
