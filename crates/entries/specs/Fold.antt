@@ -1,7 +1,7 @@
 -- What the entry of a fold returns and leaves. Assumes nothing.
-use mathlib.Core.List.{List, [], _∷_}
+use mathlib.Core.List.{List, []}
 use Prim.Native.Nat.{ℕ}
-use Rattle.rules.specs.Fold.{folder}
+use Rattle.rules.specs.Coded.{folder}
 use Rattle.entries.specs.Entry.{Entry, entered}
 
 -- the areas that a fold writes
@@ -12,8 +12,8 @@ pub record Lent : Type 0 where
 unfoldable pub lentTo : (result work : List ℕ) → Lent
 lentTo result work = record { result = result; work = work }
 
--- number and pin, and the areas
-unfoldable pub planFolded : ℕ → (plan gates given bits : List ℕ) → Lent → List ℕ → Entry Lent
-planFolded K plan gates given bits l xs =
-    let o = folder K plan gates given bits (l .result) (l .work) in
-    entered l (lentTo (o .result) (o .work)) (o .number) (o .pin ∷ []) xs
+-- the number, and the areas
+unfoldable pub planFolded : ℕ → (plan bits : List ℕ) → Lent → List ℕ → Entry Lent
+planFolded K plan bits l xs =
+    let o = folder K plan bits (l .result) (l .work) in
+    entered l (lentTo (o .result) (o .work)) (o .number) [] xs

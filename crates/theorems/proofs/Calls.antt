@@ -215,7 +215,8 @@ reads C z bits result work a result′ work′ e f q b i =
     let r = same-read (λ p. foldCells (C .height) p bits) (W .plan) (W .words) (W .counts) R in
     let s = foldCells (C .height) P bits in
     let l : length s ≡ rooms (C .height) (length P) * stageSize (C .height) = length-cells (rooms (C .height) (length P)) (C .height) (ownBit bits) P in
-    let there : length (W .ss) ≤ rooms (C .height) (length P) = rw (W .plan) (stages-there I (length (C .entry .plan)) (W .ss) (W .built)) in
+    let u : rooms (C .height) (length P) ≡ rooms (C .height) (length (planArea I (length (C .entry .plan)) (W .ss))) = ap (λ (x : List ℕ). rooms (C .height) (length x)) (W .plan) in
+    let there : length (W .ss) ≤ rooms (C .height) (length P) = omega (arith, u, stages-there I (length (C .entry .plan)) (W .ss) (W .built)) in
     let k : r .stage * stageSize (C .height) + r .position < length s =
     omega (arith, l, within (r .stage) (rooms (C .height) (length P)) (stageSize (C .height)) (r .position) (omega (arith, r .room, there)) (omega (arith, r .high, two-step (C .height)))) in
     let o = fold-laid (C .height) P bits result work _ refl (sym (ap (λ (x : FoldOutcome). x .number) e) ∙ f) in

@@ -41,5 +41,5 @@ folds C z F r w =
     let s = and-true (planSized (C .height) (length (C .entry .plan)) && leb (wordLimit (C .height)) (length (C .entry .words)) && leb (rooms (C .height) (length (C .entry .plan))) (length (C .entry .counts))) _ (P .areas) .0 in
     let t = and-true (planSized (C .height) (length (C .entry .plan)) && leb (wordLimit (C .height)) (length (C .entry .words))) _ s .0 in
     let p : planSized (C .height) (length (C .exit .plan)) ≡ true = rw l (and-true (planSized (C .height) (length (C .entry .plan))) _ t .0) in
-    let n : foldRefusal (C .height) (length (C .exit .plan)) (length (F .entry)) (length (F .work)) ≡ 0 = rw (P .height, p, true-leb _ _ r, true-leb _ _ w) refl in
+    let n : foldRefusal (C .height) (length (C .exit .plan)) (length (F .entry)) (length (F .work)) ≡ 0 = rw (P .height, foldRefusal, p, foldSized, true-leb _ _ r, true-leb _ _ w) refl in
     ap (λ (o : FoldOutcome). o .number) (F .ensures) ∙ rw (n, folder) refl

@@ -1,5 +1,4 @@
 -- `entries::fold_entry::fold_plan` meets its contract. Assumes nothing.
-use mathlib.Core.Path.{_∙_}
 use native.Mathlib.Omega.{arith}
 use Rattle.entries.specs.Fold.{planFolded}
 use Rattle.entries.proofs.Laws.Entry.{entry-short}
@@ -18,14 +17,8 @@ fold-requires c κs = search needs
 number-requires : tie.Need-number-requires
 number-requires c κs = search needs
 
-pin-requires : tie.Need-pin-requires
-pin-requires c κs = search needs
-
 wide-requires : tie.Need-wide-requires
 wide-requires c κs = search needs
-
-index-requires : tie.Need-index-requires
-index-requires c κs = search needs
 
 slice-aggregate-tell : tie.Need-slice-aggregate-tell
 slice-aggregate-tell c = search needs
@@ -43,7 +36,7 @@ same-length-3 : tie.Need-same-length-3
 same-length-3 c = search needs
 
 returns-2 : tie.Need-returns-2
-returns-2 c = entry-folded _ _ _ _ _ _ _ _ (omega (arith, c .before .before .before .before .before .before .before .before .before .before .before .before .before .before .before .before .if1 .left)) _ _ _ _ _ _ _ (c .before .before .before .before .before .before .before .before .before .before .before .before .before .fold .ensures) (c .before .before .before .before .before .before .before .before .number .ensures) (c .before .before .before .before .before .before .wide .ensures) (c .before .before .before .before .before .index .ensures ∙ c .before .before .before .before .before .before .before .pin .ensures) (c .before .before .tell .ensures)
+returns-2 c = entry-folded _ _ _ _ _ _ (omega (arith, c .before .before .before .before .before .before .before .before .before .before .before .before .before .before .if1 .left)) _ _ _ _ _ _ (c .before .before .before .before .before .before .before .before .before .before .before .fold .ensures) (c .before .before .before .before .before .before .number .ensures) (c .before .before .before .before .before .wide .ensures) (c .before .before .tell .ensures)
 
 pub fold-plan-spec : {M : Type 1} → statement M
 fold-plan-spec =
@@ -52,9 +45,7 @@ fold-plan-spec =
     returns
     fold-requires
     number-requires
-    pin-requires
     wide-requires
-    index-requires
     slice-aggregate-tell
     tell-requires
     same-length
