@@ -62,7 +62,8 @@ module _ (K : ℕ) (g : List Node) (pl : List ℕ) (l : length pl ≡ 2 ^ (K + 1
   front : i ≤ 2 ^ (K + 1) → length (take i (coded K g pl)) ≡ i
   front h = length-take i (coded K g pl) ∙ omega (arith, length-coded K g pl)
 
-  partly-length : i ≤ 2 ^ (K + 1) → length (partly K g pl i) ≡ 2 ^ (K + 1)
+  -- a cell a position
+  pub partly-length : i ≤ 2 ^ (K + 1) → length (partly K g pl i) ≡ 2 ^ (K + 1)
   unfolding partly
   partly-length h = length-append (take i (coded K g pl)) (drop i pl) ∙ omega (arith, front h, length-drop i pl)
 
@@ -87,11 +88,6 @@ module _ (K : ℕ) (g : List Node) (pl : List ℕ) (l : length pl ≡ 2 ^ (K + 1
       let a : getD (partly K g pl i) i empty ≡ getD pl i empty = still-pins h i (omega arith) in
       let b : getD (partly K g pl i) (i + rowStart i) empty ≡ getD pl (i + rowStart i) empty = still-pins h (i + rowStart i) (omega arith) in
       λ x. codedCell K g i (a x) (b x)
-
--- at the end all of it is coded
-pub partly-all : (K : ℕ) (g : List Node) (pl : List ℕ) → length pl ≡ 2 ^ (K + 1) → partly K g pl (2 ^ (K + 1)) ≡ coded K g pl
-partly-all K g pl l = ext-getD empty (partly K g pl (2 ^ (K + 1))) (coded K g pl) (partly-length K g pl l (2 ^ (K + 1)) (omega arith) ∙ sym (length-coded K g pl))
-    (λ j b. coded-before K g pl l (2 ^ (K + 1)) (omega arith) j (omega (arith, partly-length K g pl l (2 ^ (K + 1)) (omega arith))))
 
 -- one turn of the loop
 pub partly-turn : (K : ℕ) (g : List Node) (pl : List ℕ) → length pl ≡ 2 ^ (K + 1) → (i : ℕ) → i < 2 ^ (K + 1) → set (partly K g pl i) i (codedAt K g (partly K g pl i) i) ≡ partly K g pl (suc i)

@@ -1,12 +1,14 @@
 -- A cell by what the code tests, and a stage as far as it is coded. Assumes nothing.
 use Prim.Native.Nat.{ℕ, zero, suc, _+_, _*_, _^_, _≤_, _<_}
 use mathlib.Core.Path.{_≡_, refl, sym, _∙_, ap}
-use mathlib.Core.Bool.{true}
+use mathlib.Core.Bool.{true, false}
 use mathlib.Core.List.{List}
 use native.Mathlib.Omega.{arith}
 use native.Mathlib.Numerals.{add-one}
+use lib.Dec.{ltb}
 use lib.ListN.{length, getD, set}
-use borrow.Author.Tests.{ne-eqb}
+use lib.Seq.{ext-getD}
+use borrow.Author.Tests.{ne-eqb, ltb-true, ltb-false}
 use Rattle.rules.specs.Cells.{isHeight, empty, filled, logFrom, log2, rowStart, firstLower}
 use Rattle.rules.specs.Graph.{Node, leaf, gate, inversionOf}
 use Rattle.rules.specs.Coded.{andOf, andCell, codedAt, coded}
@@ -14,8 +16,10 @@ use Rattle.rules.proofs.Fold.Bits.{lower-cells}
 use Rattle.cells.specs.Answers.{orZero}
 use Rattle.cells.proofs.Heights.{orZero-true}
 use Rattle.cell.proofs.Cells.{mark-empty, other-filled}
-use Rattle.coded.proofs.Coding.{coded-empty, coded-load, coded-copy, coded-and}
-use Rattle.coded.proofs.InPlace.{default-same, partly, still-pins, partly-turn, partly-all}
+use Rattle.rules.proofs.Lists.Members.{split}
+use Rattle.rules.proofs.Build.Coding.{length-coded}
+use Rattle.coded.proofs.Coding.{coded-empty, coded-load, coded-copy, coded-and, not-filled}
+use Rattle.coded.proofs.InPlace.{default-same, coded-cell, partly, partly-length, still-pins, coded-before, partly-turn}
 use Rattle.coding.specs.Stages.{StageAt, CellAt}
 
 -- ---- an AND
@@ -87,20 +91,25 @@ first-lower-in K zero h d = omega arith
 first-lower-in K (suc p) h d = let l = lower-cells K (suc p) (omega arith) h in omega (arith, l .next, l .inside)
 
 module _ (K : ℕ) (g : List Node) (pl : List ℕ) (S : StageAt K pl) where
+  -- the width, as the code gets it
+  pub width-is : {w : ℕ} → w ≡ orZero (isHeight K) (2 ^ K) → w ≡ 2 ^ K
+  width-is ew = rw (S .height, orZero-true (2 ^ K)) at ew
+
   -- at the start all are pins
   pub partly-none : pl ≡ partly K g pl 0
   unfolding partly
   partly-none = refl
 
-  module _ (i : ℕ) (now : List ℕ) (e : now ≡ partly K g pl i) (h : i < length now) (same : length now ≡ length pl) where
-    inside : i < 2 ^ (K + 1)
-    inside = omega (arith, S .size)
+  module _ (w i : ℕ) (now : List ℕ) (ew : w ≡ orZero (isHeight K) (2 ^ K)) (e : now ≡ partly K g pl i) (h : i < w) (same : length now ≡ length pl) where
+    -- the next cell is in the stage
+    pub inside : i < 2 ^ (K + 1)
+    inside = omega (arith, S .double, width-is ew)
 
     -- the next cell and its first lower cell are pins still
     pub partly-cell : CellAt K now i
     partly-cell = record {
       height = S .height;
-      here = h;
+      here = omega (arith, inside, same, S .size);
       first = λ b. omega (arith, S .size, first-lower-in K i b (S .double));
       pin = let z : getD now i empty ≡ getD pl i empty = ap (λ (x : List ℕ). getD x i empty) e ∙ still-pins K g pl (S .size) i (omega (arith, inside)) i (omega arith) in λ k. rw z (S .pins i (rw z at k));
     }
@@ -109,6 +118,21 @@ module _ (K : ℕ) (g : List Node) (pl : List ℕ) (S : StageAt K pl) where
     pub partly-more : (v : ℕ) → v ≡ codedAt K g now i → set now i v ≡ partly K g pl (i + 1)
     partly-more v d = (λ k. set (e k) i ((d ∙ ap (λ (x : List ℕ). codedAt K g x i) e) k)) ∙ partly-turn K g pl (S .size) i inside ∙ ap (partly K g pl) (sym (add-one i))
 
-  -- at the end all are coded
-  pub partly-done : (i : ℕ) (now : List ℕ) → now ≡ partly K g pl i → length now ≤ i → i ≤ length pl → length now ≡ length pl → now ≡ coded K g pl
-  partly-done i now e h b same = let z : i ≡ 2 ^ (K + 1) = omega (arith, S .size) in e ∙ ap (partly K g pl) z ∙ partly-all K g pl (S .size)
+  level-zero : (j : ℕ) → 2 ^ K ≤ j → codedAt K g pl j ≡ getD pl j empty
+  level-zero j h = split (filled (getD pl j empty))
+      (λ f. coded-load K g pl j f h)
+      (λ f. coded-empty K g pl j f ∙ sym (not-filled (getD pl j empty) f))
+
+  -- above level 0 all are coded, and level 0 stays
+  pub partly-done : (w i : ℕ) (now : List ℕ) → w ≡ orZero (isHeight K) (2 ^ K) → now ≡ partly K g pl i → w ≤ i → i ≤ 2 ^ K → now ≡ coded K g pl
+  partly-done w i now ew e h b =
+      let z : i ≡ 2 ^ K = omega (arith, width-is ew) in
+      let low : 2 ^ K ≤ 2 ^ (K + 1) = omega (arith, S .double) in
+      let n : length (partly K g pl (2 ^ K)) ≡ 2 ^ (K + 1) = partly-length K g pl (S .size) (2 ^ K) low in
+      e ∙ ap (partly K g pl) z
+      ∙ ext-getD empty (partly K g pl (2 ^ K)) (coded K g pl) (n ∙ sym (length-coded K g pl))
+      (λ j d. split (ltb j (2 ^ K))
+      (λ t. coded-before K g pl (S .size) (2 ^ K) low j (ltb-true j (2 ^ K) t))
+      (λ t.
+      let k = ltb-false j (2 ^ K) t in
+      still-pins K g pl (S .size) (2 ^ K) low j k ∙ sym (coded-cell K g pl j (omega (arith, n)) ∙ level-zero j k)))

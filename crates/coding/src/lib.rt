@@ -45,13 +45,14 @@ fn coded_cell(height: Height, cells: &[u32], gates: &[u32], p: u32) -> Cell
     and_cell(Pin(held), node_at(gates, Pin(held)))
 }
 
-// A stage, positions rising: lower cells stand higher, so they are still pins when they are looked at.
+// A stage, positions rising: lower cells stand higher, so they are still pins when they are looked at. Level 0 holds loads, which are pins already.
 pub fn code_stage(height: Height, cells: &mut [u32], gates: &[u32])
     requires { ⌜ StageAt (height .0) (now cells) ⌝ }
     ensures { λ _. ⌜ now (cells .exit) ≡ coded (height .0) (graphOf (now (gates .entry))) (now (cells .entry)) ⌝ }
 {
+    let end = height.width();
     let mut p = 0;
-    while p < cells.len() {
+    while p < end {
         cells[p] = coded_cell(height, cells, gates, p as u32).0;
         p += 1;
     }
