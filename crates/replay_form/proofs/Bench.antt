@@ -6,12 +6,13 @@ use lib.Dec.{T}
 use lib.ListN.{length, replicate}
 use Rattle.rules.specs.Lists.{sameList, gather, upTo}
 use Rattle.rules.specs.Cells.{empty, stageSize, wordLimit}
+use Rattle.rules.specs.Graph.{pinCount}
 use Rattle.rules.specs.Checks.{workSize}
 use Rattle.rules.specs.Traversal.{neededRuns}
 use Rattle.rules.specs.Build.{stagesOf}
 use Rattle.replay_form.specs.Clocks.{Ran, plainRun}
 use Rattle.replay_form.specs.Tape.{made, tapeRun}
-use Rattle.replay_form.specs.Calls.{Job, Lent, Outcome, circuitOf, slotsSize, bitsSize, builtOf, replay}
+use Rattle.replay_form.specs.Calls.{Job, Lent, Outcome, circuitOf, slotsSize, bitsSize, cellStages, builtOf, replay}
 use Rattle.replay_form.specs.Opened.{opened}
 
 abbrev sameLists : List (List ℕ) → List (List ℕ) → Bool
@@ -61,10 +62,11 @@ plainly J = let r = plainRun (circuitOf J) (J .lines) (J .recording) (J .startin
 -- the same run by the tape, and how many entries that has
 abbrev taped : Job → List (List ℕ)
 taped J =
-    let ss = stagesOf (builtOf neededRuns J (sevens J 0 0)) in
+    let ss = cellStages J (stagesOf (builtOf neededRuns J (sevens J 0 0))) in
     let size = 2 * stageSize (J .height) in
-    let r = tapeRun (J .height) (J .gates) size ss (circuitOf J) (J .lines) (J .recording) (J .starting) in
-    r .out ∷ r .end ∷ (length (made (J .height) (J .gates) size ss .tape) ∷ []) ∷ []
+    let m = pinCount (J .gates) in
+    let r = tapeRun (J .height) m size ss (circuitOf J) (J .lines) (J .recording) (J .starting) in
+    r .out ∷ r .end ∷ (length (made (J .height) m size ss .tape) ∷ []) ∷ []
 
 -- leaf 1 driven by a flip-flop whose enable is the constant true and whose data is leaf 1 inverted
 abbrev toggle : Job

@@ -1,5 +1,5 @@
--- What request Q-6 promises of the whole call. Assumes nothing.
-use Prim.Native.Nat.{ℕ, zero, suc, _+_, _*_}
+-- What request Q-6 promises of a run of any plan that the check accepts, and of the whole call. Assumes nothing.
+use Prim.Native.Nat.{ℕ, zero, suc, _+_, _*_, _≤_}
 use mathlib.Core.Path.{_≡_, refl, sym, _∙_, ap}
 use mathlib.Core.Logic.{_≢_}
 use mathlib.Core.Bool.{Bool, true, false, _&&_}
@@ -15,28 +15,54 @@ use Rattle.rules.specs.Records.{groupsOf}
 use Rattle.rules.specs.Reservation.{memories}
 use Rattle.rules.specs.Checks.{refusalOf}
 use Rattle.rules.specs.Traversal.{WordRule}
-use Rattle.rules.specs.Build.{Stage, Answer, refusal, whole, reply, refuse, refuseChecked, answerOf}
+use Rattle.rules.specs.Build.{Stage, Answer, refusal, whole, reply, refuse, refuseChecked, cellsOf, codedStages, answerOf}
 use Rattle.rules.proofs.Lists.Members.{split, and-true, eqb-true, true-false}
 use Rattle.rules.proofs.Stage.Refusals.{refused-some}
 use Rattle.rules.specs.Records.{Ends}
-use Rattle.theorems.specs.Inputs.{Input, graph, groups, built}
+use Rattle.rules.specs.Faults.{faultless, cut, fault}
+use Rattle.coded.specs.Inputs.{Input, graph, groups, built}
 use Rattle.replay_form.specs.Clocks.{Circuit, Ran, ones, pinBits, lineLeaves, bitsOut, flipFlops, lineSize, andThen, run, plainBits, plainRun}
 use Rattle.replay_form.specs.Plans.{planBits, planRun}
-use Rattle.replay_form.specs.Calls.{Job, Lent, Outcome, circuitOf, areasRight, plain, drivenRight, lengthsRight, outRight, laterRefusal, laterOf, replayRefusal, ranOf, builtLent, builtOf, replay}
+use Rattle.replay_form.specs.Accepted.{Accepted}
+use Rattle.replay_form.specs.Calls.{Job, Lent, Outcome, circuitOf, areasRight, plain, drivenRight, lengthsRight, outRight, laterRefusal, laterOf, replayRefusal, ranOf, cellStages, builtLent, builtOf, replay}
 use Rattle.replay_form.proofs.Cutting.{ones-ones, ones-run, run-cut}
 use Rattle.replay_form.proofs.Same.{run-same}
 use Rattle.replay_form.proofs.Lengths.{length-ones, length-out, length-end}
+use Rattle.replay_form.proofs.Accepted.{cut-accepted, cut-fits, coded-accepted, coded-fits}
 use Rattle.replay_form.proofs.Reading.{read-bit}
 
 -- ---- plans
 
--- At every clock a whole plan's bits are those of the plain graph run the same way, and so are the end bits.
-pub plan-plain : (I : Input) → I .given ≡ [] → (L : ℕ) (ss : List Stage) → built I (rooms (I .K) L) ≡ whole ss → (driven : List ℕ) (n : ℕ) (recording starting : List ℕ) →
-    let C : Circuit = record { graph = graph I; groups = groups I; driven = driven } in planRun (I .K) (I .gates) L ss C n recording starting ≡ plainRun C n recording starting
-unfolding planRun plainRun planBits plainBits
-plan-plain I free L ss e driven n recording starting =
-    let agree : (bits : List ℕ) (q : ℕ) → Ends q (groups I) → planBits (I .K) (I .gates) L ss bits q ≡ plainBits (graph I) bits q = λ bits q i. rw free at (read-bit I L ss e bits q i) in
-    run-same _ _ _ (λ line state. agree (pinBits (graph I) driven line state)) n recording (ones starting)
+-- the circuit of an input
+abbrev pub circuitFor : Input → (driven : List ℕ) → Circuit
+circuitFor I driven = record { graph = graph I; groups = groups I; driven = driven }
+
+module _ (I : Input) (free : I .given ≡ []) (driven : List ℕ) (n : ℕ) (recording starting : List ℕ) where
+  -- At every clock the bits of a plan that the check accepts are those of the plain graph run the same way, and so are the end bits.
+  pub accepted-plain : (ss : List Stage) → Accepted (I .K) (I .gates) (I .given) (I .records) ss → (L : ℕ) → length (cellsOf ss) ≤ L →
+      planRun (I .K) L ss (circuitFor I driven) n recording starting ≡ plainRun (circuitFor I driven) n recording starting
+  unfolding planRun plainRun plainBits
+  accepted-plain ss A L fits =
+      let agree : (bits : List ℕ) (q : ℕ) → Ends q (groups I) → planBits (I .K) L ss bits q ≡ plainBits (graph I) bits q = λ bits q i. rw free at (read-bit I ss A L fits bits q i) in
+      run-same _ _ _ (λ line state. agree (pinBits (graph I) driven line state)) n recording (ones starting)
+
+  -- So are those of a plan that is handed in, where the check finds no fault.
+  pub faultless-plain : (plan words counts : List ℕ) (k : ℕ) → k ≤ rooms (I .K) (length plan) → fault (I .K) (I .gates) (I .given) (I .records) plan words counts k ≡ faultless →
+      planRun (I .K) (length plan) (cut k (I .K) plan words counts) (circuitFor I driven) n recording starting ≡ plainRun (circuitFor I driven) n recording starting
+  faultless-plain plan words counts k area e = accepted-plain (cut k (I .K) plan words counts) (cut-accepted I plan words counts k area e) (length plan) (cut-fits I plan words counts k area)
+
+  -- And those of a whole plan that the placer builds.
+  pub plan-plain : (rule : WordRule) (L : ℕ) (ss : List Stage) → built rule I (rooms (I .K) L) ≡ whole ss →
+      planRun (I .K) L (codedStages (I .K) (graph I) ss) (circuitFor I driven) n recording starting ≡ plainRun (circuitFor I driven) n recording starting
+  plan-plain rule L ss e = accepted-plain (codedStages (I .K) (graph I) ss) (coded-accepted rule I L ss e) L (coded-fits rule I L ss e)
+
+-- Whatever the plan, its run of n + m lines is one of n lines and then one of m that starts with the first one's end bits.
+pub plan-cut : (K L : ℕ) (ss : List Stage) (C : Circuit) (n m : ℕ) (first second starting : List ℕ) → length first ≡ n * lineSize C →
+    planRun K L ss C (n + m) (first ++ second) starting ≡ andThen (planRun K L ss C n first starting) (planRun K L ss C m second (planRun K L ss C n first starting .end))
+unfolding planRun
+plan-cut K L ss C n m first second starting e =
+    let B = planBits K L ss in
+    rw (ones-run C B n first (ones starting) (ones-ones starting)) (run-cut C B n m first second (ones starting) e)
 
 -- ---- calls
 
@@ -128,11 +154,11 @@ module _ (rule : WordRule) (J : Job) (a : Lent) (z : replay rule J a .reply .num
   given-none : J .given ≡ []
   given-none = given-nil (J .given) (J .records) (passed J a (answered rule J a z .passes) .1 .plain)
 
-  ran-plain : ranOf J (length (a .build .plan)) (answered rule J a z .ss) ≡ plainOf J
-  unfolding ranOf circuitOf builtOf answerOf
+  ran-plain : ranOf J (length (a .build .plan)) (cellStages J (answered rule J a z .ss)) ≡ plainOf J
+  unfolding ranOf cellStages circuitOf builtOf answerOf
   ran-plain =
-      let I : Input = record { rule = rule; K = J .height; sized = areasRight J a; gates = J .gates; given = J .given; records = J .records; passes = passed J a (answered rule J a z .passes) .0 } in
-      plan-plain I given-none (length (a .build .plan)) (answered rule J a z .ss) (answered rule J a z .built) (J .driven) (J .lines) (J .recording) (J .starting)
+      let I : Input = record { K = J .height; sized = areasRight J a; gates = J .gates; given = J .given; records = J .records; passes = passed J a (answered rule J a z .passes) .0 } in
+      plan-plain I given-none (J .driven) (J .lines) (J .recording) (J .starting) rule (length (a .build .plan)) (answered rule J a z .ss) (answered rule J a z .built)
 
   lent-built : replay rule J a .lent ≡ builtLent J a (whole (answered rule J a z .ss))
   unfolding replay

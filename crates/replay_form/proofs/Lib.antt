@@ -1,5 +1,6 @@
 pub mod Cutting
 pub mod Same
+pub mod Accepted
 pub mod Reading
 pub mod Lengths
 pub mod Calls
@@ -8,4 +9,3 @@ pub mod Taped
 pub mod Short
 pub mod Bench
 pub mod Pins
-pub mod Used

@@ -24,20 +24,20 @@ put-most m r (new x) = omega (arith, length-append (r .tape) (x ∷ []))
 count-drop : (k : ℕ) (xs : List ℕ) → count filled (drop k xs) ≤ count filled xs
 count-drop k xs = omega (arith, count-append filled (take k xs) (drop k xs), ap (count filled) (take-append-drop k xs))
 
-module _ (m K : ℕ) (g : List Node) (pl : List ℕ) (load : ℕ → ℕ) (tape : List Node) where
+module _ (m K : ℕ) (cl : List ℕ) (load : ℕ → ℕ) (tape : List Node) where
   abbrev made : ℕ → Made
-  made n = scan n m K g pl load tape
+  made n = scan n m K cl load tape
 
   -- an empty cell and one of level 0 have no entry
-  none-empty : (r : Made) (slot : ℕ → ℕ) (p : ℕ) → filled (getD pl p empty) ≡ false → put m r (sourceAt K g pl load slot p) .tape ≡ r .tape
+  none-empty : (r : Made) (slot : ℕ → ℕ) (p : ℕ) → filled (getD cl p empty) ≡ false → put m r (sourceAt K cl load slot p) .tape ≡ r .tape
   unfolding put sourceAt
   none-empty r slot p e = rw (e, sourceAt)
 
-  none-load : (r : Made) (slot : ℕ → ℕ) (p : ℕ) → leb (2 ^ K) p ≡ true → put m r (sourceAt K g pl load slot p) .tape ≡ r .tape
+  none-load : (r : Made) (slot : ℕ → ℕ) (p : ℕ) → leb (2 ^ K) p ≡ true → put m r (sourceAt K cl load slot p) .tape ≡ r .tape
   unfolding put sourceAt
-  none-load r slot p e = split (filled (getD pl p empty)) (λ f. rw (f, e, sourceAt)) (λ f. rw (f, sourceAt))
+  none-load r slot p e = split (filled (getD cl p empty)) (λ f. rw (f, e, sourceAt)) (λ f. rw (f, sourceAt))
 
-  scan-filled : length pl ≡ 2 ^ (K + 1) → (n : ℕ) → n ≤ 2 ^ (K + 1) → length (made n .tape) ≤ length tape + count filled (drop (2 ^ (K + 1) - n) pl)
+  scan-filled : length cl ≡ 2 ^ (K + 1) → (n : ℕ) → n ≤ 2 ^ (K + 1) → length (made n .tape) ≤ length tape + count filled (drop (2 ^ (K + 1) - n) cl)
   unfolding scan count
   scan-filled l zero h = omega arith
   scan-filled l (suc n) h =
@@ -45,10 +45,10 @@ module _ (m K : ℕ) (g : List Node) (pl : List ℕ) (load : ℕ → ℕ) (tape 
       let p = 2 ^ (K + 1) - suc n in
       let R = scan-filled l n (omega arith) in
       let s : suc p ≡ 2 ^ (K + 1) - n = omega arith in
-      let d : drop p pl ≡ getD pl p empty ∷ drop (2 ^ (K + 1) - n) pl = rw s at (drop-cons pl p empty (omega arith)) in
-      split (filled (getD pl p empty))
-      (λ f. let c : count filled (drop p pl) ≡ suc (count filled (drop (2 ^ (K + 1) - n) pl)) = rw (d, count, f) in omega (arith, put-most m r (sourceAt K g pl load (λ q. getD (r .slots) (q - (2 ^ (K + 1) - n)) 0) p)))
-      (λ f. let c : count filled (drop p pl) ≡ count filled (drop (2 ^ (K + 1) - n) pl) = rw (d, count, f) in omega (arith, ap length (none-empty r (λ q. getD (r .slots) (q - (2 ^ (K + 1) - n)) 0) p f)))
+      let d : drop p cl ≡ getD cl p empty ∷ drop (2 ^ (K + 1) - n) cl = rw s at (drop-cons cl p empty (omega arith)) in
+      split (filled (getD cl p empty))
+      (λ f. let c : count filled (drop p cl) ≡ suc (count filled (drop (2 ^ (K + 1) - n) cl)) = rw (d, count, f) in omega (arith, put-most m r (sourceAt K cl load (λ q. getD (r .slots) (q - (2 ^ (K + 1) - n)) 0) p)))
+      (λ f. let c : count filled (drop p cl) ≡ count filled (drop (2 ^ (K + 1) - n) cl) = rw (d, count, f) in omega (arith, ap length (none-empty r (λ q. getD (r .slots) (q - (2 ^ (K + 1) - n)) 0) p f)))
 
   scan-half : (n : ℕ) → n ≤ 2 ^ (K + 1) → length (made n .tape) ≤ length tape + (n - 2 ^ K)
   unfolding scan
@@ -59,35 +59,35 @@ module _ (m K : ℕ) (g : List Node) (pl : List ℕ) (load : ℕ → ℕ) (tape 
       let R = scan-half n (omega arith) in
       split (leb (2 ^ K) p)
       (λ t. omega (arith, ap length (none-load r (λ q. getD (r .slots) (q - (2 ^ (K + 1) - n)) 0) p t)))
-      (λ t. omega (arith, leb-false (2 ^ K) p t, two-step K, put-most m r (sourceAt K g pl load (λ q. getD (r .slots) (q - (2 ^ (K + 1) - n)) 0) p)))
+      (λ t. omega (arith, leb-false (2 ^ K) p t, two-step K, put-most m r (sourceAt K cl load (λ q. getD (r .slots) (q - (2 ^ (K + 1) - n)) 0) p)))
 
-  stage-filled : length pl ≡ 2 ^ (K + 1) → length (stageMade m K g pl load tape .tape) ≤ length tape + count filled pl
+  stage-filled : length cl ≡ 2 ^ (K + 1) → length (stageMade m K cl load tape .tape) ≤ length tape + count filled cl
   unfolding stageMade
-  stage-filled l = omega (arith, scan-filled l (2 ^ (K + 1) - 1) (omega arith), count-drop (2 ^ (K + 1) - (2 ^ (K + 1) - 1)) pl)
+  stage-filled l = omega (arith, scan-filled l (2 ^ (K + 1) - 1) (omega arith), count-drop (2 ^ (K + 1) - (2 ^ (K + 1) - 1)) cl)
 
-  stage-half : length (stageMade m K g pl load tape .tape) ≤ length tape + 2 ^ K
+  stage-half : length (stageMade m K cl load tape .tape) ≤ length tape + 2 ^ K
   unfolding stageMade
   stage-half = omega (arith, scan-half (2 ^ (K + 1) - 1) (omega arith), two-step K)
 
 -- one entry a filled cell
-pub tape-filled : (n m K : ℕ) (g : List Node) (load : ℕ → ℕ) (tape : List Node) (plan : List ℕ) → n * 2 ^ (K + 1) ≤ length plan → length (madeFrom n m K g load tape plan .tape) ≤ length tape + count filled plan
+pub tape-filled : (n m K : ℕ) (load : ℕ → ℕ) (tape : List Node) (plan : List ℕ) → n * 2 ^ (K + 1) ≤ length plan → length (madeFrom n m K load tape plan .tape) ≤ length tape + count filled plan
 unfolding madeFrom
-tape-filled zero m K g load tape plan h = omega arith
-tape-filled (suc n) m K g load tape plan h =
-    let pl = take (2 ^ (K + 1)) plan in
+tape-filled zero m K load tape plan h = omega arith
+tape-filled (suc n) m K load tape plan h =
+    let cl = take (2 ^ (K + 1)) plan in
     let a = suc-mul n (2 ^ (K + 1)) in
-    let s = stageMade m K g pl load tape in
-    let S = stage-filled m K g pl load tape (length-take-le (2 ^ (K + 1)) plan (omega arith)) in
-    let R = tape-filled n m K g (laterSlot K pl (s .slots)) (s .tape) (drop (2 ^ (K + 1)) plan) (omega (arith, length-drop (2 ^ (K + 1)) plan)) in
-    omega (arith, count-append filled pl (drop (2 ^ (K + 1)) plan), ap (count filled) (take-append-drop (2 ^ (K + 1)) plan))
+    let s = stageMade m K cl load tape in
+    let S = stage-filled m K cl load tape (length-take-le (2 ^ (K + 1)) plan (omega arith)) in
+    let R = tape-filled n m K (laterSlot K cl (s .slots)) (s .tape) (drop (2 ^ (K + 1)) plan) (omega (arith, length-drop (2 ^ (K + 1)) plan)) in
+    omega (arith, count-append filled cl (drop (2 ^ (K + 1)) plan), ap (count filled) (take-append-drop (2 ^ (K + 1)) plan))
 
 -- at most 2^K a stage
-pub tape-half : (n m K : ℕ) (g : List Node) (load : ℕ → ℕ) (tape : List Node) (plan : List ℕ) → length (madeFrom n m K g load tape plan .tape) ≤ length tape + n * 2 ^ K
+pub tape-half : (n m K : ℕ) (load : ℕ → ℕ) (tape : List Node) (plan : List ℕ) → length (madeFrom n m K load tape plan .tape) ≤ length tape + n * 2 ^ K
 unfolding madeFrom
-tape-half zero m K g load tape plan = omega arith
-tape-half (suc n) m K g load tape plan =
-    let pl = take (2 ^ (K + 1)) plan in
-    let s = stageMade m K g pl load tape in
-    let S = stage-half m K g pl load tape in
-    let R = tape-half n m K g (laterSlot K pl (s .slots)) (s .tape) (drop (2 ^ (K + 1)) plan) in
+tape-half zero m K load tape plan = omega arith
+tape-half (suc n) m K load tape plan =
+    let cl = take (2 ^ (K + 1)) plan in
+    let s = stageMade m K cl load tape in
+    let S = stage-half m K cl load tape in
+    let R = tape-half n m K (laterSlot K cl (s .slots)) (s .tape) (drop (2 ^ (K + 1)) plan) in
     omega (arith, suc-mul n (2 ^ K))

@@ -10,7 +10,7 @@ use Rattle.rules.specs.Records.{groupsOf}
 use Rattle.rules.specs.Reservation.{memories}
 use Rattle.rules.specs.Checks.{workSize, areasSized, refusalOf}
 use Rattle.rules.specs.Traversal.{WordRule}
-use Rattle.rules.specs.Build.{Stage, Answer, refusal, whole, Reply, refuseChecked, reply, Areas, areasAfter, stagesOf, answerOf}
+use Rattle.rules.specs.Build.{Stage, Answer, refusal, whole, Reply, refuseChecked, reply, Areas, areasAfter, stagesOf, codedStages, answerOf}
 use Rattle.replay_form.specs.Clocks.{Circuit, Ran, leafPin, lineLeaves, bitsOut, flipFlops}
 use Rattle.replay_form.specs.Plans.{planRun}
 
@@ -106,21 +106,25 @@ laterOf J a = laterRefusal (J .gates) (J .given) (J .records) (J .driven) (lengt
 unfoldable pub replayRefusal : Job → Lent → ℕ
 replayRefusal J a = elim (refusalOf (J .height) (areasRight J a) (J .gates) (J .given) (J .records)) [ zero ↦ laterOf J a | suc n ↦ suc n ]
 
--- the plan's run
+-- the run of a plan of cells in a plan area of `size` numbers
 unfoldable pub ranOf : Job → (size : ℕ) → List Stage → Ran
-ranOf J size ss = planRun (J .height) (J .gates) size ss (circuitOf J) (J .lines) (J .recording) (J .starting)
+ranOf J size ss = planRun (J .height) size ss (circuitOf J) (J .lines) (J .recording) (J .starting)
+
+-- the stages of a build as a user is handed them: cells with their inversions
+unfoldable pub cellStages : Job → List Stage → List Stage
+cellStages J ss = codedStages (J .height) (graphOf (J .gates)) ss
 
 -- what a build leaves: of a whole plan also the bits of its run. Tape, slots and bits are 0 as far as they count
 unfoldable pub builtLent : Job → Lent → Answer → Lent
 builtLent J a b =
     let plan = length (a .build .plan) in
     record {
-      build = areasAfter (J .height) (workSize (J .gates) (J .records)) (stagesOf b) (a .build);
+      build = areasAfter (J .height) (workSize (J .gates) (J .records)) (cellStages J (stagesOf b)) (a .build);
       tape = laidOver (replicate plan 0) (a .tape);
       slots = laidOver (replicate (slotsSize (J .records) plan) 0) (a .slots);
       bits = laidOver (replicate (bitsSize (J .gates) plan) 0) (a .bits);
-      out = elim b [ refusal n k ↦ a .out | whole ss ↦ laidOver (ranOf J plan ss .out) (a .out) ];
-      end = elim b [ refusal n k ↦ a .end | whole ss ↦ laidOver (ranOf J plan ss .end) (a .end) ];
+      out = elim b [ refusal n k ↦ a .out | whole ss ↦ laidOver (ranOf J plan (cellStages J ss) .out) (a .out) ];
+      end = elim b [ refusal n k ↦ a .end | whole ss ↦ laidOver (ranOf J plan (cellStages J ss) .end) (a .end) ];
     }
 
 -- the build of a job
