@@ -6,6 +6,7 @@ use mathlib.Core.List.{List, [], _∷_}
 use lib.ListN.{length, getD, take, drop}
 use Rattle.rules.specs.Lists.{Found, nothing, found, sum}
 use Rattle.rules.specs.Fold.{firstAt}
+use Rattle.rules.specs.Coded.{pins}
 use Rattle.replay_form.specs.Plans.{inWords}
 
 -- the smaller of two
@@ -26,16 +27,16 @@ pub record Slotted (slots reads reads′ : List ℕ) (place : ℕ → Found) : T
 
 -- the pins of a word have their slots
 abbrev pub WordRead : (cells slots : List ℕ) → ℕ → (reads reads′ : List ℕ) → Type 0
-WordRead cells slots w reads reads′ = Slotted slots reads reads′ (λ q. firstAt q (32 * w) (take 32 (drop (32 * w) cells)))
+WordRead cells slots w reads reads′ = Slotted slots reads reads′ (λ q. firstAt q (32 * w) (take 32 (drop (32 * w) (pins cells))))
 
 -- the pins of a stage's words
 abbrev pub WordsRead : (cells slots words reads reads′ : List ℕ) → Type 0
-WordsRead cells slots words reads reads′ = Slotted slots reads reads′ (λ q. inWords cells q words)
+WordsRead cells slots words reads reads′ = Slotted slots reads reads′ (λ q. inWords (pins cells) q words)
 
 -- where the first stage that writes a pin does, by the counts of words: `writtenAt` of the stages laid out
 unfoldable pub writtenBy : (size from q : ℕ) → (plan words counts : List ℕ) → Found
 writtenBy size from q plan words [] = nothing
-writtenBy size from q plan words (c ∷ cs) = elim (inWords (take size plan) q (take c words)) [
+writtenBy size from q plan words (c ∷ cs) = elim (inWords (pins (take size plan)) q (take c words)) [
   | nothing ↦ writtenBy size (from + size) q (drop size plan) (drop c words) cs
   | found p ↦ found (from + p)
 ]

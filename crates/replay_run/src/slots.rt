@@ -1,5 +1,6 @@
 // The slot that each pin is read from: that of the first place that writes it. Stages, words and positions are gone through from the last down, so
 // that the first is written last. A pin that no word holds keeps what stands.
+use cell::Cell;
 use graph::wide;
 ghost use mathlib.Core.Path.{_≡_};
 ghost use Prim.Native.Nat.{_≤_};
@@ -22,7 +23,7 @@ fn put_inside(list: &mut [u32], n: usize, v: u32)
     }
 }
 
-// The positions of word w.
+// The positions of word w, by the pins of their cells.
 fn read_word(cells: &[u32], slots: &[u32], w: u32, reads: &mut [u32])
     requires { ⌜ length (now cells) ≤ length (now slots) ⌝ }
     ensures { λ _. ⌜ WordRead (now (cells .entry)) (now (slots .entry)) w (now (reads .entry)) (now (reads .exit)) ⌝ }
@@ -31,7 +32,7 @@ fn read_word(cells: &[u32], slots: &[u32], w: u32, reads: &mut [u32])
     let mut p = least(at + 32, cells.len());
     while at < p {
         p -= 1;
-        put_inside(reads, wide(cells[p]), slots[p]);
+        put_inside(reads, Cell(cells[p]).pin().index(), slots[p]);
     }
 }
 

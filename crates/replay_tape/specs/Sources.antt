@@ -4,7 +4,7 @@ use mathlib.Core.Path.{_≡_}
 use mathlib.Core.List.{List}
 use lib.ListN.{length, getD, set}
 use Rattle.rules.specs.Cells.{firstLower, secondLower}
-use Rattle.rules.specs.Graph.{Node, leaf, gate}
+use Rattle.rules.specs.Graph.{leaf, gate}
 use Rattle.replay_form.specs.Tape as tape
 use Rattle.replay_form.specs.Tape.{old, new, sourceAt}
 use Rattle.replay_tape.specs.declared.sources.Source.{Source}
@@ -31,8 +31,8 @@ pub record AboveAt (cells w : List ℕ) (p : ℕ) : Type 0 where
   pub small : (q : ℕ) → p < q → q < length cells → getD w q 0 < 2147483648
 
 -- height and loads are no values of the program, so this is said of every one that fits
-pub record SourceIs (g : List Node) (cells w : List ℕ) (p : ℕ) (r : tape.Source) : Type 0 where
-  pub all : (K : ℕ) (load : ℕ → ℕ) → p < 2 ^ K → r ≡ sourceAt K g cells load (λ q. getD w q 0) p
+pub record SourceIs (cells w : List ℕ) (p : ℕ) (r : tape.Source) : Type 0 where
+  pub all : (K : ℕ) (load : ℕ → ℕ) → p < 2 ^ K → r ≡ sourceAt K cells load (λ q. getD w q 0) p
 
 -- what a source puts: the slot, the entry and the number of entries
 unfoldable pub putSlot : ℕ → ℕ → tape.Source → ℕ

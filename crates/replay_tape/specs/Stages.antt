@@ -5,6 +5,7 @@ use mathlib.Core.List.{List}
 use lib.ListN.{length, getD, drop}
 use Rattle.rules.specs.Cells.{empty}
 use Rattle.rules.specs.Graph.{Node}
+use Rattle.rules.specs.Coded.{cellPin}
 use Rattle.fold_stage.specs.Bits.{UpAt}
 use Rattle.replay_form.specs.Tape.{Made, scan, stageMade}
 use Rattle.replay_tape.specs.Running.{entriesOf, Below}
@@ -14,14 +15,10 @@ use Rattle.replay_tape.specs.Sources.{loadIn}
 abbrev pub madeOf : List ℕ → List Node → Made
 madeOf s t = record { slots = s; tape = t }
 
--- from position p on, cells that hold no pin of the graph have slot 0
-pub record NoneFrom (p S m : ℕ) (cells w : List ℕ) : Type 0 where
-  pub none : (q : ℕ) → p ≤ q → q < S → m ≤ getD cells q empty → getD w q 0 ≡ 0
-
 -- level 0 is loaded
 pub record RowLoaded (K : ℕ) (cells l w w′ : List ℕ) : Type 0 where
   pub len : length w′ ≡ length w
-  pub row : (q : ℕ) → 2 ^ K ≤ q → q < 2 ^ (K + 1) → getD w′ q 0 ≡ loadIn l (getD cells q empty)
+  pub row : (q : ℕ) → 2 ^ K ≤ q → q < 2 ^ (K + 1) → getD w′ q 0 ≡ loadIn l (cellPin (getD cells q empty))
 
 -- room for the slots and for an entry a cell above level 0; the slots of level 0 are there
 pub record AndAt (K m e : ℕ) (cells w t : List ℕ) : Type 0 where
@@ -33,16 +30,15 @@ pub record AndAt (K m e : ℕ) (cells w t : List ℕ) : Type 0 where
   pub below : Below m e t
 
 -- what the stage loads is no value of the program, so this is said of every load that fits
-pub record Ands (K m : ℕ) (g : List Node) (cells : List ℕ) (e : ℕ) (w t w′ t′ : List ℕ) (e′ : ℕ) : Type 0 where
+pub record Ands (K m : ℕ) (cells : List ℕ) (e : ℕ) (w t w′ t′ : List ℕ) (e′ : ℕ) : Type 0 where
   pub wlen : length w′ ≡ length w
   pub tlen : length t′ ≡ length t
   pub more : e ≤ e′
   pub count : e′ ≤ e + 2 ^ K
-  pub all : (load : ℕ → ℕ) → scan (2 ^ K) m K g cells load (entriesOf e t) ≡ madeOf (drop (2 ^ K) w) (entriesOf e t) →
-      stageMade m K g cells load (entriesOf e t) ≡ madeOf w′ (entriesOf e′ t′)
+  pub all : (load : ℕ → ℕ) → scan (2 ^ K) m K cells load (entriesOf e t) ≡ madeOf (drop (2 ^ K) w) (entriesOf e t) →
+      stageMade m K cells load (entriesOf e t) ≡ madeOf w′ (entriesOf e′ t′)
   pub small : (q : ℕ) → q < 2 ^ (K + 1) → getD w′ q 0 < m + e′
   pub below : Below m e′ t′
-  pub past : length g ≡ m → NoneFrom (2 ^ K) (2 ^ (K + 1)) m cells w → NoneFrom 0 (2 ^ (K + 1)) m cells w′
 
 -- a whole stage, whose loads are slots
 pub record StageIn (K m e : ℕ) (cells l w t : List ℕ) : Type 0 where
@@ -56,12 +52,11 @@ pub record StageIn (K m e : ℕ) (cells l w t : List ℕ) : Type 0 where
   pub below : Below m e t
 
 -- a whole stage is made
-pub record StageOut (K m : ℕ) (g : List Node) (cells l : List ℕ) (e : ℕ) (w t w′ t′ : List ℕ) (e′ : ℕ) : Type 0 where
+pub record StageOut (K m : ℕ) (cells l : List ℕ) (e : ℕ) (w t w′ t′ : List ℕ) (e′ : ℕ) : Type 0 where
   pub wlen : length w′ ≡ length w
   pub tlen : length t′ ≡ length t
   pub more : e ≤ e′
   pub count : e′ ≤ e + 2 ^ K
-  pub made : stageMade m K g cells (loadIn l) (entriesOf e t) ≡ madeOf w′ (entriesOf e′ t′)
+  pub made : stageMade m K cells (loadIn l) (entriesOf e t) ≡ madeOf w′ (entriesOf e′ t′)
   pub small : (q : ℕ) → q < 2 ^ (K + 1) → getD w′ q 0 < m + e′
   pub below : Below m e′ t′
-  pub past : length g ≡ m → NoneFrom 0 (2 ^ (K + 1)) m cells w′

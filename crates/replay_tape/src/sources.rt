@@ -1,16 +1,11 @@
 // One cell of a stage: the slot or the entry that has its bit.
-use graph::EMPTY;
-use graph::Node;
+use cell::Cell;
 use graph::Pin;
-use graph::inversion_of;
-use graph::node_at;
 use positions::first_lower;
 use positions::second_lower;
 ghost use mathlib.Core.Path.{_≡_};
 ghost use Prim.Native.Nat.{_<_};
-ghost use Rattle.rules.specs.Graph.{graphOf};
-ghost use Rattle.graph.specs.Values.{nodeFor};
-ghost use Rattle.replay_form.specs.Tape.{gateSource};
+ghost use Rattle.replay_form.specs.Tape.{andSource};
 ghost use Rattle.replay_tape.specs.Sources.{loadIn, sourceFor, AboveAt, SourceIs, PutAt, Puts};
 
 pub enum Source {
@@ -18,7 +13,7 @@ pub enum Source {
     New(u32, u32),
 }
 
-// The slot that a pin loads. A pin above N loads slot 0.
+// The slot that a pin loads. A pin past the numbers, as the empty mark, loads slot 0.
 pub fn loaded(looks: &[u32], p: Pin) -> u32
     ensures { λ r. ⌜ r ≡ loadIn (now (looks .entry)) (p .0) ⌝ }
 {
@@ -29,43 +24,38 @@ pub fn loaded(looks: &[u32], p: Pin) -> u32
     looks[i]
 }
 
-// An entry over two slots, with a gate's inversions.
-fn gate_source(node: Node, first: u32, second: u32) -> Source
+// An entry over two slots, inverted as a cell says.
+fn and_source(cell: Cell, first: u32, second: u32) -> Source
     requires { ⌜ first < 2147483648 ⌝ }
     requires { ⌜ second < 2147483648 ⌝ }
-    ensures { λ r. ⌜ sourceFor r ≡ gateSource first second (nodeFor node) ⌝ }
+    ensures { λ r. ⌜ sourceFor r ≡ andSource (cell .0) first second ⌝ }
 {
-    match node {
-        Node::Leaf => Source::Old(0),
-        Node::Gate(a, b) => {
-            let i = inversion_of(a);
-            let j = inversion_of(b);
-            Source::New(2 * first + i, 2 * second + j)
-        }
-    }
+    let i = cell.first_inversion();
+    let j = cell.second_inversion();
+    Source::New(2 * first + i, 2 * second + j)
 }
 
 // The cell at position p, above level 0, by the slots of its lower cells.
-pub fn source_above(cells: &[u32], gates: &[u32], slots: &[u32], p: usize) -> Source
+pub fn source_above(cells: &[u32], slots: &[u32], p: usize) -> Source
     requires { ⌜ AboveAt (now cells) (now slots) p ⌝ }
-    ensures { λ r. ⌜ SourceIs (graphOf (now (gates .entry))) (now (cells .entry)) (now (slots .entry)) p (sourceFor r) ⌝ }
+    ensures { λ r. ⌜ SourceIs (now (cells .entry)) (now (slots .entry)) p (sourceFor r) ⌝ }
 {
-    let n = cells[p];
-    if n == EMPTY {
+    let held = Cell(cells[p]);
+    if held.is_empty() {
         return Source::Old(0);
     }
     let a = first_lower(p as u32);
-    if cells[a] == n {
+    if !held.ands() {
         return Source::Old(slots[a]);
     }
     let b = second_lower(p as u32);
-    if cells[a] == EMPTY {
+    if Cell(cells[a]).is_empty() {
         return Source::Old(0);
     }
-    if cells[b] == EMPTY {
+    if Cell(cells[b]).is_empty() {
         return Source::Old(0);
     }
-    gate_source(node_at(gates, Pin(n)), slots[a], slots[b])
+    and_source(held, slots[a], slots[b])
 }
 
 // The slot of position p, and its entry if it has one. Returns how many entries there are.

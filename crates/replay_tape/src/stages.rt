@@ -1,10 +1,9 @@
-// The tape of one stage: `looks` has the slot that each pin loads.
+// The tape of one stage, from its cells: `looks` has the slot that each pin loads.
 use crate::sources::loaded;
 use crate::sources::put;
 use crate::sources::source_above;
+use cell::Cell;
 use cells::Height;
-use graph::Pin;
-ghost use Rattle.rules.specs.Graph.{graphOf};
 ghost use Rattle.fold_stage.specs.Bits.{UpAt};
 ghost use Rattle.replay_tape.specs.Stages.{RowLoaded, AndAt, Ands, StageIn, StageOut};
 
@@ -15,7 +14,7 @@ fn load_cells(height: Height, cells: &[u32], looks: &[u32], slots: &mut [u32])
 {
     let mut q = height.width();
     while q < cells.len() {
-        slots[q] = loaded(looks, Pin(cells[q]));
+        slots[q] = loaded(looks, Cell(cells[q]).pin());
         q += 1;
     }
 }
@@ -24,20 +23,19 @@ fn load_cells(height: Height, cells: &[u32], looks: &[u32], slots: &mut [u32])
 fn and_cells(
     height: Height,
     cells: &[u32],
-    gates: &[u32],
     slots: &mut [u32],
     tape: &mut [u32],
     pins: usize,
     entries: usize,
 ) -> usize
     requires { ⌜ AndAt (height .0) pins entries (now cells) (now slots) (now tape) ⌝ }
-    ensures { λ r. ⌜ Ands (height .0) pins (graphOf (now (gates .entry))) (now (cells .entry)) entries (now (slots .entry)) (now (tape .entry)) (now (slots .exit)) (now (tape .exit)) r ⌝ }
+    ensures { λ r. ⌜ Ands (height .0) pins (now (cells .entry)) entries (now (slots .entry)) (now (tape .entry)) (now (slots .exit)) (now (tape .exit)) r ⌝ }
 {
     let mut count = entries;
     let mut p = height.width();
     while 1 < p {
         p -= 1;
-        let source = source_above(cells, gates, slots, p);
+        let source = source_above(cells, slots, p);
         count = put(slots, tape, p, pins, count, source);
     }
     slots[0] = 0;
@@ -48,7 +46,6 @@ fn and_cells(
 pub fn make_stage(
     height: Height,
     cells: &[u32],
-    gates: &[u32],
     looks: &[u32],
     slots: &mut [u32],
     tape: &mut [u32],
@@ -56,8 +53,8 @@ pub fn make_stage(
     entries: usize,
 ) -> usize
     requires { ⌜ StageIn (height .0) pins entries (now cells) (now looks) (now slots) (now tape) ⌝ }
-    ensures { λ r. ⌜ StageOut (height .0) pins (graphOf (now (gates .entry))) (now (cells .entry)) (now (looks .entry)) entries (now (slots .entry)) (now (tape .entry)) (now (slots .exit)) (now (tape .exit)) r ⌝ }
+    ensures { λ r. ⌜ StageOut (height .0) pins (now (cells .entry)) (now (looks .entry)) entries (now (slots .entry)) (now (tape .entry)) (now (slots .exit)) (now (tape .exit)) r ⌝ }
 {
     load_cells(height, cells, looks, slots);
-    and_cells(height, cells, gates, slots, tape, pins, entries)
+    and_cells(height, cells, slots, tape, pins, entries)
 }

@@ -7,14 +7,15 @@ use mathlib.Core.List.{List, [], _∷_, _++_, append-assoc}
 use native.Mathlib.Omega.{arith}
 use native.Mathlib.Nat.{mul-suc}
 use lib.Dec.{eqb}
-use lib.ListN.{length, getD, set, take, drop, length-append, length-drop, length-set, take-append-drop}
+use lib.ListN.{length, getD, set, take, drop, length-append, length-drop, length-set, length-map, take-append-drop}
 use lib.Seq.{take-all, length-take-le, getD-set-same, getD-set-other, getD-drop, drop-cons, drop-length, drop-drop, take-suc, take-nil, take-at, drop-at, take-length, drop-append-add}
 use Rattle.rules.specs.Lists.{Found, nothing, found, sum}
 use Rattle.rules.specs.Fold.{firstAt}
+use Rattle.rules.specs.Coded.{cellPin, pins}
 use Rattle.rules.specs.Build.{Stage, cellsOf, wordsOf, countsOf}
 use Rattle.rules.proofs.Lists.Members.{split, eqb-true, eqb-false}
-use Rattle.rules.proofs.Build.Lengths.{Sized}
 use Rattle.replay_form.specs.Plans.{inWords, writtenAt}
+use Rattle.replay_form.specs.Accepted.{Sized}
 use Rattle.replay_tape.specs.Clocks.{readSlot}
 use Rattle.replay_run.specs.Slots.{Least, slotOr, Slotted, WordRead, WordsRead, writtenBy, PlanAt, PlanRead}
 
@@ -27,6 +28,10 @@ drop-past (x ∷ l) (suc n) h = drop-past l n (omega arith)
 drop-whole : (l : List ℕ) (n : ℕ) → take (length l - n) (drop n l) ≡ drop n l
 drop-whole l n = take-all (length l - n) (drop n l) (omega (arith, length-drop n l))
 
+pins-many : (cells : List ℕ) → length (pins cells) ≡ length cells
+unfolding pins
+pins-many cells = length-map cells cellPin
+
 -- ---- a word
 
 -- the positions of a word from p on are read
@@ -34,7 +39,7 @@ pub record WordTo (cells slots : List ℕ) (at p : ℕ) (reads now : List ℕ) :
   pub high : p ≤ at + 32
   pub inside : p ≤ length cells
   pub low : (at ≤ p) ⊎ (length cells ≤ p)
-  pub slotted : Slotted slots reads now (λ q. firstAt q p (take (at + 32 - p) (drop p cells)))
+  pub slotted : Slotted slots reads now (λ q. firstAt q p (take (at + 32 - p) (drop p (pins cells))))
 
 module _ (cells slots reads : List ℕ) (at : ℕ) where
   -- none at the beginning
@@ -47,21 +52,21 @@ module _ (cells slots reads : List ℕ) (at : ℕ) where
     slotted = record { len = refl; each = λ q h. rw none };
   }
     where
-      none : take (at + 32 - p) (drop p cells) ≡ []
+      none : take (at + 32 - p) (drop p (pins cells)) ≡ []
       none = ⊎-elim
           (λ h. let z : at + 32 - p ≡ 0 = omega arith in rw z)
-          (λ h. rw (drop-past cells p h, take-nil (at + 32 - p)))
+          (λ h. rw (drop-past (pins cells) p (omega (arith, pins-many cells)), take-nil (at + 32 - p)))
           (L .one)
 
-  module _ (p : ℕ) (now : List ℕ) (R : WordTo cells slots at p reads now) (h : at < p) (n v : ℕ) (en : n ≡ getD cells (p - 1) 0) (ev : v ≡ getD slots (p - 1) 0) where
-    front : take (at + 32 - (p - 1)) (drop (p - 1) cells) ≡ n ∷ take (at + 32 - p) (drop p cells)
+  module _ (p : ℕ) (now : List ℕ) (R : WordTo cells slots at p reads now) (h : at < p) (n v : ℕ) (en : n ≡ getD (pins cells) (p - 1) 0) (ev : v ≡ getD slots (p - 1) 0) where
+    front : take (at + 32 - (p - 1)) (drop (p - 1) (pins cells)) ≡ n ∷ take (at + 32 - p) (drop p (pins cells))
     front =
         let s : suc (p - 1) ≡ p = omega arith in
         let m : at + 32 - (p - 1) ≡ suc (at + 32 - p) = omega (arith, R .high) in
-        let d : drop (p - 1) cells ≡ n ∷ drop p cells = drop-cons cells (p - 1) 0 (omega (arith, R .inside)) ∙ rw (s, en) in
+        let d : drop (p - 1) (pins cells) ≡ n ∷ drop p (pins cells) = drop-cons (pins cells) (p - 1) 0 (omega (arith, R .inside, pins-many cells)) ∙ rw (s, en) in
         rw (d, m)
 
-    first-step : (q : ℕ) → q < length reads → getD (set now n v) q 0 ≡ slotOr slots (getD reads q 0) (firstAt q (p - 1) (n ∷ take (at + 32 - p) (drop p cells)))
+    first-step : (q : ℕ) → q < length reads → getD (set now n v) q 0 ≡ slotOr slots (getD reads q 0) (firstAt q (p - 1) (n ∷ take (at + 32 - p) (drop p (pins cells))))
     unfolding firstAt slotOr
     first-step q b =
         let s : suc (p - 1) ≡ p = omega arith in
@@ -85,14 +90,14 @@ module _ (cells slots reads : List ℕ) (at : ℕ) where
     len = R .slotted .len;
     each = λ q b. R .slotted .each q b ∙ ap (slotOr slots (getD reads q 0)) (⊎-elim
         (λ l. let e : p ≡ at = omega arith in let m : at + 32 - at ≡ 32 = omega arith in rw (e, m, ew))
-        (λ l. rw (drop-past cells p l, drop-past cells (32 * w) (omega arith), take-nil (at + 32 - p)))
+        (λ l. rw (drop-past (pins cells) p (omega (arith, pins-many cells)), drop-past (pins cells) (32 * w) (omega (arith, pins-many cells)), take-nil (at + 32 - p)))
         (R .low));
   }
 
 -- ---- the words of a stage
 
-word-then : (slots cells : List ℕ) (q old w : ℕ) (ws : List ℕ) (x : Found) → firstAt q (32 * w) (take 32 (drop (32 * w) cells)) ≡ x →
-    slotOr slots (slotOr slots old (inWords cells q ws)) x ≡ slotOr slots old (inWords cells q (w ∷ ws))
+word-then : (slots cells : List ℕ) (q old w : ℕ) (ws : List ℕ) (x : Found) → firstAt q (32 * w) (take 32 (drop (32 * w) (pins cells))) ≡ x →
+    slotOr slots (slotOr slots old (inWords (pins cells) q ws)) x ≡ slotOr slots old (inWords (pins cells) q (w ∷ ws))
 unfolding slotOr inWords
 word-then slots cells q old w ws nothing e = rw (e, inWords)
 word-then slots cells q old w ws (found p) e = rw (e, inWords)
@@ -100,7 +105,7 @@ word-then slots cells q old w ws (found p) e = rw (e, inWords)
 -- the words from the i-th on are read
 pub record WordsTo (cells slots words reads : List ℕ) (i : ℕ) (now : List ℕ) : Type 0 where
   pub upto : i ≤ length words
-  pub slotted : Slotted slots reads now (λ q. inWords cells q (drop i words))
+  pub slotted : Slotted slots reads now (λ q. inWords (pins cells) q (drop i words))
 
 module _ (cells slots words reads : List ℕ) where
   -- none at the beginning
@@ -137,7 +142,7 @@ sum-one : (x : ℕ) → sum (x ∷ []) ≡ x
 unfolding sum
 sum-one x = omega arith
 
-stage-then : (slots plan words counts : List ℕ) (size at q old c : ℕ) (x : Found) → inWords (take size plan) q (take c words) ≡ x →
+stage-then : (slots plan words counts : List ℕ) (size at q old c : ℕ) (x : Found) → inWords (pins (take size plan)) q (take c words) ≡ x →
     slotOr (drop at slots) (slotOr slots old (writtenBy size (at + size) q (drop size plan) (drop c words) counts)) x ≡ slotOr slots old (writtenBy size at q plan words (c ∷ counts))
 unfolding slotOr writtenBy
 stage-then slots plan words counts size at q old c nothing e = rw (e, writtenBy)
@@ -231,32 +236,32 @@ module _ (size : ℕ) (plan slots words counts reads : List ℕ) (total : ℕ) (
 -- ---- what that is of the definitions
 
 module _ (size from q : ℕ) where
-  by-nothing : (P W : List ℕ) (c : ℕ) (cs : List ℕ) → inWords (take size P) q (take c W) ≡ nothing → writtenBy size from q P W (c ∷ cs) ≡ writtenBy size (from + size) q (drop size P) (drop c W) cs
+  by-nothing : (P W : List ℕ) (c : ℕ) (cs : List ℕ) → inWords (pins (take size P)) q (take c W) ≡ nothing → writtenBy size from q P W (c ∷ cs) ≡ writtenBy size (from + size) q (drop size P) (drop c W) cs
   unfolding writtenBy
   by-nothing P W c cs e = rw (e, writtenBy)
 
-  by-found : (P W : List ℕ) (c : ℕ) (cs : List ℕ) (p : ℕ) → inWords (take size P) q (take c W) ≡ found p → writtenBy size from q P W (c ∷ cs) ≡ found (from + p)
+  by-found : (P W : List ℕ) (c : ℕ) (cs : List ℕ) (p : ℕ) → inWords (pins (take size P)) q (take c W) ≡ found p → writtenBy size from q P W (c ∷ cs) ≡ found (from + p)
   unfolding writtenBy
   by-found P W c cs p e = rw (e, writtenBy)
 
-  at-nothing : (s : Stage) (ss : List Stage) → inWords (s .plan) q (s .words) ≡ nothing → writtenAt size from q (s ∷ ss) ≡ writtenAt size (from + size) q ss
+  at-nothing : (s : Stage) (ss : List Stage) → inWords (pins (s .plan)) q (s .words) ≡ nothing → writtenAt size from q (s ∷ ss) ≡ writtenAt size (from + size) q ss
   unfolding writtenAt
   at-nothing s ss e = rw (e, writtenAt)
 
-  at-found : (s : Stage) (ss : List Stage) (p : ℕ) → inWords (s .plan) q (s .words) ≡ found p → writtenAt size from q (s ∷ ss) ≡ found (from + p)
+  at-found : (s : Stage) (ss : List Stage) (p : ℕ) → inWords (pins (s .plan)) q (s .words) ≡ found p → writtenAt size from q (s ∷ ss) ≡ found (from + p)
   unfolding writtenAt
   at-found s ss p e = rw (e, writtenAt)
 
   stage-written : (s : Stage) (ss : List Stage) (P W : List ℕ) → take size (s .plan ++ P) ≡ s .plan → drop size (s .plan ++ P) ≡ P →
-      writtenBy size (from + size) q P W (countsOf ss) ≡ writtenAt size (from + size) q ss → (x : Found) → inWords (s .plan) q (s .words) ≡ x →
+      writtenBy size (from + size) q P W (countsOf ss) ≡ writtenAt size (from + size) q ss → (x : Found) → inWords (pins (s .plan)) q (s .words) ≡ x →
       writtenBy size from q (s .plan ++ P) (s .words ++ W) (length (s .words) ∷ countsOf ss) ≡ writtenAt size from q (s ∷ ss)
   stage-written s ss P W t d i nothing e =
       let n = length (s .words) in
-      let f : inWords (take size (s .plan ++ P)) q (take n (s .words ++ W)) ≡ nothing = ap₂ (λ (a b : List ℕ). inWords a q b) t (take-at (s .words) W n refl) ∙ e in
+      let f : inWords (pins (take size (s .plan ++ P))) q (take n (s .words ++ W)) ≡ nothing = ap₂ (λ (a b : List ℕ). inWords (pins a) q b) t (take-at (s .words) W n refl) ∙ e in
       by-nothing (s .plan ++ P) (s .words ++ W) n (countsOf ss) f ∙ ap₂ (λ (a b : List ℕ). writtenBy size (from + size) q a b (countsOf ss)) d (drop-at (s .words) W n refl) ∙ i ∙ sym (at-nothing s ss e)
   stage-written s ss P W t d i (found p) e =
       let n = length (s .words) in
-      let f : inWords (take size (s .plan ++ P)) q (take n (s .words ++ W)) ≡ found p = ap₂ (λ (a b : List ℕ). inWords a q b) t (take-at (s .words) W n refl) ∙ e in
+      let f : inWords (pins (take size (s .plan ++ P))) q (take n (s .words ++ W)) ≡ found p = ap₂ (λ (a b : List ℕ). inWords (pins a) q b) t (take-at (s .words) W n refl) ∙ e in
       by-found (s .plan ++ P) (s .words ++ W) n (countsOf ss) p f ∙ sym (at-found s ss p e)
 
 -- Where the words laid out write a pin is where the stages do.

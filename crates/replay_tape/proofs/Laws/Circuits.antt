@@ -10,7 +10,7 @@ use lib.Seq.{getD-set-same, getD-set-other, getD-take, length-take-le, ext-getD}
 use Rattle.rules.specs.Lists.{Found, nothing, found, mem, upTo, laidOver, padded}
 use Rattle.rules.specs.Cells.{empty, stageSize}
 use Rattle.rules.specs.Build.{Stage, cellsOf}
-use Rattle.rules.specs.Graph.{Node, pinCount}
+use Rattle.rules.specs.Graph.{Node}
 use Rattle.rules.specs.Records.{Group}
 use Rattle.rules.specs.Fold.{asNumber}
 use borrow.Author.Tests.{ltb-true, ltb-false}
@@ -21,7 +21,6 @@ use Rattle.replay_form.specs.Plans.{writtenAt}
 use Rattle.replay_form.specs.Tape.{slotBit, entryBit, runTape, slotIn, Made, made, tapeBits}
 use Rattle.replay_form.proofs.Pins.{map-upTo}
 use Rattle.replay_form.proofs.Tape.{length-run}
-use Rattle.graph.proofs.Gates.{graph-length}
 use Rattle.replay_tape.specs.Running.{entriesOf}
 use Rattle.replay_tape.specs.Stages.{madeOf}
 use Rattle.replay_tape.specs.Plans.{PlanMade}
@@ -125,9 +124,9 @@ unfolding runTape
 run-keeps [] bits s h = refl
 run-keeps (x ∷ xs) bits s h = run-keeps xs (bits ++ _) s (omega (arith, length-append bits (asNumber (entryBit bits x) ∷ []))) ∙ List·getD-append bits _ 0 s h
 
-module _ (K : ℕ) (plan gates w l t w′ l′ t′ : List ℕ) (e : ℕ) (P : PlanMade K plan gates w l t w′ l′ t′ e) where
+module _ (K m : ℕ) (plan w l t w′ l′ t′ : List ℕ) (e : ℕ) (P : PlanMade K m plan w l t w′ l′ t′ e) where
   -- every slot that is read is there
-  pub read-inside : 1 ≤ pinCount gates → (f : Found) → readSlot (take (length plan) w′) f < pinCount gates + e
+  pub read-inside : 1 ≤ m → (f : Found) → readSlot (take (length plan) w′) f < m + e
   unfolding readSlot
   read-inside one nothing = omega arith
   read-inside one (found p) = split (ltb p (length plan))
@@ -135,13 +134,13 @@ module _ (K : ℕ) (plan gates w l t w′ l′ t′ : List ℕ) (e : ℕ) (P : P
       (λ k. rw (List·getD-eq-default (take (length plan) w′) 0 {n = p} (omega (arith, length-take (length plan) w′, ltb-false p (length plan) k))) (omega arith))
 
   module _ (ss : List Stage) (ep : plan ≡ padded (length plan) empty (cellsOf ss)) where
-    made-is : made K gates (length plan) ss ≡ madeOf (take (length plan) w′) (entriesOf e t′)
+    made-is : made K m (length plan) ss ≡ madeOf (take (length plan) w′) (entriesOf e t′)
     unfolding made
-    made-is = rw (graph-length gates, ← ep) (P .made)
+    made-is = rw (← ep) (P .made)
 
     -- The tape that the code made gives the pins the bits of the definitions' tape.
     pub tape-read : (bits : List ℕ) → 1 ≤ length bits → getD bits 0 0 ≡ 0 → (q : ℕ) →
-        slotBit (runTape (entriesOf e t′) bits) (readSlot (take (length plan) w′) (writtenAt (stageSize K) 0 q ss)) ≡ tapeBits K gates (length plan) ss bits q
+        slotBit (runTape (entriesOf e t′) bits) (readSlot (take (length plan) w′) (writtenAt (stageSize K) 0 q ss)) ≡ tapeBits K m (length plan) ss bits q
     unfolding tapeBits readSlot slotIn slotBit isOne
     tape-read bits one z q = read-slot (writtenAt (stageSize K) 0 q ss) ∙ ap (λ (c : Made). slotIn (runTape (c .tape) bits) (c .slots) (writtenAt (stageSize K) 0 q ss)) (sym made-is)
       where

@@ -1,6 +1,7 @@
--- `replay_run::slots::read_word` meets its contract: positions from p on are read. Assumes nothing.
-use mathlib.Core.Path.{refl}
+-- `replay_run::slots::read_word` meets its contract. Assumes nothing.
 use native.Mathlib.Omega.{arith}
+use mathlib.Core.Path.{refl}
+use Rattle.fold_stage.proofs.Laws.Loads.{pin-read}
 use Rattle.replay_run.proofs.Laws.Slots.{WordTo, word-none, word-more, word-done}
 use borrow.Author.Needs.{needs}
 use Rattle.replay_run.proofs.slots.read_word.Statement.{statement}
@@ -30,20 +31,23 @@ loop-holds c = word-none _ _ _ _ _ (c .least .ensures)
 sub-p : tie.Need-sub-p Inv-loop μ-loop
 sub-p c = search needs
 
-mul-wide : tie.Need-mul-wide Inv-loop μ-loop
-mul-wide c = omega (arith, c .before .before .loop .inv .inside)
+mul-t15 : tie.Need-mul-t15 Inv-loop μ-loop
+mul-t15 c = omega (arith, c .before .before .loop .inv .inside)
 
-shared-slice-read-wide : tie.Need-shared-slice-read-wide Inv-loop μ-loop
-shared-slice-read-wide c = omega (arith, c .before .before .before .loop .inv .inside)
+shared-slice-read-t17 : tie.Need-shared-slice-read-t17 Inv-loop μ-loop
+shared-slice-read-t17 c = omega (arith, c .before .before .before .loop .inv .inside)
 
-wide-requires-2 : tie.Need-wide-requires-2 Inv-loop μ-loop
-wide-requires-2 c κs = search needs
+pin-requires : tie.Need-pin-requires Inv-loop μ-loop
+pin-requires c κs = search needs
+
+index-requires : tie.Need-index-requires Inv-loop μ-loop
+index-requires c κs = search needs
 
 mul-put-inside : tie.Need-mul-put-inside Inv-loop μ-loop
-mul-put-inside c = omega (arith, c .before .before .before .before .loop .inv .inside, c .before .before .before .before .before .before .before .before .before .before .pre)
+mul-put-inside c = omega (arith, c .before .before .before .before .before .loop .inv .inside, c .before .before .before .before .before .before .before .before .before .before .before .pre)
 
 shared-slice-read-put-inside : tie.Need-shared-slice-read-put-inside Inv-loop μ-loop
-shared-slice-read-put-inside c = omega (arith, c .before .before .before .before .before .loop .inv .inside, c .before .before .before .before .before .before .before .before .before .before .before .pre)
+shared-slice-read-put-inside c = omega (arith, c .before .before .before .before .before .before .loop .inv .inside, c .before .before .before .before .before .before .before .before .before .before .before .before .pre)
 
 put-inside-requires : tie.Need-put-inside-requires Inv-loop μ-loop
 put-inside-requires c κs = search needs
@@ -52,7 +56,7 @@ loop-less : tie.Need-loop-less Inv-loop μ-loop
 loop-less c = omega arith
 
 loop-again : tie.Need-loop-again Inv-loop μ-loop
-loop-again c = rw (c .before .before .put-inside .ensures) (word-more _ _ _ _ _ _ (c .before .before .before .before .before .before .before .before .loop .inv) (c .before .before .before .before .before .before .before .loop-test .taken) _ _ (c .before .before .before .before .wide2 .ensures) refl)
+loop-again c = rw (c .before .before .put-inside .ensures) (word-more _ _ _ _ _ _ (c .before .before .before .before .before .before .before .before .before .loop .inv) (c .before .before .before .before .before .before .before .before .loop-test .taken) _ _ (pin-read _ _ _ _ (omega (arith, c .before .before .before .before .before .before .before .before .before .loop .inv .inside, c .before .before .before .before .before .before .before .before .loop-test .taken)) (c .before .before .before .before .index .ensures) (c .before .before .before .before .before .pin .ensures)) refl)
 
 same-length : tie.Need-same-length Inv-loop μ-loop
 same-length c = omega (arith, c .before .loop .inv .slotted .len)
@@ -72,9 +76,10 @@ read-word-spec =
     least-requires
     loop-holds
     sub-p
-    mul-wide
-    shared-slice-read-wide
-    wide-requires-2
+    mul-t15
+    shared-slice-read-t17
+    pin-requires
+    index-requires
     mul-put-inside
     shared-slice-read-put-inside
     put-inside-requires

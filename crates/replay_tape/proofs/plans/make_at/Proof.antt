@@ -11,10 +11,10 @@ stage-size-requires : tie.Need-stage-size-requires
 stage-size-requires c κs = search needs
 
 sub-last : tie.Need-sub-last
-sub-last c = omega (arith, c .before .before .before .before .before .before .pre .before, size-there _ _ (c .before .before .before .before .before .before .pre .plans .passed .height) (c .stage-size .ensures))
+sub-last c = omega (arith, c .before .before .before .before .before .pre .before, size-there _ _ (c .before .before .before .before .before .pre .plans .passed .height) (c .stage-size .ensures))
 
 add-end : tie.Need-add-end
-add-end c = omega (arith, c .before .before .before .before .before .before .pre .here, size-there _ _ (c .before .before .before .before .before .before .pre .plans .passed .height) (c .stage-size .ensures))
+add-end c = omega (arith, c .before .before .before .before .before .pre .here, size-there _ _ (c .before .before .before .before .before .pre .plans .passed .height) (c .stage-size .ensures))
 
 mul-make-next : tie.Need-mul-make-next
 mul-make-next c = search needs
@@ -38,7 +38,7 @@ part-make-next-start-2 : tie.Need-part-make-next-start-2
 part-make-next-start-2 c = search needs
 
 part-make-next-end-2 : tie.Need-part-make-next-end-2
-part-make-next-end-2 c = omega (arith, c .before .before .before .before .before .before .before .pre .here, size-there _ _ (c .before .before .before .before .before .before .before .pre .plans .passed .height) (c .before .stage-size .ensures))
+part-make-next-end-2 c = omega (arith, c .before .before .before .before .before .before .pre .here, size-there _ _ (c .before .before .before .before .before .before .pre .plans .passed .height) (c .before .stage-size .ensures))
 
 mul-make-next-3 : tie.Need-mul-make-next-3
 mul-make-next-3 c = search needs
@@ -50,10 +50,10 @@ part-make-next-start-3 : tie.Need-part-make-next-start-3
 part-make-next-start-3 c = search needs
 
 part-make-next-end-3 : tie.Need-part-make-next-end-3
-part-make-next-end-3 c = omega (arith, c .before .before .before .before .before .before .before .before .pre .here, c .before .before .before .before .before .before .before .before .pre .plans .passed .room, size-there _ _ (c .before .before .before .before .before .before .before .before .pre .plans .passed .height) (c .before .before .stage-size .ensures))
+part-make-next-end-3 c = omega (arith, c .before .before .before .before .before .before .before .pre .here, c .before .before .before .before .before .before .before .pre .plans .passed .room, size-there _ _ (c .before .before .before .before .before .before .before .pre .plans .passed .height) (c .before .before .stage-size .ensures))
 
 make-next-requires : tie.Need-make-next-requires
-make-next-requires c κs = step-in _ _ _ _ _ _ _ _ (c .before .before .before .before .before .before .before .before .before .before .before .pre) _ _ _ (size-there _ _ (c .before .before .before .before .before .before .before .before .before .before .before .pre .plans .passed .height) (c .before .before .before .before .before .stage-size .ensures)) refl refl
+make-next-requires c κs = step-in _ _ _ _ _ _ _ _ (c .before .before .before .before .before .before .before .before .before .before .pre) _ _ _ (size-there _ _ (c .before .before .before .before .before .before .before .before .before .before .pre .plans .passed .height) (c .before .before .before .before .before .stage-size .ensures)) refl refl
 
 same-length : tie.Need-same-length
 same-length c = search needs
@@ -65,7 +65,7 @@ same-length-3 : tie.Need-same-length-3
 same-length-3 c = search needs
 
 returns : tie.Need-returns
-returns c = step-out _ _ _ _ _ _ _ _ (c .before .before .before .before .before .before .before .before .before .before .before .before .before .before .before .before .before .before .pre) _ _ _ (size-there _ _ (c .before .before .before .before .before .before .before .before .before .before .before .before .before .before .before .before .before .before .pre .plans .passed .height) (c .before .before .before .before .before .before .before .before .before .before .before .before .stage-size .ensures)) refl refl _ _ _ _ (c .before .before .before .before .before .before .make-next .ensures)
+returns c = step-out _ _ _ _ _ _ _ _ (c .before .before .before .before .before .before .before .before .before .before .before .before .before .before .before .before .before .pre) _ _ _ (size-there _ _ (c .before .before .before .before .before .before .before .before .before .before .before .before .before .before .before .before .before .pre .plans .passed .height) (c .before .before .before .before .before .before .before .before .before .before .before .before .stage-size .ensures)) refl refl _ _ _ _ (c .before .before .before .before .before .before .make-next .ensures)
 
 pub make-at-spec : {M : Type 1} → statement M
 make-at-spec =

@@ -1,20 +1,25 @@
 -- `replay_tape::sources::source_above` meets its contract. Assumes nothing.
 use native.Mathlib.Omega.{arith}
+use Rattle.rules.proofs.Bools.{no, yes}
+use Rattle.fold_stage.proofs.Laws.Cells.{none, some}
 use Rattle.replay_tape.specs.Sources.{sourceFor}
-use Rattle.replay_tape.proofs.Laws.Sources.{source-empty, source-copies, source-first-lacks, source-second-lacks, source-gate}
+use Rattle.replay_tape.proofs.Laws.Sources.{source-empty, source-copies, source-first-lacks, source-second-lacks, source-and}
 use borrow.Author.Needs.{needs}
 use Rattle.replay_tape.proofs.sources.source_above.Statement.{statement}
 use Rattle.replay_tape.proofs.sources.source_above.Tie as tie
 
-mul-n : tie.Need-mul-n
-mul-n c = search needs
+mul-first-lower : tie.Need-mul-first-lower
+mul-first-lower c = search needs
 
-shared-slice-read-n : tie.Need-shared-slice-read-n
-shared-slice-read-n c = search needs
+shared-slice-read-first-lower : tie.Need-shared-slice-read-first-lower
+shared-slice-read-first-lower c = search needs
+
+is-empty-requires : tie.Need-is-empty-requires
+is-empty-requires c κs = search needs
 
 returns : tie.Need-returns
 unfolding sourceFor
-returns c = source-empty _ _ _ _ (c .before .before .before .before .before .pre) (c .if1 .taken)
+returns c = source-empty _ _ _ (c .before .before .before .before .before .pre) (none (c .before .is-empty .ensures) (c .if1 .taken))
 
 cast-first-lower : tie.Need-cast-first-lower
 cast-first-lower c = search needs
@@ -22,11 +27,8 @@ cast-first-lower c = search needs
 first-lower-requires : tie.Need-first-lower-requires
 first-lower-requires c κs = search needs
 
-mul-if2 : tie.Need-mul-if2
-mul-if2 c = search needs
-
-shared-slice-read-if2 : tie.Need-shared-slice-read-if2
-shared-slice-read-if2 c = search needs
+ands-requires : tie.Need-ands-requires
+ands-requires c κs = search needs
 
 mul-t13 : tie.Need-mul-t13
 mul-t13 c = search needs
@@ -36,7 +38,7 @@ shared-slice-read-t15 c = search needs
 
 returns-2 : tie.Need-returns-2
 unfolding sourceFor
-returns-2 c = source-copies _ _ _ _ (c .before .before .before .before .before .before .before .before .before .pre) (c .before .before .before .before .if1 .left) _ (c .before .before .before .first-lower .ensures) (c .before .if2 .taken)
+returns-2 c = source-copies _ _ _ (c .before .before .before .before .before .before .before .before .before .pre) (some (c .before .before .before .before .before .is-empty .ensures) (c .before .before .before .before .if1 .left)) _ (c .before .before .before .first-lower .ensures) (no (c .before .before .ands .ensures) (c .before .if2 .taken))
 
 cast-second-lower : tie.Need-cast-second-lower
 cast-second-lower c = search needs
@@ -44,74 +46,78 @@ cast-second-lower c = search needs
 second-lower-requires : tie.Need-second-lower-requires
 second-lower-requires c κs = search needs
 
-mul-if3 : tie.Need-mul-if3
-mul-if3 c = search needs
+mul-and-source : tie.Need-mul-and-source
+mul-and-source c = search needs
 
-shared-slice-read-if3 : tie.Need-shared-slice-read-if3
-shared-slice-read-if3 c = search needs
+shared-slice-read-and-source : tie.Need-shared-slice-read-and-source
+shared-slice-read-and-source c = search needs
+
+is-empty-requires-2 : tie.Need-is-empty-requires-2
+is-empty-requires-2 c κs = search needs
 
 returns-3 : tie.Need-returns-3
 unfolding sourceFor
-returns-3 c = source-first-lacks _ _ _ _ (c .before .before .before .before .before .before .before .before .before .before .before .pre) (c .before .before .before .before .before .before .if1 .left) _ (c .before .before .before .before .before .first-lower .ensures) (c .before .before .before .if2 .left) (c .if3 .taken)
+returns-3 c = source-first-lacks _ _ _ (c .before .before .before .before .before .before .before .before .before .before .before .before .pre) (some (c .before .before .before .before .before .before .before .before .is-empty .ensures) (c .before .before .before .before .before .before .before .if1 .left)) _ (c .before .before .before .before .before .before .first-lower .ensures) (yes (c .before .before .before .before .before .ands .ensures) (c .before .before .before .before .if2 .left)) (none (c .before .is-empty2 .ensures) (c .if3 .taken))
 
-mul-if4 : tie.Need-mul-if4
-mul-if4 c = search needs
+mul-and-source-2 : tie.Need-mul-and-source-2
+mul-and-source-2 c = search needs
 
-shared-slice-read-if4 : tie.Need-shared-slice-read-if4
-shared-slice-read-if4 c = search needs
+shared-slice-read-and-source-2 : tie.Need-shared-slice-read-and-source-2
+shared-slice-read-and-source-2 c = search needs
+
+is-empty-requires-3 : tie.Need-is-empty-requires-3
+is-empty-requires-3 c κs = search needs
 
 returns-4 : tie.Need-returns-4
 unfolding sourceFor
-returns-4 c = source-second-lacks _ _ _ _ (c .before .before .before .before .before .before .before .before .before .before .before .before .before .pre) (c .before .before .before .before .before .before .before .before .if1 .left) _ (c .before .before .before .before .before .before .before .first-lower .ensures) (c .before .before .before .before .before .if2 .left) (c .before .before .if3 .left) _ (c .before .before .before .before .second-lower .ensures) (c .if4 .taken)
+returns-4 c = source-second-lacks _ _ _ (c .before .before .before .before .before .before .before .before .before .before .before .before .before .before .before .pre) (some (c .before .before .before .before .before .before .before .before .before .before .before .is-empty .ensures) (c .before .before .before .before .before .before .before .before .before .before .if1 .left)) _ (c .before .before .before .before .before .before .before .before .before .first-lower .ensures) (yes (c .before .before .before .before .before .before .before .before .ands .ensures) (c .before .before .before .before .before .before .before .if2 .left)) (some (c .before .before .before .before .is-empty2 .ensures) (c .before .before .before .if3 .left)) _ (c .before .before .before .before .before .before .second-lower .ensures) (none (c .before .is-empty3 .ensures) (c .if4 .taken))
 
-node-at-requires : tie.Need-node-at-requires
-node-at-requires c κs = search needs
+mul-and-source-3 : tie.Need-mul-and-source-3
+mul-and-source-3 c = search needs
 
-mul-gate-source : tie.Need-mul-gate-source
-mul-gate-source c = search needs
+shared-slice-read-and-source-3 : tie.Need-shared-slice-read-and-source-3
+shared-slice-read-and-source-3 c = search needs
 
-shared-slice-read-gate-source : tie.Need-shared-slice-read-gate-source
-shared-slice-read-gate-source c = search needs
+mul-and-source-4 : tie.Need-mul-and-source-4
+mul-and-source-4 c = search needs
 
-mul-gate-source-2 : tie.Need-mul-gate-source-2
-mul-gate-source-2 c = search needs
+shared-slice-read-and-source-4 : tie.Need-shared-slice-read-and-source-4
+shared-slice-read-and-source-4 c = search needs
 
-shared-slice-read-gate-source-2 : tie.Need-shared-slice-read-gate-source-2
-shared-slice-read-gate-source-2 c = search needs
-
-gate-source-requires : tie.Need-gate-source-requires
-gate-source-requires c κs = (c .before .before .before .before .before .before .before .before .before .before .before .before .before .before .before .before .pre .small _ (omega (arith, c .before .before .before .before .before .before .before .before .before .before .first-lower .ensures, c .before .before .before .before .before .before .before .before .before .before .before .before .before .before .before .before .pre .above)) (omega (arith, c .before .before .before .before .before .before .before .before .before .before .first-lower .ensures, c .before .before .before .before .before .before .before .before .before .before .before .before .before .before .before .before .pre .first)), c .before .before .before .before .before .before .before .before .before .before .before .before .before .before .before .before .pre .small _ (omega (arith, c .before .before .before .before .before .before .before .second-lower .ensures, c .before .before .before .before .before .before .before .before .before .before .before .before .before .before .before .before .pre .beyond)) (omega (arith, c .before .before .before .before .before .before .before .second-lower .ensures, c .before .before .before .before .before .before .before .before .before .before .before .before .before .before .before .before .pre .second)))
+and-source-requires : tie.Need-and-source-requires
+and-source-requires c κs = let p = c .before .before .before .before .before .before .before .before .before .before .before .before .before .before .before .before .before .pre in (p .small _ (omega (arith, c .before .before .before .before .before .before .before .before .before .before .before .first-lower .ensures, p .above)) (omega (arith, c .before .before .before .before .before .before .before .before .before .before .before .first-lower .ensures, p .first)), p .small _ (omega (arith, c .before .before .before .before .before .before .before .before .second-lower .ensures, p .beyond)) (omega (arith, c .before .before .before .before .before .before .before .before .second-lower .ensures, p .second)))
 
 returns-5 : tie.Need-returns-5
 unfolding sourceFor
-returns-5 c = source-gate _ _ _ _ (c .before .before .before .before .before .before .before .before .before .before .before .before .before .before .before .before .before .pre) (c .before .before .before .before .before .before .before .before .before .before .before .before .if1 .left) _ (c .before .before .before .before .before .before .before .before .before .before .before .first-lower .ensures) (c .before .before .before .before .before .before .before .before .before .if2 .left) (c .before .before .before .before .before .before .if3 .left) _ (c .before .before .before .before .before .before .before .before .second-lower .ensures) (c .before .before .before .before .if4 .left) _ (c .before .before .before .node-at .ensures) _ (c .gate-source .ensures)
+returns-5 c = source-and _ _ _ (c .before .before .before .before .before .before .before .before .before .before .before .before .before .before .before .before .before .before .pre) (some (c .before .before .before .before .before .before .before .before .before .before .before .before .before .before .is-empty .ensures) (c .before .before .before .before .before .before .before .before .before .before .before .before .before .if1 .left)) _ (c .before .before .before .before .before .before .before .before .before .before .before .before .first-lower .ensures) (yes (c .before .before .before .before .before .before .before .before .before .before .before .ands .ensures) (c .before .before .before .before .before .before .before .before .before .before .if2 .left)) (some (c .before .before .before .before .before .before .before .is-empty2 .ensures) (c .before .before .before .before .before .before .if3 .left)) _ (c .before .before .before .before .before .before .before .before .before .second-lower .ensures) (some (c .before .before .before .before .is-empty3 .ensures) (c .before .before .before .if4 .left)) _ (c .and-source .ensures)
 
 pub source-above-spec : {M : Type 1} → statement M
 source-above-spec =
     tie.close
     (tie.spec
-    mul-n
-    shared-slice-read-n
+    mul-first-lower
+    shared-slice-read-first-lower
+    is-empty-requires
     returns
     cast-first-lower
     first-lower-requires
-    mul-if2
-    shared-slice-read-if2
+    ands-requires
     mul-t13
     shared-slice-read-t15
     returns-2
     cast-second-lower
     second-lower-requires
-    mul-if3
-    shared-slice-read-if3
+    mul-and-source
+    shared-slice-read-and-source
+    is-empty-requires-2
     returns-3
-    mul-if4
-    shared-slice-read-if4
+    mul-and-source-2
+    shared-slice-read-and-source-2
+    is-empty-requires-3
     returns-4
-    node-at-requires
-    mul-gate-source
-    shared-slice-read-gate-source
-    mul-gate-source-2
-    shared-slice-read-gate-source-2
-    gate-source-requires
+    mul-and-source-3
+    shared-slice-read-and-source-3
+    mul-and-source-4
+    shared-slice-read-and-source-4
+    and-source-requires
     returns-5)

@@ -8,7 +8,7 @@ load-cells-requires : tie.Need-load-cells-requires
 load-cells-requires c κs = search needs
 
 and-cells-requires : tie.Need-and-cells-requires
-and-cells-requires c κs = stage-and _ _ _ _ _ _ _ (c .before .before .before .before .before .before .before .before .before .before .before .pre) _ (c .before .before .before .before .load-cells .ensures)
+and-cells-requires c κs = stage-and _ _ _ _ _ _ _ (c .before .before .before .before .before .before .before .before .before .before .pre) _ (c .before .before .before .before .load-cells .ensures)
 
 same-length : tie.Need-same-length
 same-length c = search needs
@@ -17,7 +17,7 @@ same-length-2 : tie.Need-same-length-2
 same-length-2 c = search needs
 
 returns : tie.Need-returns
-returns c = stage-out _ _ _ _ _ _ _ (c .before .before .before .before .before .before .before .before .before .before .before .before .before .before .before .before .pre) _ (c .before .before .before .before .before .before .before .before .before .load-cells .ensures) _ _ _ _ (c .before .before .before .before .and-cells .ensures)
+returns c = stage-out _ _ _ _ _ _ _ (c .before .before .before .before .before .before .before .before .before .before .before .before .before .before .before .pre) _ (c .before .before .before .before .before .before .before .before .before .load-cells .ensures) _ _ _ (c .before .before .before .before .and-cells .ensures)
 
 pub make-stage-spec : {M : Type 1} → statement M
 make-stage-spec =
