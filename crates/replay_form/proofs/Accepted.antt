@@ -1,21 +1,32 @@
 -- What the check accepts: a plan that is handed in without a fault, and whatever the placer builds. Assumes nothing.
-use Prim.Native.Nat.{ℕ, zero, suc, _+_, _*_, _^_, _≤_}
-use mathlib.Core.Path.{_≡_, refl, _∙_, ap}
-use mathlib.Core.List.{List, [], _∷_}
+use Prim.Native.Nat.{ℕ, zero, suc, _+_, _-_, _*_, _^_, _≤_, _<_}
+use mathlib.Core.Path.{_≡_, refl, sym, _∙_, ap}
+use mathlib.Core.Bool.{Bool, true, false}
+use mathlib.Core.List.{List, [], _∷_, _++_}
 use native.Mathlib.Omega.{arith}
 use native.Mathlib.Nat.{suc-mul, le-div-iff-mul-le}
+use lib.Dec.{ltb}
 use lib.Pow.{pow-pos}
-use lib.ListN.{length, getD, drop, length-append, length-drop}
-use lib.Seq.{length-take-le}
-use Rattle.rules.specs.Cells.{stageSize, rooms}
-use Rattle.rules.specs.Graph.{Node}
+use lib.ListN.{length, getD, drop, length-append, length-drop, List·getD-append}
+use lib.Seq.{length-take-le, getD-append-add}
+use borrow.Author.Tests.{ltb-true, ltb-false}
+use Rattle.rules.specs.Cells.{empty, filled, stageSize, wordLimit, rooms}
+use Rattle.rules.specs.Graph.{Node, graphOf}
+use Rattle.rules.specs.Records.{groupsOf}
+use Rattle.rules.specs.Reservation.{reserved}
 use Rattle.rules.specs.Traversal.{WordRule}
 use Rattle.rules.specs.Build.{Stage, whole, cellsOf, codedStages}
-use Rattle.rules.specs.Faults.{faultless, cut, fault}
+use Rattle.rules.specs.Coded.{cellPin}
+use Rattle.rules.specs.Faults.{faultless, firstMay, heldIn, faultFrom, cut, fault}
+use Rattle.rules.proofs.Lists.Members.{split, true-false}
 use Rattle.rules.proofs.Build.Coding.{length-coded, stages-coded}
 use Rattle.rules.proofs.Demand.{whole-sizes}
 use Rattle.coded.specs.Inputs.{Input, graph, groups, built}
+use Rattle.coded.specs.Faults.{Checked}
 use Rattle.coded.proofs.Passing.{tall, valid, small, named}
+use Rattle.coded.proofs.Tests.{right-fits}
+use Rattle.coded.proofs.Stages.{passed, end-says}
+use Rattle.coded.proofs.Reading.{accepted-parts}
 use Rattle.coded.proofs.Complete.{built-right}
 use Rattle.replay_form.specs.Accepted.{Sized, Accepted}
 
@@ -24,6 +35,35 @@ pub cells-sized : (size : ℕ) (ss : List Stage) → Sized size ss → length (c
 unfolding cellsOf
 cells-sized size [] z = omega arith
 cells-sized size (s ∷ ss) z = length-append (s .plan) (cellsOf ss) ∙ omega (arith, z .0, cells-sized size ss (z .1), suc-mul (length ss) size)
+
+-- ---- the pins of its cells
+
+module _ (K : ℕ) (g : List Node) (given : List ℕ) where
+  named-stage : (may : ℕ → Bool) (room : ℕ) (s : Stage) → Checked K g given may room s → (p : ℕ) → p < 2 ^ (K + 1) → filled (getD (s .plan) p empty) ≡ true → cellPin (getD (s .plan) p empty) < length g
+  named-stage may room s C zero h f = true-false f (end-says K room s (C .end) .zeroth)
+  named-stage may room s C (suc p) h f = right-fits K g given may (s .plan) (suc p) f (C .cells (suc p) (omega arith) h) .below
+
+  named-from : (may : ℕ → Bool) (room k : ℕ) (ss : List Stage) → Sized (2 ^ (K + 1)) ss → faultFrom K g given may room k ss ≡ faultless →
+      (p : ℕ) → filled (getD (cellsOf ss) p empty) ≡ true → cellPin (getD (cellsOf ss) p empty) < length g
+  unfolding cellsOf filled empty
+  named-from may room k [] z e p f = true-false f refl
+  named-from may room k (s ∷ ss) z e p f =
+      let t = passed K g given may room k s ss e in
+      split (ltb p (2 ^ (K + 1)))
+      (λ l.
+      let h : p < 2 ^ (K + 1) = ltb-true p (2 ^ (K + 1)) l in
+      let d : getD (s .plan ++ cellsOf ss) p empty ≡ getD (s .plan) p empty = List·getD-append (s .plan) (cellsOf ss) empty p (omega (arith, z .0)) in
+      rw d (named-stage may room s (t .0) p h (rw d at f)))
+      (λ l.
+      let i : length (s .plan) + (p - 2 ^ (K + 1)) ≡ p = omega (arith, z .0, ltb-false p (2 ^ (K + 1)) l) in
+      let d : getD (s .plan ++ cellsOf ss) p empty ≡ getD (cellsOf ss) (p - 2 ^ (K + 1)) empty = ap (λ (x : ℕ). getD (s .plan ++ cellsOf ss) x empty) (sym i) ∙ getD-append-add (s .plan) (cellsOf ss) (p - 2 ^ (K + 1)) empty in
+      rw d (named-from (heldIn K (s .plan)) (room - length (s .words)) (suc k) ss (z .1) (t .1) (p - 2 ^ (K + 1)) (rw d at f)))
+
+-- every filled cell of an accepted plan holds a pin of the graph
+pub accepted-named : (K : ℕ) (gates given records : List ℕ) (ss : List Stage) → Accepted K gates given records ss →
+    (p : ℕ) → filled (getD (cellsOf ss) p empty) ≡ true → cellPin (getD (cellsOf ss) p empty) < length (graphOf gates)
+accepted-named K gates given records ss A = named-from K (graphOf gates) given (firstMay (graphOf gates) given) (wordLimit K - reserved (groupsOf records)) 1 ss (A .sized)
+    (accepted-parts K (graphOf gates) given (groupsOf records) ss (A .right) .0)
 
 -- ---- handed in
 

@@ -1,28 +1,27 @@
--- The run of a whole plan. Assumes nothing.
+-- The run of a plan that the check accepts. Assumes nothing.
 use Prim.Native.Nat.{ℕ, _+_, _*_, _/_, _≤_}
 use mathlib.Core.Path.{_≡_}
 use mathlib.Core.Bool.{Bool, true}
 use mathlib.Core.List.{List, [], _++_}
 use lib.ListN.{length}
 use Rattle.rules.specs.Lists.{laidOver}
-use Rattle.rules.specs.Cells.{rooms}
 use Rattle.rules.specs.Graph.{graphOf, pinCount}
 use Rattle.rules.specs.Records.{groupsOf}
-use Rattle.rules.specs.Traversal.{WordRule}
 use Rattle.rules.specs.Checks.{refusalOf}
-use Rattle.rules.specs.Build.{Stage, whole, build, cellsOf, wordsOf, countsOf}
+use Rattle.rules.specs.Build.{Stage, cellsOf, wordsOf, countsOf}
 use Rattle.replay_form.specs.Clocks.{Circuit, Ran, lineLeaves, bitsOut, flipFlops, plainRun}
+use Rattle.replay_form.specs.Accepted.{Accepted}
 use Rattle.replay_form.specs.Calls.{drivenRight}
 
--- the stages of a whole plan, with their words and counts; a job that passed its checks; and areas large enough
+-- accepted stages with their words and counts, whoever made them, whose slots' literals fit in 32 bits; a job that passed its checks; and areas
+-- large enough
 pub record RunIn (K : ℕ) (gates records driven starting : List ℕ) (lines : ℕ) (recording plan words counts : List ℕ) (total : ℕ) (work tape slots bits out end : List ℕ) : Type 0 where
-  pub rule : WordRule
-  pub area : ℕ
   pub ss : List Stage
   pub sized : Bool
   pub passes : refusalOf K sized gates [] records ≡ 0
-  pub built : build rule K (graphOf gates) [] (groupsOf records) (rooms K area) ≡ whole ss
+  pub accepted : Accepted K gates [] records ss
   pub cells : plan ≡ cellsOf ss
+  pub fits : 2 * pinCount gates + length plan ≤ 4294967296
   pub more : List ℕ
   pub written : words ≡ wordsOf ss ++ more
   pub counted : counts ≡ countsOf ss

@@ -14,16 +14,16 @@ use Rattle.replay_run.specs.Leaves.{Marked}
 use Rattle.replay_plan.specs.declared.tape.Lists.{Lists}
 
 -- a plan with its words and counts
-pub record TapeIn (K : ℕ) (plan gates words counts : List ℕ) (total : ℕ) (w l t : List ℕ) : Type 0 where
-  pub made : PlanIn K plan gates w l t
+pub record TapeIn (K m : ℕ) (plan words counts : List ℕ) (total : ℕ) (w l t : List ℕ) : Type 0 where
+  pub made : PlanIn K m plan w l t
   pub readable : PlanAt (2 ^ (K + 1)) plan w words counts total
 
 -- its slots and entries, and the slot that each pin is read from
-pub record TapeOut (K : ℕ) (plan gates words counts w l t w′ l′ t′ : List ℕ) (e : ℕ) : Type 0 where
+pub record TapeOut (K m : ℕ) (plan words counts w l t w′ l′ t′ : List ℕ) (e : ℕ) : Type 0 where
   pub between : List ℕ
-  pub made : PlanMade K plan gates w l t w′ between t′ e
+  pub made : PlanMade K m plan w l t w′ between t′ e
   pub llen : length l′ ≡ length l
-  pub reads : (q : ℕ) → q < pinCount gates → getD l′ q 0 ≡ slotOr w′ 0 (writtenBy (2 ^ (K + 1)) 0 q plan words counts)
+  pub reads : (q : ℕ) → q < m → getD l′ q 0 ≡ slotOr w′ 0 (writtenBy (2 ^ (K + 1)) 0 q plan words counts)
 
 -- readable records, the slots that pins are read from, room, and no mark
 pub record ListsIn (gates records w s b : List ℕ) : Type 0 where

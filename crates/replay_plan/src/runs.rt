@@ -1,4 +1,4 @@
-// The run of a whole plan: its tape is made once, and each line is a clock.
+// The run of a plan that is accepted: its tape is made once, and each line is a clock.
 use crate::bytes::clear_bytes;
 use crate::bytes::copy_bits;
 use crate::tape::make_lists;
@@ -37,13 +37,13 @@ pub fn run_plan(
     let entries = make_tape(
         height,
         plan,
-        gates,
         words,
         counts,
         total,
         &mut slots[0..used],
         &mut work[0..pins],
         tape,
+        pins,
     );
     let lists = make_lists(gates, records, driven, work, slots, bits);
     let places = lists.places;

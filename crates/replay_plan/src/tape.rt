@@ -14,18 +14,18 @@ ghost use Rattle.replay_plan.specs.Tape.{TapeIn, TapeOut, ListsIn, Lists
 pub fn make_tape(
     height: Height,
     plan: &[u32],
-    gates: &[u32],
     words: &[u32],
     counts: &[u32],
     total: usize,
     slots: &mut [u32],
     looks: &mut [u32],
     tape: &mut [u32],
+    pins: usize,
 ) -> usize
-    requires { ⌜ TapeIn (height .0) (now plan) (now gates) (now words) (now counts) total (now slots) (now looks) (now tape) ⌝ }
-    ensures { λ r. ⌜ TapeOut (height .0) (now (plan .entry)) (now (gates .entry)) (now (words .entry)) (now (counts .entry)) (now (slots .entry)) (now (looks .entry)) (now (tape .entry)) (now (slots .exit)) (now (looks .exit)) (now (tape .exit)) r ⌝ }
+    requires { ⌜ TapeIn (height .0) pins (now plan) (now words) (now counts) total (now slots) (now looks) (now tape) ⌝ }
+    ensures { λ r. ⌜ TapeOut (height .0) pins (now (plan .entry)) (now (words .entry)) (now (counts .entry)) (now (slots .entry)) (now (looks .entry)) (now (tape .entry)) (now (slots .exit)) (now (looks .exit)) (now (tape .exit)) r ⌝ }
 {
-    let entries = make_plan(height, plan, gates, slots, looks, tape);
+    let entries = make_plan(height, plan, slots, looks, tape, pins);
     fill_part(looks, 0);
     let size = height.stage_size();
     read_plan(size, plan, slots, words, counts, total, looks);

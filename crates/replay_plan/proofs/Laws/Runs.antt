@@ -1,39 +1,36 @@
--- The run of a whole plan is the plain graph's. Assumes nothing.
+-- The run of a plan that the check accepts is the plain graph's. Assumes nothing.
 use Prim.Native.Nat.{ℕ, zero, suc, _+_, _-_, _*_, _/_, _%_, _^_, _≤_, _<_}
 use mathlib.Core.Path.{_≡_, refl, sym, _∙_, ap, ap₂}
 use mathlib.Core.Bool.{Bool, true, false, not, _&&_}
 use mathlib.Core.List.{List, [], _∷_, _++_, map, append-nil}
 use mathlib.Core.Logic.{⊎-elim}
 use native.Mathlib.Omega.{arith}
-use native.Mathlib.Nat.{mul-le-mul-right, mul-mod-left, mul-comm}
+use native.Mathlib.Nat.{mul-mod-left, mul-comm}
 use lib.Dec.{leb, ltb}
 use lib.Pow.{pow-pos, pow-mono}
 use lib.ListN.{length, getD, take, drop, replicate, length-append, length-drop, length-map, length-replicate, getD-replicate, List·getD-append, List·getD-eq-default}
 use lib.Seq.{length-take-le, getD-take, getD-append-add, take-all, take-at}
 use borrow.Author.Tests.{leb-true, ltb-true, ltb-false}
 use Rattle.rules.specs.Lists.{mem, every, keep, upTo, sum, padded, laidOver, In}
-use Rattle.rules.specs.Cells.{isHeight, empty, stageSize, rooms}
+use Rattle.rules.specs.Cells.{isHeight, empty, filled, stageSize}
 use Rattle.rules.specs.Graph.{Node, leaf, pinOf, inversionOf, literalOf, graphOf, pinCount}
 use Rattle.rules.specs.Records.{Group, output, flipFlop, memory, stagedPin, groupsOf, Ends}
 use Rattle.rules.specs.Fold.{isLeaf, asNumber}
-use Rattle.rules.specs.Build.{Stage, whole, reply, cellsOf, wordsOf, countsOf}
+use Rattle.rules.specs.Build.{Stage, cellsOf, wordsOf, countsOf}
+use Rattle.rules.specs.Coded.{cellPin}
 use Rattle.rules.proofs.Lists.Members.{split, and-true, true-false, every-in, keep-in, in-getD, in-append, in-append-left}
 use Rattle.rules.proofs.Stage.Staged.{two-step}
-use Rattle.rules.proofs.Build.Lengths.{Sized}
-use Rattle.rules.proofs.Build.Bounds.{Few}
-use Rattle.rules.proofs.Demand.{whole-sizes, whole-sized, build-few}
 use Rattle.graph.proofs.Gates.{graph-length}
 use Rattle.checks.specs.Passed.{Passed}
 use Rattle.checks.proofs.Laws.Passed.{passed}
-use Rattle.theorems.specs.Inputs.{Input}
-use Rattle.theorems.proofs.Passing.{tall, valid, small, named}
+use Rattle.coded.specs.Inputs.{Input}
 use Rattle.replay_form.specs.Clocks.{isOne, ones, leafPin, lineLeaves, bitsOut, flipFlops, Circuit, Ran, run, plainBits, plainRun}
 use Rattle.replay_form.specs.Tape.{tapeBits, tapeRun}
 use Rattle.replay_form.specs.Plans.{writtenAt}
 use Rattle.replay_form.specs.Calls.{once, drivenRight}
 use Rattle.replay_form.proofs.Lengths.{length-ones, length-end}
-use Rattle.replay_form.proofs.Calls.{plan-plain}
-use Rattle.replay_form.proofs.Taped.{tape-used}
+use Rattle.replay_form.proofs.Accepted.{cells-sized, accepted-named}
+use Rattle.replay_form.proofs.Taped as taped
 use Rattle.replay_tape.specs.Clocks.{recordPlaces, placesOf, flipsFrom, readSlot}
 use Rattle.replay_tape.proofs.Laws.Circuits.{Resting, read-inside, tape-read}
 use Rattle.replay_run.specs.Slots.{slotOr, writtenBy}
@@ -92,6 +89,11 @@ module _ (r : ℕ → ℕ) (s : ℕ) (small : (q : ℕ) → r q < s) where
   places-below [] = below-nil
   places-below (x ∷ gs) = below-append (recordPlaces r x) (placesOf r gs) (below-record x) (places-below gs)
 
+counts-many : (ss : List Stage) → length (countsOf ss) ≡ length ss
+unfolding countsOf
+counts-many [] = refl
+counts-many (s ∷ ss) = ap suc (counts-many ss)
+
 counts-sum : (ss : List Stage) → sum (countsOf ss) ≡ length (wordsOf ss)
 unfolding sum countsOf wordsOf
 counts-sum [] = refl
@@ -120,23 +122,13 @@ module _ (K : ℕ) (gates records driven starting : List ℕ) (lines : ℕ) (rec
   gs = groupsOf records
 
   abbrev I : Input
-  I = record { rule = A .rule; K = K; sized = A .sized; gates = gates; given = []; records = records; passes = A .passes }
+  I = record { K = K; sized = A .sized; gates = gates; given = []; records = records; passes = A .passes }
 
   P : Passed K (A .sized) gates [] records
   P = passed K (A .sized) gates [] records (A .passes)
 
   cells-size : length (cellsOf (A .ss)) ≡ length (A .ss) * 2 ^ (K + 1)
-  cells-size = whole-sizes (A .rule) K g (valid I) (tall I) (small I) [] [] gs (named I) (rooms K (A .area)) (A .ss) (A .built) .cells
-
-  counts-size : length (countsOf (A .ss)) ≡ length (A .ss)
-  counts-size = whole-sizes (A .rule) K g (valid I) (tall I) (small I) [] [] gs (named I) (rooms K (A .area)) (A .ss) (A .built) .counts
-
-  sized : Sized (2 ^ (K + 1)) (A .ss)
-  sized = whole-sized (A .rule) K g (valid I) (tall I) (small I) [] [] gs (named I) (rooms K (A .area)) (A .ss) (A .built)
-
-  stages-few : length (A .ss) ≤ length g
-  unfolding reply
-  stages-few = let F : Few K g (whole (A .ss)) = rw (A .built) at (build-few (A .rule) K g (valid I) (tall I) (small I) [] [] gs (named I) (rooms K (A .area))) in F .stages-most
+  cells-size = cells-sized (2 ^ (K + 1)) (A .ss) (A .accepted .sized)
 
   cells : length plan ≡ length (A .ss) * 2 ^ (K + 1)
   cells = ap length (A .cells) ∙ cells-size
@@ -147,19 +139,23 @@ module _ (K : ℕ) (gates records driven starting : List ℕ) (lines : ℕ) (rec
       top : (k : ℕ) → isHeight k ≡ true → k ≤ 13
       top k e = unfold isHeight in leb-true k 13 (and-true (leb 6 k) (leb k 13) e .1)
 
+  named-in : (p : ℕ) → filled (getD plan p empty) ≡ true → cellPin (getD plan p empty) < length g
+  named-in = rw (A .cells) (accepted-named K gates [] records (A .ss) (A .accepted))
+
   -- what is asked to make the tape
-  pub tape-in : (n : ℕ) → n ≡ pinCount gates → TapeIn K plan gates words counts total (take (length plan - 0) slots) (take (n - 0) work) tape
+  pub tape-in : (n : ℕ) → n ≡ pinCount gates → TapeIn K n plan words counts total (take (length plan - 0) slots) (take (n - 0) work) tape
   tape-in n en =
       let w : length (take (length plan - 0) slots) ≡ length plan = length-take-le (length plan - 0) slots (omega (arith, A .slots-room)) ∙ omega arith in
-      let c : length counts ≡ length (A .ss) = ap length (A .counted) ∙ counts-size in
+      let c : length counts ≡ length (A .ss) = ap length (A .counted) ∙ counts-many (A .ss) in
       record {
         made = record {
           passed = record { height = P .height; low = pow-pos K; high = high; double = two-step K; whole = rw cells (mul-mod-left (length (A .ss)) (2 ^ (K + 1))); room = omega arith };
+          named = record { small = λ p f. rw (en, ← P .pins) (named-in p f) };
           pins = length-take-le (n - 0) work (omega (arith, A .work-room)) ∙ omega arith;
-          few = P .few;
-          one = P .some;
+          few = omega (arith, P .few);
+          one = omega (arith, P .some);
           space = A .tape-room;
-          fits = omega (arith, cells, P .few, P .pins, mul-le-mul-right {m = length (A .ss)} {n = 65536} (2 ^ (K + 1)) (omega (arith, stages-few, P .pins, P .few)), two-step K, high);
+          fits = omega (arith, A .fits);
         };
         readable = record {
           room = rw c (omega (arith, cells, mul-comm (2 ^ (K + 1)) (length (A .ss))));
@@ -169,7 +165,7 @@ module _ (K : ℕ) (gates records driven starting : List ℕ) (lines : ℕ) (rec
         };
       }
 
-  module _ (n : ℕ) (en : n ≡ pinCount gates) (w′ l′ t′ : List ℕ) (e : ℕ) (T : TapeOut K plan gates words counts (take (length plan - 0) slots) (take (n - 0) work) tape w′ l′ t′ e) where
+  module _ (n : ℕ) (en : n ≡ pinCount gates) (w′ l′ t′ : List ℕ) (e : ℕ) (T : TapeOut K n plan words counts (take (length plan - 0) slots) (take (n - 0) work) tape w′ l′ t′ e) where
     slots-length : length w′ ≡ length plan
     slots-length = T .made .wlen ∙ length-take-le (length plan - 0) slots (omega (arith, A .slots-room)) ∙ omega arith
 
@@ -181,13 +177,13 @@ module _ (K : ℕ) (gates records driven starting : List ℕ) (lines : ℕ) (rec
     read q = readSlot (take (length plan) w′) (writtenAt (stageSize K) 0 q (A .ss))
 
     inside : (q : ℕ) → read q < pinCount gates + e
-    inside q = read-inside K plan gates _ _ tape w′ (T .between) t′ e (T .made) (P .some) (writtenAt (stageSize K) 0 q (A .ss))
+    inside q = omega (arith, read-inside K n plan _ _ tape w′ (T .between) t′ e (T .made) (omega (arith, P .some)) (writtenAt (stageSize K) 0 q (A .ss)))
 
     written : (q : ℕ) → writtenBy (2 ^ (K + 1)) 0 q plan words counts ≡ writtenAt (stageSize K) 0 q (A .ss)
-    written q = rw (A .cells, A .written, A .counted, ← append-nil (cellsOf (A .ss))) (written-is (2 ^ (K + 1)) (A .ss) sized 0 q [] (A .more))
+    written q = rw (A .cells, A .written, A .counted, ← append-nil (cellsOf (A .ss))) (written-is (2 ^ (K + 1)) (A .ss) (A .accepted .sized) 0 q [] (A .more))
 
     reads : (q : ℕ) → q < pinCount gates → getD l′ q 0 ≡ read q
-    reads q h = T .reads q h ∙ slot-read w′ _ ∙ ap₂ readSlot (sym (take-all (length plan) w′ (omega (arith, slots-length)))) (written q)
+    reads q h = T .reads q (omega arith) ∙ slot-read w′ _ ∙ ap₂ readSlot (sym (take-all (length plan) w′ (omega (arith, slots-length)))) (written q)
 
     entries-few : 2 * e ≤ length plan
     entries-few = T .made .count
@@ -280,16 +276,16 @@ module _ (K : ℕ) (gates records driven starting : List ℕ) (lines : ℕ) (rec
       unfolding padded
       plan-padded = let z : length plan - length (cellsOf (A .ss)) ≡ 0 = omega (arith, ap length (A .cells)) in rw z (A .cells ∙ sym (append-nil (cellsOf (A .ss))))
 
-      tape-plain : tapeRun K gates (length plan) (A .ss) C lines recording starting ≡ plainRun C lines recording starting
-      tape-plain = rw (ap length (A .cells)) (tape-used I refl (A .area) (A .ss) (A .built) driven lines recording starting ∙ plan-plain I refl (A .area) (A .ss) (A .built) driven lines recording starting)
+      tape-plain : tapeRun K (length g) (length plan) (A .ss) C lines recording starting ≡ plainRun C lines recording starting
+      tape-plain = taped.tape-plain I refl driven lines recording starting (A .ss) (A .accepted) (length plan) (omega (arith, ap length (A .cells)))
 
       ran : linesRun t′ (placesOf read gs) (flipsFrom 0 gs) driven (lineLeaves g driven) n e lines recording bits2 (ones starting) ≡ plainRun C lines recording starting
       unfolding tapeRun
       ran =
-          let z : n ≡ length g = en ∙ sym (graph-length gates) in
-          rw z (lines-run C (tapeBits K gates (length plan) (A .ss)) t′ e read (λ q. omega (arith, inside q, graph-length gates))
-          (λ bs one zero q. tape-read K plan gates _ _ tape w′ (T .between) t′ e (T .made) (A .ss) plan-padded bs one zero q)
-          flops lines recording bits2 (ones starting) (length-ones starting ∙ A .starts ∙ sym (A .flops)) (ones-small starting) resting ∙ tape-plain)
+          let z : length g ≡ n = graph-length gates ∙ sym en in
+          rw (← z) (lines-run C (tapeBits K n (length plan) (A .ss)) t′ e read (λ q. omega (arith, inside q, graph-length gates))
+          (λ bs one zero q. tape-read K n plan _ _ tape w′ (T .between) t′ e (T .made) (A .ss) plan-padded bs one zero q)
+          flops lines recording bits2 (ones starting) (length-ones starting ∙ A .starts ∙ sym (A .flops)) (ones-small starting) resting ∙ ap (λ (m : ℕ). tapeRun K m (length plan) (A .ss) C lines recording starting) (sym z) ∙ tape-plain)
 
       -- the areas keep their lengths
       pub work-kept : length work2 ≡ length work
@@ -326,7 +322,7 @@ module _ (K : ℕ) (gates records driven starting : List ℕ) (lines : ℕ) (rec
         run = record {
           there = omega (arith, entries-few, T .made .tlen, A .tape-room);
           room = omega (arith, entries-few, bits-length, A .bits-room);
-          below = rw en (T .made .below);
+          below = T .made .below;
           bit = λ s h. rw (marked s (omega (arith, P .pins))) (mark-small (mem s driven));
         };
         drives = omega (arith, length-ones starting, A .starts, A .flops);

@@ -18,13 +18,13 @@ use Rattle.replay_run.proofs.Laws.Leaves.{marks-are, leaves-are}
 use Rattle.replay_plan.specs.declared.tape.Lists.{Lists}
 use Rattle.replay_plan.specs.Tape.{TapeIn, TapeOut, ListsIn, ListsOut}
 
-module _ (K : ℕ) (plan gates words counts : List ℕ) (total : ℕ) (w l t : List ℕ) (I : TapeIn K plan gates words counts total w l t) (w′ b t′ : List ℕ) (e : ℕ) (M : PlanMade K plan gates w l t w′ b t′ e) where
+module _ (K m : ℕ) (plan words counts : List ℕ) (total : ℕ) (w l t : List ℕ) (I : TapeIn K m plan words counts total w l t) (w′ b t′ : List ℕ) (e : ℕ) (M : PlanMade K m plan w l t w′ b t′ e) where
   -- what is asked to read the words
   pub words-at : (s : ℕ) → s ≡ 2 ^ (K + 1) → PlanAt s plan w′ words counts total
   words-at s es = record { room = rw es (I .readable .room); slotted = omega (arith, I .readable .slotted, M .wlen); written = I .readable .written; counted = I .readable .counted }
 
   -- the tape is made and the words are read
-  pub tape-out : (s : ℕ) → s ≡ 2 ^ (K + 1) → (z l′ : List ℕ) → z ≡ replicate (length b) 0 → PlanRead s plan w′ words counts z l′ → TapeOut K plan gates words counts w l t w′ l′ t′ e
+  pub tape-out : (s : ℕ) → s ≡ 2 ^ (K + 1) → (z l′ : List ℕ) → z ≡ replicate (length b) 0 → PlanRead s plan w′ words counts z l′ → TapeOut K m plan words counts w l t w′ l′ t′ e
   tape-out s es z l′ ez R =
       let lz : length z ≡ length b = ap length ez ∙ length-replicate (length b) 0 in
       record {

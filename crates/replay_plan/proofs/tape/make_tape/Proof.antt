@@ -6,7 +6,7 @@ use Rattle.replay_plan.proofs.tape.make_tape.Statement.{statement}
 use Rattle.replay_plan.proofs.tape.make_tape.Tie as tie
 
 make-plan-requires : tie.Need-make-plan-requires
-make-plan-requires c κs = c .before .before .before .before .before .before .before .before .before .before .pre .made
+make-plan-requires c κs = c .before .before .before .before .before .before .before .before .before .pre .made
 
 fill-part-requires : tie.Need-fill-part-requires
 fill-part-requires c κs = search needs
@@ -15,7 +15,7 @@ stage-size-requires : tie.Need-stage-size-requires
 stage-size-requires c κs = search needs
 
 read-plan-requires : tie.Need-read-plan-requires
-read-plan-requires c κs = words-at _ _ _ _ _ _ _ _ _ (c .before .before .before .before .before .before .before .before .before .before .before .before .before .before .before .before .before .before .before .before .before .before .before .before .pre) _ _ _ _ (c .before .before .before .before .before .before .before .before .before .before .before .before .before .make-plan .ensures) _ (size-there _ _ (c .before .before .before .before .before .before .before .before .before .before .before .before .before .before .before .before .before .before .before .before .before .before .before .before .pre .made .passed .height) (c .before .before .stage-size .ensures))
+read-plan-requires c κs = words-at _ _ _ _ _ _ _ _ _ (c .before .before .before .before .before .before .before .before .before .before .before .before .before .before .before .before .before .before .before .before .before .before .before .pre) _ _ _ _ (c .before .before .before .before .before .before .before .before .before .before .before .before .before .make-plan .ensures) _ (size-there _ _ (c .before .before .before .before .before .before .before .before .before .before .before .before .before .before .before .before .before .before .before .before .before .before .before .pre .made .passed .height) (c .before .before .stage-size .ensures))
 
 same-length : tie.Need-same-length
 same-length c = search needs
@@ -27,7 +27,7 @@ same-length-3 : tie.Need-same-length-3
 same-length-3 c = search needs
 
 returns : tie.Need-returns
-returns c = tape-out _ _ _ _ _ _ _ _ _ (c .before .before .before .before .before .before .before .before .before .before .before .before .before .before .before .before .before .before .before .before .before .before .before .before .before .before .before .pre) _ _ _ _ (c .before .before .before .before .before .before .before .before .before .before .before .before .before .before .before .before .make-plan .ensures) _ (size-there _ _ (c .before .before .before .before .before .before .before .before .before .before .before .before .before .before .before .before .before .before .before .before .before .before .before .before .before .before .before .pre .made .passed .height) (c .before .before .before .before .before .stage-size .ensures)) _ _ (c .before .before .before .before .before .before .before .before .fill-part .ensures) (c .before .before .read-plan .ensures)
+returns c = tape-out _ _ _ _ _ _ _ _ _ (c .before .before .before .before .before .before .before .before .before .before .before .before .before .before .before .before .before .before .before .before .before .before .before .before .before .before .pre) _ _ _ _ (c .before .before .before .before .before .before .before .before .before .before .before .before .before .before .before .before .make-plan .ensures) _ (size-there _ _ (c .before .before .before .before .before .before .before .before .before .before .before .before .before .before .before .before .before .before .before .before .before .before .before .before .before .before .pre .made .passed .height) (c .before .before .before .before .before .stage-size .ensures)) _ _ (c .before .before .before .before .before .before .before .before .fill-part .ensures) (c .before .before .read-plan .ensures)
 
 pub make-tape-spec : {M : Type 1} → statement M
 make-tape-spec =
