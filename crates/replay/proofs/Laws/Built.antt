@@ -5,9 +5,9 @@ use mathlib.Core.Logic.{_≢_}
 use mathlib.Core.Bool.{Bool, true, false, _&&_}
 use mathlib.Core.List.{List, [], _∷_, _++_, append-assoc}
 use native.Mathlib.Omega.{arith}
-use native.Mathlib.Nat.{le-div-iff-mul-le}
+use native.Mathlib.Nat.{mul-le-mul-right}
 use lib.Dec.{leb}
-use lib.Pow.{pow-pos}
+use lib.Pow.{pow-mono}
 use lib.ListN.{length, take, drop, replicate, length-append, length-drop, length-replicate, take-append-drop}
 use lib.Seq.{take-at, length-take-le}
 use borrow.Author.Tests.{leb-true}
@@ -20,9 +20,12 @@ use Rattle.rules.specs.Checks.{planSized, workSize, areasSized, refusalOf}
 use Rattle.rules.specs.Build as rules
 use Rattle.rules.proofs.Lists.Members.{and-true}
 use Rattle.rules.proofs.Lists.Parts.{part-laid}
-use Rattle.rules.proofs.Build.Lengths.{length-padded}
+use Rattle.rules.proofs.Stage.Staged.{two-step}
 use Rattle.rules.proofs.Stage.Refusals.{refused-some}
-use Rattle.rules.proofs.Demand.{whole-sizes}
+use Rattle.rules.proofs.Build.Lengths.{length-padded}
+use Rattle.rules.proofs.Build.Bounds.{Few}
+use Rattle.rules.proofs.Build.Coding.{stages-coded, words-coded, counts-coded}
+use Rattle.rules.proofs.Demand.{whole-sizes, build-few}
 use Rattle.checks.specs.Passed.{Passed}
 use Rattle.checks.proofs.Laws.Passed.{passed}
 use Rattle.cells.specs.Answers.{orZero}
@@ -30,17 +33,24 @@ use Rattle.fold.proofs.Laws.Stages.{size-there}
 use Rattle.placer.specs.declared.Answer.{Answer}
 use Rattle.placer.specs.Answers.{told, areas}
 use Rattle.placer.specs.Answers as placer
-use Rattle.theorems.specs.Inputs.{Input}
-use Rattle.theorems.proofs.Passing.{tall, valid, small, named}
-use Rattle.theorems.proofs.Folding.{few, cells-fit}
-use Rattle.theorems.proofs.Calls.{Call, Told, Whole, input, answered, whole}
+use Rattle.coded.specs.Inputs.{Input}
+use Rattle.coded.proofs.Passing.{tall, valid, small, named}
 use Rattle.replay_form.specs.Clocks.{Ran, Circuit, ones, lineLeaves, bitsOut, flipFlops, plainBits, plainRun}
 use Rattle.replay_form.proofs.Lengths.{length-ones, length-end}
+use Rattle.replay_form.specs.Accepted.{Accepted}
+use Rattle.replay_form.proofs.Accepted.{cells-sized, coded-accepted, coded-fits}
 use Rattle.replay_form.specs.Calls as form
 use Rattle.replay_form.specs.Calls.{replaySized, slotsSize, bitsSize, outRight}
 use Rattle.replay_form.proofs.Calls as calls
 use Rattle.replay_plan.specs.Runs.{RunIn, circuit}
 use Rattle.replay.specs.Answers.{job, lent, outcome, FinishIn, Finished, BuiltIn}
+
+high-at : (K : ℕ) → isHeight K ≡ true → 2 ^ K ≤ 8192
+unfolding isHeight
+high-at K e = pow-mono {i = K} {j = 13} (leb-true K 13 (and-true (leb 6 K) (leb K 13) e .1))
+
+free : (K : ℕ) (gates given records : List ℕ) (ss : List rules.Stage) → given ≡ [] → Accepted K gates given records ss → Accepted K gates [] records ss
+free K gates given records ss e A = rw e at A
 
 module _ (K : ℕ) (gates given records driven starting : List ℕ) (lines : ℕ) (recording plan words counts work tape slots bits out end : List ℕ)
     (A : BuiltIn K gates given records driven starting lines recording plan words counts work tape slots bits out end) where
@@ -116,47 +126,92 @@ module _ (K : ℕ) (gates given records driven starting : List ℕ) (lines : ℕ
   }
 
   module _ (r : Answer) (plan1 words1 counts1 work1 : List ℕ) (E : placer.outcome r plan1 words1 counts1 work1 ≡ rules.placer neededRuns K gates given records (areas plan words counts work)) where
-    abbrev C : Call
-    C = record {
-      rule = neededRuns;
-      height = K;
-      gates = gates;
-      given = given;
-      records = records;
-      entry = record { plan = plan; words = words; counts = counts; work = work };
-      answer = r;
-      exit = record { plan = plan1; words = words1; counts = counts1; work = work1 };
-      ensures = called;
-    }
-      where
-        called : placer.outcome r plan1 words1 counts1 work1 ≡ rules.placer neededRuns K gates given records (record { plan = plan; words = words; counts = counts; work = work })
-        called = unfold areas in E
-
-    checked0 : refusalOf K (rules.sizesRight K gates records (record { plan = plan; words = words; counts = counts; work = work })) gates given records ≡ 0
-    unfolding rules.sizesRight
+    checked0 : refusalOf K (rules.sizesRight K gates records (areas plan words counts work)) gates given records ≡ 0
+    unfolding rules.sizesRight areas
     checked0 = ap (λ (b : Bool). refusalOf K b gates given records) (sizes .sized ∙ sym (P .areas)) ∙ both .0
 
     abbrev I : Input
-    I = input C checked0
+    I = record { K = K; sized = form.areasRight J a; gates = gates; given = given; records = records; passes = both .0 }
 
     abbrev b : rules.Answer
     b = rules.build neededRuns K (graphOf gates) given (groupsOf records) (rooms K (length plan))
 
-    T : Told C b
-    T = answered C checked0
+    -- the stages as they are left: cells
+    abbrev S : rules.Answer → List rules.Stage
+    S x = rules.codedStages K (graphOf gates) (rules.stagesOf x)
+
+    -- what the build tells, and leaves
+    record Told (x : rules.Answer) : Type 0 where
+      reply : told r ≡ rules.reply x
+      plan-told : plan1 ≡ padded (length plan) empty (rules.cellsOf (S x))
+      words-told : words1 ≡ laidOver (padded (wordLimit K) empty (rules.wordsOf (S x))) words
+      counts-told : counts1 ≡ laidOver (padded (rooms K (length plan)) 0 (rules.countsOf (S x))) counts
+      work-told : work1 ≡ laidOver (replicate (workSize gates records) 0) work
+
+    T : Told b
+    unfolding placer.outcome areas rules.placer rules.answerOf rules.areasAfter
+    T =
+        let e = rw (checked0, rules.placer) at E in
+        record {
+          reply = ap (λ (o : rules.Outcome). o .reply) e;
+          plan-told = ap (λ (o : rules.Outcome). o .areas .plan) e;
+          words-told = ap (λ (o : rules.Outcome). o .areas .words) e;
+          counts-told = ap (λ (o : rules.Outcome). o .areas .counts) e;
+          work-told = ap (λ (o : rules.Outcome). o .areas .work) e;
+        }
 
     work-after : work1 ≡ laidOver (replicate (workSize gates records) 0) work
-    unfolding placer.outcome areas rules.placer rules.answerOf rules.areasAfter
-    work-after = ap (λ (o : rules.Outcome). o .areas .work) (rw (checked0, rules.placer) at (C .ensures))
+    work-after = T .work-told
 
-    cells-of : (x : rules.Answer) → b ≡ x → length (rules.cellsOf (rules.stagesOf x)) ≤ length plan
-    unfolding rules.stagesOf rules.cellsOf
+    number-of : (x : rules.Answer) → b ≡ x → r .number ≡ rules.reply x .number
+    unfolding told
+    number-of x d = ap (λ (y : rules.Reply). y .number) (rw d at (T .reply))
+
+    -- a number of 0 stands for a whole plan
+    whole-of : r .number ≡ 0 → (ss : List rules.Stage) × (b ≡ rules.whole ss)
+    unfolding rules.reply rules.refuse
+    whole-of z = cases b refl
+      where
+        cases : (x : rules.Answer) → b ≡ x → (ss : List rules.Stage) × (b ≡ rules.whole ss)
+        cases (rules.refusal n k) d = absurd (refused-some neededRuns K (graphOf gates) given (groupsOf records) (rooms K (length plan)) n k d (sym (number-of (rules.refusal n k) d) ∙ z))
+        cases (rules.whole ss) d = (ss, d)
+
+    module _ (ss : List rules.Stage) (d : b ≡ rules.whole ss) where
+      abbrev cs : List rules.Stage
+      cs = rules.codedStages K (graphOf gates) ss
+
+      accepted : Accepted K gates given records cs
+      accepted = coded-accepted neededRuns I (length plan) ss d
+
+      fit : length (rules.cellsOf cs) ≤ length plan
+      fit = coded-fits neededRuns I (length plan) ss d
+
+      stages-many : length cs ≡ length ss
+      stages-many = stages-coded K (graphOf gates) ss
+
+      cells-many : length (rules.cellsOf cs) ≡ length ss * 2 ^ (K + 1)
+      cells-many = cells-sized (2 ^ (K + 1)) cs (accepted .sized) ∙ ap (λ (k : ℕ). k * 2 ^ (K + 1)) stages-many
+
+      counts-many : length (rules.countsOf cs) ≡ length ss
+      counts-many = ap length (counts-coded K (graphOf gates) ss) ∙ whole-sizes neededRuns K (graphOf gates) (valid I) (tall I) (small I) given [] (groupsOf records) (named I) (rooms K (length plan)) ss d .counts
+
+      -- no more stages than pins, so that every slot's literal fits in 32 bits
+      literals-fit : 2 * pinCount gates + length (rules.cellsOf cs) ≤ 4294967296
+      unfolding rules.reply
+      literals-fit =
+          let F : Few K (graphOf gates) (rules.whole ss) = rw d at (build-few neededRuns K (graphOf gates) (valid I) (tall I) (small I) given [] (groupsOf records) (named I) (rooms K (length plan))) in
+          let most : length ss ≤ length (graphOf gates) = F .stages-most in
+          let many : length ss * 2 ^ (K + 1) ≤ 65536 * 2 ^ (K + 1) = mul-le-mul-right {m = length ss} {n = 65536} (2 ^ (K + 1)) (omega (arith, P .pins, P .few)) in
+          omega (arith, cells-many, P .few, two-step K, high-at K (P .height))
+
+    cells-of : (x : rules.Answer) → b ≡ x → length (rules.cellsOf (S x)) ≤ length plan
+    unfolding rules.stagesOf rules.codedStages rules.cellsOf
     cells-of (rules.refusal n k) d = omega arith
-    cells-of (rules.whole ss) d = cells-fit I (length plan) ss d
+    cells-of (rules.whole ss) d = fit ss d
 
     -- the plan area keeps its length
     pub plan-length : length plan1 ≡ length plan
-    plan-length = ap length (T .plan) ∙ length-padded (length plan) empty _ (cells-of b refl)
+    plan-length = ap length (T .plan-told) ∙ length-padded (length plan) empty _ (cells-of b refl)
 
     -- so does the work area
     pub work-length : length work1 ≡ length work
@@ -174,11 +229,11 @@ module _ (K : ℕ) (gates given records driven starting : List ℕ) (lines : ℕ
         (rw z (omega arith), omega arith)
     counts-of (rules.whole ss) d =
         let z : r .stages ≡ length ss = ap (λ (q : rules.Reply). q .stages) (rw d at (T .reply)) in
-        let c : length (rules.countsOf ss) ≡ length ss = whole-sizes neededRuns K (graphOf gates) (valid I) (tall I) (small I) given [] (groupsOf records) (named I) (rooms K (length plan)) ss d .counts in
-        let e : length (rules.cellsOf ss) ≡ length ss * 2 ^ (K + 1) = whole-sizes neededRuns K (graphOf gates) (valid I) (tall I) (small I) given [] (groupsOf records) (named I) (rooms K (length plan)) ss d .cells in
-        let f : counts1 ≡ (rules.countsOf ss ++ replicate (rooms K (length plan) - length (rules.countsOf ss)) 0) ++ drop (length (rules.countsOf ss ++ replicate (rooms K (length plan) - length (rules.countsOf ss)) 0)) counts = rw d at (T .counts) in (
-          rw z (omega (arith, e, cells-fit I (length plan) ss d)),
-          omega (arith, ap length f, length-append (rules.countsOf ss ++ replicate (rooms K (length plan) - length (rules.countsOf ss)) 0) (drop (length (rules.countsOf ss ++ replicate (rooms K (length plan) - length (rules.countsOf ss)) 0)) counts), length-append (rules.countsOf ss) (replicate (rooms K (length plan) - length (rules.countsOf ss)) 0)),
+        let cs : List ℕ = rules.countsOf (rules.codedStages K (graphOf gates) ss) in
+        let zs : List ℕ = replicate (rooms K (length plan) - length cs) 0 in
+        let f : counts1 ≡ (cs ++ zs) ++ drop (length (cs ++ zs)) counts = rw d at (T .counts-told) in (
+          rw z (omega (arith, cells-many ss d, fit ss d)),
+          omega (arith, ap length f, length-append (cs ++ zs) (drop (length (cs ++ zs)) counts), length-append cs zs, counts-many ss d),
         )
 
     -- the stages built are in plan and counts
@@ -219,29 +274,30 @@ module _ (K : ℕ) (gates given records driven starting : List ℕ) (lines : ℕ
       end-length = length-take-le (f - 0) end (omega (arith, lengths .1, room .1)) ∙ omega (arith, lengths .1)
 
       run-in : r .number ≡ 0 → RunIn K gates records driven starting lines recording (take (u - 0) plan1) words1 (take (r .stages - 0) counts1) (r .words) (take (n - 0) work1) (take (z - 0) tape) (take (h - 0) slots) (take (l - 0) bits) out (take (f - 0) end)
-      unfolding told rules.reply padded
+      unfolding told rules.reply rules.stagesOf padded laidOver
       run-in zero0 =
-          let W = whole C zero0 in
-          let ss = W .ss in
-          let t : told r ≡ rules.reply (rules.whole ss) = rw (W .built) at (T .reply) in
-          let g0 : r .stages ≡ length ss = ap (λ (q : rules.Reply). q .stages) t in
-          let w0 : r .words ≡ length (rules.wordsOf ss) = ap (λ (q : rules.Reply). q .words) t in
-          let S = whole-sizes neededRuns K (graphOf gates) (valid I) (tall I) (small I) given [] (groupsOf records) (named I) (rooms K (length plan)) ss (W .built) in
-          let k : length (rules.cellsOf ss) ≡ u - 0 = omega (arith, S .cells, (eu ∙ ap₂ (λ (x y : ℕ). x * y) g0 (size-there K s (P .height) es))) in
-          let c : take (u - 0) plan1 ≡ rules.cellsOf ss = ap (take (u - 0)) (W .plan) ∙ take-at (rules.cellsOf ss) _ (u - 0) k in
-          let fit : length (rules.cellsOf ss) ≤ length plan = cells-fit I (length plan) ss (W .built) in
+          let W = whole-of zero0 in
+          let ss = W .0 in
+          let d = W .1 in
+          let S = rules.codedStages K (graphOf gates) ss in
+          let N : Told (rules.whole ss) = rw d at T in
+          let g0 : r .stages ≡ length ss = ap (λ (q : rules.Reply). q .stages) (N .reply) in
+          let w0 : r .words ≡ length (rules.wordsOf ss) = ap (λ (q : rules.Reply). q .words) (N .reply) in
+          let k : length (rules.cellsOf S) ≡ u - 0 = omega (arith, cells-many ss d, (eu ∙ ap₂ (λ (x y : ℕ). x * y) g0 (size-there K s (P .height) es))) in
+          let c : take (u - 0) plan1 ≡ rules.cellsOf S = ap (take (u - 0)) (N .plan-told) ∙ take-at (rules.cellsOf S) _ (u - 0) k in
+          let zs : List ℕ = replicate (rooms K (length plan) - length (rules.countsOf S)) 0 in
+          let o : counts1 ≡ rules.countsOf S ++ (zs ++ drop (length (rules.countsOf S ++ zs)) counts) = N .counts-told ∙ append-assoc (rules.countsOf S) zs _ in
           record {
-            rule = neededRuns;
-            area = length plan;
-            ss = ss;
-            sized = rules.sizesRight K gates records (record { plan = plan; words = words; counts = counts; work = work });
-            passes = ap (λ (x : List ℕ). refusalOf K (rules.sizesRight K gates records (record { plan = plan; words = words; counts = counts; work = work })) gates x records) (sym given-none) ∙ checked0;
-            built = ap (λ (x : List ℕ). rules.build neededRuns K (graphOf gates) x (groupsOf records) (rooms K (length plan))) (sym given-none) ∙ W .built;
+            ss = S;
+            sized = form.areasRight J a;
+            passes = ap (λ (x : List ℕ). refusalOf K (form.areasRight J a) gates x records) (sym given-none) ∙ both .0;
+            accepted = free K gates given records S given-none (accepted ss d);
             cells = c;
-            more = W .behind;
-            written = W .words;
-            counted = ap (take (r .stages - 0)) (W .counts) ∙ take-at (rules.countsOf ss) _ (r .stages - 0) (omega (arith, S .counts));
-            all = w0;
+            fits = rw c (literals-fit ss d);
+            more = _;
+            written = N .words-told ∙ append-assoc (rules.wordsOf S) _ _;
+            counted = ap (take (r .stages - 0)) o ∙ take-at (rules.countsOf S) _ (r .stages - 0) (omega (arith, counts-many ss d));
+            all = w0 ∙ ap length (sym (words-coded K (graphOf gates) ss));
             drives = both .1 .drives;
             flops = lengths .0;
             starts = lengths .1;
@@ -249,9 +305,9 @@ module _ (K : ℕ) (gates given records driven starting : List ℕ) (lines : ℕ
             out-room = room .0;
             end-room = end-length;
             work-room = rw front (rw (length-replicate {A = ℕ} n 0) (omega arith));
-            tape-room = omega (arith, ap length c, tape-length);
-            slots-room = omega (arith, ap length c, slots-length);
-            bits-room = omega (arith, ap length c, bits-length);
+            tape-room = omega (arith, ap length c, tape-length, fit ss d);
+            slots-room = omega (arith, ap length c, slots-length, fit ss d);
+            bits-room = omega (arith, ap length c, bits-length, fit ss d);
           }
 
       -- what is asked of what follows the build
@@ -282,13 +338,9 @@ module _ (K : ℕ) (gates given records driven starting : List ℕ) (lines : ℕ
         abbrev D : Circuit
         D = circuit gates records driven
 
-        plain : (ss : List rules.Stage) → b ≡ rules.whole ss → form.ranOf J (length plan) ss ≡ plainRun D lines recording starting
-        unfolding form.ranOf form.circuitOf
-        plain ss d = calls.plan-plain I given-none (length plan) ss d driven lines recording starting
-
-        number-of : (x : rules.Answer) → b ≡ x → r .number ≡ rules.reply x .number
-        unfolding told
-        number-of x d = ap (λ (y : rules.Reply). y .number) (rw d at (T .reply))
+        plain : (ss : List rules.Stage) → b ≡ rules.whole ss → form.ranOf J (length plan) (form.cellStages J ss) ≡ plainRun D lines recording starting
+        unfolding form.ranOf form.cellStages form.circuitOf
+        plain ss d = calls.plan-plain I given-none driven lines recording starting neededRuns (length plan) ss d
 
         out-is : (x : rules.Answer) → b ≡ x → o ≡ form.builtLent J a x .out
         unfolding form.builtLent rules.reply rules.refuse
@@ -318,12 +370,12 @@ module _ (K : ℕ) (gates given records driven starting : List ℕ) (lines : ℕ
         -- answer and areas are those of the definition
         pub outcome-built : outcome r plan1 words1 counts1 (w ++ drop (n - 0) work1) (t ++ drop (z - 0) tape) (q ++ drop (h - 0) slots) (v ++ drop (l - 0) bits) o (e ++ drop (f - 0) end)
             ≡ form.replay neededRuns (job K gates given records driven starting lines recording) (lent plan words counts work tape slots bits out end)
-        unfolding outcome lent areas job form.builtLent rules.areasAfter
+        unfolding outcome lent areas job form.builtLent form.cellStages rules.areasAfter
         outcome-built =
             (λ i. record {
               reply = T .reply i;
               lent = record {
-                build = record { plan = T .plan i; words = T .words i; counts = T .counts i; work = work-is i };
+                build = record { plan = T .plan-told i; words = T .words-told i; counts = T .counts-told i; work = work-is i };
                 tape = tape-is i;
                 slots = slots-is i;
                 bits = bits-is i;
