@@ -1,6 +1,7 @@
 pub mod Cutting
 pub mod Same
 pub mod Accepted
+pub mod Cut
 pub mod Reading
 pub mod Lengths
 pub mod Calls
