@@ -1,7 +1,7 @@
 -- What the check accepts: a plan that is handed in without a fault, and whatever the placer builds. Assumes nothing.
 use Prim.Native.Nat.{ℕ, zero, suc, _+_, _-_, _*_, _^_, _≤_, _<_}
 use mathlib.Core.Path.{_≡_, refl, sym, _∙_, ap}
-use mathlib.Core.Bool.{Bool, true, false}
+use mathlib.Core.Bool.{Bool, true}
 use mathlib.Core.List.{List, [], _∷_, _++_}
 use native.Mathlib.Omega.{arith}
 use native.Mathlib.Nat.{suc-mul, le-div-iff-mul-le}
@@ -10,7 +10,7 @@ use lib.Pow.{pow-pos}
 use lib.ListN.{length, getD, drop, length-append, length-drop, List·getD-append}
 use lib.Seq.{length-take-le, getD-append-add}
 use borrow.Author.Tests.{ltb-true, ltb-false}
-use Rattle.rules.specs.Cells.{empty, filled, stageSize, wordLimit, rooms}
+use Rattle.rules.specs.Cells.{empty, filled, wordLimit, rooms}
 use Rattle.rules.specs.Graph.{Node, graphOf}
 use Rattle.rules.specs.Records.{groupsOf}
 use Rattle.rules.specs.Reservation.{reserved}

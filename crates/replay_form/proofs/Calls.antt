@@ -21,7 +21,7 @@ use Rattle.rules.proofs.Stage.Refusals.{refused-some}
 use Rattle.rules.specs.Records.{Ends}
 use Rattle.rules.specs.Faults.{faultless, cut, fault}
 use Rattle.coded.specs.Inputs.{Input, graph, groups, built}
-use Rattle.replay_form.specs.Clocks.{Circuit, Ran, ones, pinBits, lineLeaves, bitsOut, flipFlops, lineSize, andThen, run, plainBits, plainRun}
+use Rattle.replay_form.specs.Clocks.{Circuit, Ran, ones, pinBits, lineLeaves, bitsOut, flipFlops, lineSize, andThen, plainBits, plainRun}
 use Rattle.replay_form.specs.Plans.{planBits, planRun}
 use Rattle.replay_form.specs.Accepted.{Accepted}
 use Rattle.replay_form.specs.Calls.{Job, Lent, Outcome, circuitOf, areasRight, plain, drivenRight, lengthsRight, outRight, laterRefusal, laterOf, replayRefusal, ranOf, cellStages, builtLent, builtOf, replay}

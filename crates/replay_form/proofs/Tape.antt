@@ -10,9 +10,8 @@ use lib.Pow.{pow-pos}
 use lib.ListN.{length, getD, take, drop, length-append, List·getD-append}
 use lib.Seq.{getD-append-seam, getD-append-add}
 use borrow.Author.Tests.{leb-true, leb-false, ltb-true, ltb-false}
-use Rattle.rules.specs.Cells.{empty, filled, width, stageSize, firstLower, secondLower}
-use Rattle.rules.specs.Lists.{nothing, found}
-use Rattle.rules.specs.Graph.{Node, gate, pinOf, inversionOf, literalOf, literalBit}
+use Rattle.rules.specs.Cells.{empty, filled, firstLower, secondLower}
+use Rattle.rules.specs.Graph.{Node, pinOf, inversionOf, literalOf, literalBit}
 use Rattle.rules.specs.Fold.{asNumber, lowest}
 use Rattle.rules.specs.Coded.{cellPin, ands, firstInversion, secondInversion, pins, bitOf, loadOf, cellBits, foldStages}
 use Rattle.rules.proofs.Lists.Members.{split, and-true}

@@ -1,6 +1,6 @@
 -- A run of a finished plan of cells, whoever made it: each clock folds it, and a pin's bit is read from a written word. Assumes nothing.
 use Prim.Native.Nat.{ℕ, _+_, _*_}
-use mathlib.Core.Bool.{Bool, true, false}
+use mathlib.Core.Bool.{Bool, false}
 use mathlib.Core.List.{List, [], _∷_}
 use lib.ListN.{getD, take, drop}
 use Rattle.rules.specs.Lists.{Found, nothing, found, padded}

@@ -9,7 +9,7 @@ use Rattle.rules.specs.Graph.{graphOf, pinCount}
 use Rattle.rules.specs.Records.{groupsOf}
 use Rattle.rules.specs.Checks.{refusalOf}
 use Rattle.rules.specs.Build.{Stage, cellsOf, wordsOf, countsOf}
-use Rattle.replay_form.specs.Clocks.{Circuit, Ran, lineLeaves, bitsOut, flipFlops, plainRun}
+use Rattle.replay_form.specs.Clocks.{Circuit, lineLeaves, bitsOut, flipFlops, plainRun}
 use Rattle.replay_form.specs.Accepted.{Accepted}
 use Rattle.replay_form.specs.Calls.{drivenRight}
 

@@ -1,9 +1,8 @@
 -- A job that no check refuses, its build, and what follows it. Assumes nothing.
-use Prim.Native.Nat.{ℕ, zero, suc, _+_, _-_, _*_, _/_, _^_, _≤_, _<_}
+use Prim.Native.Nat.{ℕ, _+_, _-_, _*_, _/_, _^_, _≤_}
 use mathlib.Core.Path.{_≡_, refl, sym, _∙_, ap, ap₂}
-use mathlib.Core.Logic.{_≢_}
-use mathlib.Core.Bool.{Bool, true, false, _&&_}
-use mathlib.Core.List.{List, [], _∷_, _++_, append-assoc}
+use mathlib.Core.Bool.{Bool, true, _&&_}
+use mathlib.Core.List.{List, [], _++_, append-assoc}
 use native.Mathlib.Omega.{arith}
 use native.Mathlib.Nat.{mul-le-mul-right}
 use lib.Dec.{leb}
@@ -12,7 +11,7 @@ use lib.ListN.{length, take, drop, replicate, length-append, length-drop, length
 use lib.Seq.{take-at, length-take-le}
 use borrow.Author.Tests.{leb-true}
 use Rattle.rules.specs.Lists.{padded, laidOver}
-use Rattle.rules.specs.Cells.{isHeight, empty, wordLimit, stageSize, rooms}
+use Rattle.rules.specs.Cells.{isHeight, empty, wordLimit, rooms}
 use Rattle.rules.specs.Graph.{graphOf, pinCount}
 use Rattle.rules.specs.Records.{groupsOf}
 use Rattle.rules.specs.Traversal.{neededRuns}

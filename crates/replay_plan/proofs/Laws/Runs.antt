@@ -8,13 +8,13 @@ use native.Mathlib.Omega.{arith}
 use native.Mathlib.Nat.{mul-mod-left, mul-comm}
 use lib.Dec.{leb, ltb}
 use lib.Pow.{pow-pos, pow-mono}
-use lib.ListN.{length, getD, take, drop, replicate, length-append, length-drop, length-map, length-replicate, getD-replicate, List·getD-append, List·getD-eq-default}
-use lib.Seq.{length-take-le, getD-take, getD-append-add, take-all, take-at}
+use lib.ListN.{length, getD, take, drop, replicate, length-append, length-drop, length-replicate, getD-replicate, List·getD-append, List·getD-eq-default}
+use lib.Seq.{length-take-le, getD-take, take-all}
 use borrow.Author.Tests.{leb-true, ltb-true, ltb-false}
-use Rattle.rules.specs.Lists.{mem, every, keep, upTo, sum, padded, laidOver, In}
+use Rattle.rules.specs.Lists.{mem, every, upTo, sum, padded, laidOver, In}
 use Rattle.rules.specs.Cells.{isHeight, empty, filled, stageSize}
 use Rattle.rules.specs.Graph.{Node, leaf, pinOf, inversionOf, literalOf, graphOf, pinCount}
-use Rattle.rules.specs.Records.{Group, output, flipFlop, memory, stagedPin, groupsOf, Ends}
+use Rattle.rules.specs.Records.{Group, output, flipFlop, memory, stagedPin, groupsOf}
 use Rattle.rules.specs.Fold.{isLeaf, asNumber}
 use Rattle.rules.specs.Build.{Stage, cellsOf, wordsOf, countsOf}
 use Rattle.rules.specs.Coded.{cellPin}
@@ -24,7 +24,7 @@ use Rattle.graph.proofs.Gates.{graph-length}
 use Rattle.checks.specs.Passed.{Passed}
 use Rattle.checks.proofs.Laws.Passed.{passed}
 use Rattle.coded.specs.Inputs.{Input}
-use Rattle.replay_form.specs.Clocks.{isOne, ones, leafPin, lineLeaves, bitsOut, flipFlops, Circuit, Ran, run, plainBits, plainRun}
+use Rattle.replay_form.specs.Clocks.{isOne, ones, leafPin, lineLeaves, Circuit, Ran, run, plainBits, plainRun}
 use Rattle.replay_form.specs.Tape.{tapeBits, tapeRun}
 use Rattle.replay_form.specs.Plans.{writtenAt}
 use Rattle.replay_form.specs.Calls.{once, drivenRight}
@@ -33,9 +33,9 @@ use Rattle.replay_form.proofs.Accepted.{cells-sized, accepted-named}
 use Rattle.replay_form.proofs.Taped as taped
 use Rattle.replay_tape.specs.Clocks.{recordPlaces, placesOf, flipsFrom, readSlot}
 use Rattle.replay_tape.proofs.Laws.Circuits.{Resting, read-inside, tape-read}
-use Rattle.replay_run.specs.Slots.{slotOr, writtenBy}
+use Rattle.replay_run.specs.Slots.{writtenBy}
 use Rattle.replay_run.specs.Places.{readIn}
-use Rattle.replay_run.specs.Leaves.{Marked, markOr}
+use Rattle.replay_run.specs.Leaves.{markOr}
 use Rattle.replay_run.specs.Lines.{LinesIn, LinesOut, linesRun}
 use Rattle.replay_run.proofs.Laws.Slots.{written-is, slot-read}
 use Rattle.replay_run.proofs.Laws.Counts.{length-flips, length-places, flips-inside, places-agree}

@@ -1,21 +1,18 @@
 -- The tape of a plan, and the lists. Assumes nothing.
 use Prim.Native.Nat.{ℕ, zero, suc, _+_, _-_, _^_, _≤_, _<_}
-use mathlib.Core.Path.{_≡_, refl, sym, _∙_, ap}
+use mathlib.Core.Path.{_≡_, refl, _∙_, ap}
 use mathlib.Core.List.{List, [], _∷_, _++_, append-nil}
 use native.Mathlib.Omega.{arith}
 use lib.ListN.{length, getD, take, drop, replicate, length-append, length-drop, length-replicate, getD-replicate}
 use lib.Seq.{length-take-le, getD-take, take-append-le, drop-at, drop-drop, drop-length, take-all}
 use Rattle.rules.specs.Graph.{graphOf, pinCount}
-use Rattle.rules.specs.Records.{groupsOf}
 use Rattle.graph.proofs.Gates.{graph-length}
-use Rattle.replay_form.specs.Clocks.{lineLeaves}
-use Rattle.replay_tape.specs.Plans.{PlanIn, PlanMade}
-use Rattle.replay_run.specs.Slots.{PlanAt, PlanRead, slotOr, writtenBy}
+use Rattle.replay_tape.specs.Plans.{PlanMade}
+use Rattle.replay_run.specs.Slots.{PlanAt, PlanRead}
 use Rattle.replay_run.specs.Places.{PlacesIn, PlacesPut}
-use Rattle.replay_run.specs.Leaves.{Marked, LeavesIn, LeavesPut}
+use Rattle.replay_run.specs.Leaves.{Marked, LeavesPut}
 use Rattle.replay_run.specs.Flips.{FlipsIn, FlipsPut}
 use Rattle.replay_run.proofs.Laws.Leaves.{marks-are, leaves-are}
-use Rattle.replay_plan.specs.declared.tape.Lists.{Lists}
 use Rattle.replay_plan.specs.Tape.{TapeIn, TapeOut, ListsIn, ListsOut}
 
 module _ (K m : ℕ) (plan words counts : List ℕ) (total : ℕ) (w l t : List ℕ) (I : TapeIn K m plan words counts total w l t) (w′ b t′ : List ℕ) (e : ℕ) (M : PlanMade K m plan w l t w′ b t′ e) where

@@ -2,13 +2,12 @@
 use Prim.Native.Nat.{ℕ, zero, suc, _+_, _-_, _*_, _≤_, _<_}
 use mathlib.Core.Path.{_≡_, refl, sym, _∙_, ap, ap₂}
 use mathlib.Core.Logic.{_⊎_, inl, inr, ⊎-elim}
-use mathlib.Core.Bool.{Bool, true, false}
 use mathlib.Core.List.{List, [], _∷_, _++_, append-assoc}
 use native.Mathlib.Omega.{arith}
 use native.Mathlib.Nat.{mul-suc}
 use lib.Dec.{eqb}
-use lib.ListN.{length, getD, set, take, drop, length-append, length-drop, length-set, length-map, take-append-drop}
-use lib.Seq.{take-all, length-take-le, getD-set-same, getD-set-other, getD-drop, drop-cons, drop-length, drop-drop, take-suc, take-nil, take-at, drop-at, take-length, drop-append-add}
+use lib.ListN.{length, getD, set, take, drop, length-drop, length-set, length-map}
+use lib.Seq.{take-all, length-take-le, getD-set-same, getD-set-other, getD-drop, drop-cons, drop-length, drop-drop, take-suc, take-nil, take-at, drop-at, take-length}
 use Rattle.rules.specs.Lists.{Found, nothing, found, sum}
 use Rattle.rules.specs.Fold.{firstAt}
 use Rattle.rules.specs.Coded.{cellPin, pins}

@@ -1,22 +1,21 @@
 -- A clock over slots is a clock of the definitions. Assumes nothing.
 use Prim.Native.Nat.{ℕ, zero, suc, _+_, _-_, _≤_, _<_}
 use mathlib.Core.Path.{_≡_, refl, sym, _∙_, ap, ap₂}
-use mathlib.Core.Bool.{Bool, true, false}
-use mathlib.Core.List.{List, [], _∷_, _++_, map}
+use mathlib.Core.Bool.{false}
+use mathlib.Core.List.{List, [], _∷_, _++_}
 use native.Mathlib.Omega.{arith}
 use lib.Dec.{eqb, ltb}
-use lib.ListN.{length, getD, set, take, drop, length-set, length-map, length-append, length-take, List·getD-append, List·getD-eq-default}
+use lib.ListN.{length, getD, set, take, drop, length-map, length-append, length-take, List·getD-append, List·getD-eq-default}
 use lib.Seq.{getD-set-same, getD-set-other, getD-take, length-take-le, ext-getD}
 use Rattle.rules.specs.Lists.{Found, nothing, found, mem, upTo, laidOver, padded}
 use Rattle.rules.specs.Cells.{empty, stageSize}
 use Rattle.rules.specs.Build.{Stage, cellsOf}
 use Rattle.rules.specs.Graph.{Node}
-use Rattle.rules.specs.Records.{Group}
 use Rattle.rules.specs.Fold.{asNumber}
 use borrow.Author.Tests.{ltb-true, ltb-false}
 use Rattle.rules.proofs.Lists.Lengths.{length-upTo}
 use Rattle.rules.proofs.Lists.Members.{split, true-false, eqb-true, eqb-false, mem-other}
-use Rattle.replay_form.specs.Clocks.{isOne, beside, lineLeaves, pinBits, handedOut, nextBits, Circuit, Valuation, Ran, clock}
+use Rattle.replay_form.specs.Clocks.{isOne, beside, lineLeaves, pinBits, handedOut, nextBits, Circuit, Valuation, clock}
 use Rattle.replay_form.specs.Plans.{writtenAt}
 use Rattle.replay_form.specs.Tape.{slotBit, entryBit, runTape, slotIn, Made, made, tapeBits}
 use Rattle.replay_form.proofs.Pins.{map-upTo}

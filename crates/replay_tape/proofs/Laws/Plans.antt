@@ -1,8 +1,7 @@
 -- A plan's slots and entries, stage after stage. Assumes nothing.
-use Prim.Native.Nat.{ℕ, zero, suc, _+_, _-_, _*_, _/_, _%_, _^_, _≤_, _<_}
+use Prim.Native.Nat.{ℕ, suc, _+_, _-_, _*_, _/_, _%_, _^_, _≤_, _<_}
 use mathlib.Core.Path.{_≡_, refl, sym, _∙_, ap, ap₂}
-use mathlib.Core.Bool.{Bool, true, false, _&&_}
-use mathlib.Core.List.{List, [], _∷_, _++_, append-assoc, append-nil}
+use mathlib.Core.List.{List, [], _++_, append-assoc, append-nil}
 use native.Mathlib.Omega.{arith}
 use native.Mathlib.Numerals.{add-one}
 use native.Mathlib.Nat.{mod-eq-of-lt, mod-eq-sub-mod, div-eq-sub-div, zero-div}
@@ -20,9 +19,8 @@ use Rattle.rules.proofs.Lists.Members.{split, eqb-true, eqb-false, true-false}
 use Rattle.rules.proofs.Stage.Puts.{cell}
 use Rattle.rules.proofs.Fold.Bits.{lowest-stands}
 use Rattle.coded.proofs.Bits.{pin-at}
-use Rattle.fold_stage.specs.Bits.{StageAt}
 use Rattle.fold_stage.specs.Loads.{seen, Spread}
-use Rattle.fold.specs.Stages.{Only, PlanAt, stageFrom}
+use Rattle.fold.specs.Stages.{Only, stageFrom}
 use Rattle.fold.proofs.Laws.Stages.{plan-stage, plan-up, plan-one}
 use Rattle.replay_form.specs.Tape.{Made, stageMade, laterSlot, firstSlot, madeFrom}
 use Rattle.replay_tape.specs.Running.{entriesOf, Below}

@@ -1,16 +1,15 @@
 -- A cell's source by what the code tests. Assumes nothing.
-use Prim.Native.Nat.{ℕ, zero, suc, _+_, _-_, _*_, _/_, _%_, _^_, _≤_, _<_}
-use mathlib.Core.Path.{_≡_, refl, sym, _∙_, ap, ap₂}
-use mathlib.Core.Bool.{Bool, true, false, _&&_}
-use mathlib.Core.List.{List, [], _∷_}
+use Prim.Native.Nat.{ℕ, _+_, _*_, _/_, _%_, _^_, _≤_, _<_}
+use mathlib.Core.Path.{_≡_, sym, _∙_, ap, ap₂}
+use mathlib.Core.Bool.{true, false, _&&_}
+use mathlib.Core.List.{List, []}
 use native.Mathlib.Omega.{arith}
-use lib.Dec.{leb, eqb, ltb}
 use lib.ListN.{length, getD, List·getD-eq-default}
-use borrow.Author.Tests.{eq-eqb, ne-eqb, le-leb, lt-leb, lt-ltb, le-ltb, leb-true, leb-false, ltb-true, ltb-false}
+use borrow.Author.Tests.{le-leb, lt-leb}
 use Rattle.rules.specs.Cells.{empty, filled, firstLower, secondLower}
 use Rattle.rules.specs.Graph.{leaf, gate, pinOf, literalOf}
 use Rattle.rules.specs.Coded.{cellPin, ands, firstInversion, secondInversion}
-use Rattle.rules.proofs.Lists.Members.{split, eqb-true}
+use Rattle.rules.proofs.Lists.Members.{split}
 use Rattle.rules.proofs.Fold.Bits.{lower-cells}
 use Rattle.fold_stage.proofs.Laws.Cells.{getD-inside}
 use Rattle.replay_form.specs.Tape.{Source, old, new, andSource, sourceAt}

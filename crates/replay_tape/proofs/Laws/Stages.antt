@@ -1,20 +1,20 @@
 -- A stage's slots and entries, from the highest position down. Assumes nothing.
 use Prim.Native.Nat.{ℕ, zero, suc, _+_, _-_, _*_, _^_, _≤_, _<_}
 use mathlib.Core.Path.{_≡_, refl, sym, _∙_, ap, ap₂}
-use mathlib.Core.Bool.{Bool, true, false}
+use mathlib.Core.Bool.{false}
 use mathlib.Core.List.{List, [], _∷_, _++_}
 use native.Mathlib.Omega.{arith}
-use lib.Dec.{leb, eqb, ltb}
-use lib.ListN.{length, getD, set, take, drop, length-set}
-use lib.Seq.{getD-set-same, getD-set-other, getD-take, getD-drop, drop-cons, drop-set-lt, drop-length}
+use lib.Dec.{eqb, ltb}
+use lib.ListN.{length, getD, set, drop, length-set}
+use lib.Seq.{getD-set-same, getD-set-other, getD-drop, drop-cons, drop-set-lt, drop-length}
 use borrow.Author.Tests.{ltb-true, ltb-false}
 use Rattle.rules.specs.Cells.{empty, filled}
-use Rattle.rules.specs.Graph.{Node, gate, pinOf}
+use Rattle.rules.specs.Graph.{Node, gate}
 use Rattle.rules.specs.Coded.{cellPin}
 use Rattle.rules.proofs.Lists.Members.{split, eqb-true, eqb-false}
 use Rattle.rules.proofs.Fold.Bits.{lower-cells}
 use Rattle.coded.proofs.Cells.{pin-empty}
-use Rattle.fold_stage.specs.Bits.{StageAt, UpAt}
+use Rattle.fold_stage.specs.Bits.{UpAt}
 use Rattle.fold_stage.proofs.Laws.Cells.{getD-inside}
 use Rattle.replay_form.specs.Tape.{Source, old, new, sourceAt, Made, put, scan, stageMade}
 use Rattle.replay_tape.specs.declared.sources.Source as code
