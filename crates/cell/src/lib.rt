@@ -2,9 +2,11 @@
 use graph::EMPTY;
 use graph::Pin;
 ghost use mathlib.Core.Path.{_≡_};
-ghost use mathlib.Core.Bool.{not};
-ghost use Prim.Native.Nat.{_<_};
+ghost use mathlib.Core.Bool.{not, _&&_, _||_};
+ghost use Prim.Native.Nat.{_+_, _*_, _/_, _%_, _<_};
+ghost use lib.Dec.{ltb};
 ghost use Rattle.rules.specs.Cells.{empty, filled};
+ghost use Rattle.rules.specs.Fold.{asNumber};
 ghost use Rattle.rules.specs.Coded.{cellPin, ands, firstInversion, secondInversion, andOf};
 
 pub struct Cell(pub u32);
@@ -65,5 +67,37 @@ impl Cell {
         ensures { λ r. ⌜ r .0 ≡ andOf (pin .0) first second ⌝ }
     {
         Cell(pin.0 + 65536 + 131072 * first + 262144 * second)
+    }
+
+    // What a cell does, as the three bits behind its pin: AND, first inversion, second.
+    pub fn does(self) -> u32
+        ensures { λ r. ⌜ r ≡ 4 * asNumber (ands (self .0)) + 2 * firstInversion (self .0) + secondInversion (self .0) ⌝ }
+    {
+        4 * (self.0 / 65536 % 2) + 2 * (self.0 / 131072 % 2) + self.0 / 262144 % 2
+    }
+
+    // The cell of a pin and such bits.
+    pub fn of_parts(pin: Pin, does: u32) -> Cell
+        requires { ⌜ pin .0 < 65536 ⌝ }
+        requires { ⌜ does < 8 ⌝ }
+        ensures { λ r. ⌜ r .0 ≡ pin .0 + 65536 * (does / 4) + 131072 * (does / 2 % 2) + 262144 * (does % 2) ⌝ }
+    {
+        Cell(pin.0 + 65536 * (does / 4) + 131072 * (does / 2 % 2) + 262144 * (does % 2))
+    }
+
+    // Is the number a filled cell: a pin above 0, and inversions with an AND only?
+    pub fn is_cell(self) -> bool
+        ensures { λ r. ⌜ r ≡ ltb 0 (cellPin (self .0)) && ltb (self .0) 524288 && (ltb (self .0) 65536 || ands (self .0)) ⌝ }
+    {
+        if 524288 <= self.0 {
+            return false;
+        }
+        if self.0 % 65536 == 0 {
+            return false;
+        }
+        if self.0 < 65536 {
+            return true;
+        }
+        self.0 / 65536 % 2 == 1
     }
 }

@@ -15,12 +15,15 @@ use Rattle.rules.specs.Job.{bitsOf, Read, cut, got, isPadding, File?, noFile, f
 use Rattle.rules.proofs.Lists.Members.{split, and-true}
 use Rattle.rules.proofs.Job.Bits.{Bytes}
 use Rattle.rules.proofs.Build.Lengths.{Sized}
-use Rattle.sheet_form.specs.Forms.{Form}
-use Rattle.sheet_form.specs.Sheets.{Sheet, stageFits, stagesFit, writeSheet, Sheet?, refused, sheet, readBody, accept, readSheet}
+use Rattle.sheet_form.specs.Forms.{Form, sheetTwo}
+use Rattle.sheet_form.specs.Sheets.{Sheet, stageFits, stagesFit, sheetBytes, writeSheet, Sheet?, refused, sheet, readBody, accept, readSheet}
+use Rattle.sheet_form.specs.Lifting.{readEither}
 use Rattle.sheet_form.specs.Calls.{Areas, stagesIn, stand, sheetOf, sheetIn, unwritten, into, writer, Loaded, unread, roomy, areasWith, from, reader}
-use Rattle.sheet_form.proofs.Cells.{Sound}
 use Rattle.sheet_form.proofs.Stages.{stage-fits}
-use Rattle.sheet_form.proofs.Sheets.{no-sheet, wrote, read-written, only-written}
+use Rattle.sheet_form.proofs.Sheets.{no-sheet, wrote, is-held}
+use Rattle.sheet_form.proofs.Forms as forms
+use Rattle.sheet_form.proofs.Forms.{two-read, two-only}
+use Rattle.sheet_form.proofs.Either.{as-two, two-either, either-held}
 use Rattle.sheet_form.proofs.Calls.{sheet-in}
 
 -- ---- the stages that areas hold
@@ -80,28 +83,29 @@ front-padded : (m x : ℕ) (xs ys : List ℕ) (k : ℕ) → length xs ≡ k → 
 unfolding laidOver padded
 front-padded m x xs ys k e = rw (append-assoc xs (replicate (m - length xs) x) (drop (length (xs ++ replicate (m - length xs) x)) ys)) (take-at xs _ k e)
 
-module _ (F : Form) (S : Sound F) (K n : ℕ) (a : Areas) where
-  from-file : (bs : List ℕ) → sheetIn F K n a ≡ file bs → writeSheet F (sheetOf K n a) ≡ file bs
+module _ (K n : ℕ) (a : Areas) where
+  from-file : (bs : List ℕ) → sheetIn sheetTwo K n a ≡ file bs → writeSheet sheetTwo (sheetOf K n a) ≡ file bs
   unfolding sheetIn
   from-file bs e = split (stand K n a) (λ t. rw (t, sheetIn) at e) (λ t. no-file (rw (t, sheetIn) at e))
 
-  -- What was written, read again into any areas, gives the height and the stages that were written.
-  pub read-back : (xs : List ℕ) → writer F K n a xs .number ≡ 0 → (b : Areas) → reader F (take (writer F K n a xs .length) (writer F K n a xs .bytes)) b ≡ from (sheet (sheetOf K n a)) b
+  -- What was written, read again with any graph or none into any areas, gives the height and the stages that were written.
+  pub read-back : (xs : List ℕ) → writer sheetTwo K n a xs .number ≡ 0 → (gates : List ℕ) (b : Areas) →
+      reader gates (take (writer sheetTwo K n a xs .length) (writer sheetTwo K n a xs .bytes)) b ≡ from (sheet (sheetOf K n a)) b
   unfolding writer into unwritten laidOver reader
-  read-back xs z b = by (sheetIn F K n a) refl z
+  read-back xs z gates b = by (sheetIn sheetTwo K n a) refl z
     where
-      by : (f : File?) → sheetIn F K n a ≡ f → into f xs .number ≡ 0 → reader F (take (into f xs .length) (into f xs .bytes)) b ≡ from (sheet (sheetOf K n a)) b
+      by : (f : File?) → sheetIn sheetTwo K n a ≡ f → into f xs .number ≡ 0 → reader gates (take (into f xs .length) (into f xs .bytes)) b ≡ from (sheet (sheetOf K n a)) b
       by noFile e y = absurd (omega arith)
       by (file bs) e y = split (leb (length bs) (length xs))
-          (λ t. let k = take-at bs (drop (length bs) xs) (length bs) refl in rw (t, into, k, read-written F S (sheetOf K n a) bs (from-file bs e)))
+          (λ t. let k = take-at bs (drop (length bs) xs) (length bs) refl in rw (t, into, k, two-either gates bs (sheetOf K n a) (two-read (sheetOf K n a) bs (from-file bs e))))
           (λ t. absurd (let q : 17 ≡ 0 = rw (t, into) at y in omega arith))
 
-  stands-written : (xs : List ℕ) → writer F K n a xs .number ≡ 0 → Stand K n (a .plan) (a .words) (a .counts)
+  stands-written : (xs : List ℕ) → writer sheetTwo K n a xs .number ≡ 0 → Stand K n (a .plan) (a .words) (a .counts)
   unfolding writer into unwritten sheetIn
   stands-written xs z = split (stand K n a) (λ t. stand-is K n a t) (λ t. absurd (let q : 15 ≡ 0 = rw (t, sheetIn) at z in omega arith))
 
   -- So it gives the same height, stages, plan, words and counts.
-  pub read-same : (xs : List ℕ) → writer F K n a xs .number ≡ 0 → (b : Areas) → from (sheet (sheetOf K n a)) b .reply .number ≡ 0 → Same K n a (from (sheet (sheetOf K n a)) b)
+  pub read-same : (xs : List ℕ) → writer sheetTwo K n a xs .number ≡ 0 → (b : Areas) → from (sheet (sheetOf K n a)) b .reply .number ≡ 0 → Same K n a (from (sheet (sheetOf K n a)) b)
   unfolding from unread areasWith
   read-same xs z b y =
       let S = stands-written xs z in
@@ -153,18 +157,34 @@ refused-some F (b ∷ bs) n e z = split (eqb b (F .number))
         (λ t. no-sheet (sym (rw (t, accept) at d)))
         (λ t. let c : refused 15 ≡ refused n = rw (t, accept) at d in let q : 15 ≡ n = cc in omega arith)
 
-module _ (F : Form) (S : Sound F) (bs : List ℕ) (B : Bytes bs) (a : Areas) where
-  -- Whatever was read, writing it from the areas that reading left gives the same bytes.
-  pub write-back : reader F bs a .reply .number ≡ 0 → (xs : List ℕ) →
-      writer F (reader F bs a .reply .height) (reader F bs a .reply .stages) (reader F bs a .areas) xs ≡ into (file bs) xs
+module _ (gates bs : List ℕ) (B : Bytes bs) (two : getD bs 0 0 ≡ 2) (a : Areas) where
+  -- Whatever sheet 2 was read, writing it from the areas that reading left gives the same bytes.
+  pub write-back : reader gates bs a .reply .number ≡ 0 → (xs : List ℕ) →
+      writer sheetTwo (reader gates bs a .reply .height) (reader gates bs a .reply .stages) (reader gates bs a .areas) xs ≡ into (file bs) xs
   unfolding reader from unread writer
-  write-back z xs = by (readSheet F bs) refl z
+  write-back z xs = by (readEither gates bs) refl z
     where
-      by : (r : Sheet?) → readSheet F bs ≡ r → from r a .reply .number ≡ 0 → writer F (from r a .reply .height) (from r a .reply .stages) (from r a .areas) xs ≡ into (file bs) xs
-      by (refused n) e y = absurd (refused-some F bs n e y)
+      is : readEither gates bs ≡ readSheet sheetTwo bs
+      is = as-two gates bs (λ y. omega arith)
+
+      by : (r : Sheet?) → readEither gates bs ≡ r → from r a .reply .number ≡ 0 → writer sheetTwo (from r a .reply .height) (from r a .reply .stages) (from r a .areas) xs ≡ into (file bs) xs
+      by (refused n) e y = absurd (refused-some sheetTwo bs n (sym is ∙ e) y)
       by (sheet T) e y = split (roomy T a)
           (λ t.
-          let w = only-written F S T bs B e in
-          let q = areas-with F T a (fits-sized F (T .height) (T .stages) (wrote F S T bs w .held .stages)) in
+          let w = two-only T bs B (sym is ∙ e) in
+          let q = areas-with sheetTwo T a (fits-sized sheetTwo (T .height) (T .stages) (wrote sheetTwo forms.two T bs w .held .stages)) in
           rw (t, from, q, w))
           (λ t. absurd (let q : 17 ≡ 0 = rw (t, from) at y in omega arith))
+
+-- Whatever was read, of either sheet, can be written: the areas that reading left are refused with 17 only.
+module _ (gates bs : List ℕ) (B : Bytes bs) (a : Areas) where
+  pub write-read : (T : Sheet) → readEither gates bs ≡ sheet T → reader gates bs a .reply .number ≡ 0 → (xs : List ℕ) →
+      writer sheetTwo (reader gates bs a .reply .height) (reader gates bs a .reply .stages) (reader gates bs a .areas) xs ≡ into (file (sheetBytes sheetTwo T)) xs
+  unfolding reader from unread writer writeSheet
+  write-read T e y xs =
+      let H = either-held gates bs T B e in
+      let q = areas-with sheetTwo T a (fits-sized sheetTwo (T .height) (T .stages) (H .stages)) in
+      let z : from (sheet T) a .reply .number ≡ 0 = rw e at y in
+      split (roomy T a)
+      (λ t. rw (e, from, t, q, is-held sheetTwo T H, writeSheet))
+      (λ t. absurd (let q : 17 ≡ 0 = rw (t, from) at z in omega arith))

@@ -1,99 +1,105 @@
--- What the placer builds whole can be written. Assumes nothing.
+-- What the placer builds: sheet 1 holds its pins, the graph codes them, and so sheet 2 holds its cells. Assumes nothing.
 use Prim.Native.Nat.{ℕ, zero, suc, _+_, _-_, _^_, _≤_, _<_}
-use mathlib.Core.Path.{_≡_, refl}
+use mathlib.Core.Path.{_≡_, refl, sym, ap, _∙_}
 use mathlib.Core.Logic.{_⊎_, inl, inr}
-use mathlib.Core.Bool.{Bool, true}
-use mathlib.Core.List.{List, [], _∷_, _++_}
+use mathlib.Core.Bool.{Bool, true, false, not, _&&_, _||_}
+use mathlib.Core.List.{List, [], _∷_}
 use native.Mathlib.Omega.{arith}
-use lib.Dec.{ltb, leb}
-use lib.ListN.{length, getD, drop, length-append}
+use lib.Dec.{leb, ltb, eqb}
+use lib.ListN.{length, getD, drop}
 use lib.Pow.{pow-mono}
 use lib.Seq.{getD-drop}
-use borrow.Author.Tests.{lt-ltb, ltb-true, le-leb, leb-true}
-use Rattle.rules.specs.Lists.{every, keep, In}
-use Rattle.rules.specs.Cells.{empty, filled, isHeight, wordLimit}
-use Rattle.rules.specs.Graph.{Node, leaf, gate, pinOf, operands, graphOf, below}
-use Rattle.rules.specs.Loops.{Valid, From, start, step}
-use Rattle.rules.specs.Records.{Group, endpointsOf, waitingOf, groupsOf, Ends}
+use borrow.Author.Tests.{lt-ltb, le-leb, leb-true, leb-false, eq-eqb}
+use Rattle.rules.specs.Lists.{In}
+use Rattle.rules.specs.Cells.{empty, filled, isHeight, wordLimit, firstLower}
+use Rattle.rules.specs.Graph.{Node, leaf, gate}
+use Rattle.rules.specs.Loops.{Valid}
+use Rattle.rules.specs.Records.{Group, waitingOf, Ends}
 use Rattle.rules.specs.Reservation.{reserved}
-use Rattle.rules.specs.Traversal.{WordRule, Setting, setting}
-use Rattle.rules.specs.Ending.{stage, oneStage}
-use Rattle.rules.specs.Build.{Stage, refusal, whole, stages, build, wordsOf}
-use Rattle.rules.specs.Fold.{firstLoad}
+use Rattle.rules.specs.Traversal.{WordRule}
+use Rattle.rules.specs.Placing.{tree}
+use Rattle.rules.specs.Build.{Stage, whole, build, codedStages}
+use Rattle.rules.specs.Fold.{isLeaf}
 use Rattle.rules.specs.Depth.{remaining}
-use Rattle.rules.specs.Inside.Walks.{rank, Sound, Graph, Ready}
-use Rattle.rules.proofs.Lists.Members.{split, and-true, in-cons, in-nil, in-here, keep-in, insertAll-in}
+use Rattle.rules.specs.Inside.Walks.{rank, Graph, Ready}
+use Rattle.rules.proofs.Lists.Members.{split, true-false, in-nil, in-here}
 use Rattle.rules.proofs.Loops.{loopless-no, rank-fewer}
-use Rattle.rules.proofs.Walk.Reverse.{below-in}
-use Rattle.rules.proofs.Needed.Needs.{setting-sound, falls-always}
-use Rattle.rules.proofs.Stage.Staged.{the-end, waits-less, remaining-least}
-use Rattle.rules.proofs.Stage.Depth.{still-ready, stage-cases}
-use Rattle.rules.proofs.Tree.Invariant.{final}
-use Rattle.rules.proofs.Tree.Loads.{Fine, fine-kept, fine-first}
-use Rattle.rules.proofs.Written.Writes.{more-whole}
+use Rattle.rules.proofs.Needed.Needs.{falls-always}
+use Rattle.rules.proofs.Stage.Staged.{remaining-least}
+use Rattle.rules.proofs.Build.Above.{Above, below-above, waits-above}
 use Rattle.rules.proofs.Build.Bounds.{depth-rank, stages-few}
-use Rattle.rules.proofs.Demand.{Right, graph, ready, whole-stages, whole-right, whole-sizes}
-use Rattle.sheet_form.specs.Forms.{Form, fitsOne, sheetOne}
-use Rattle.sheet_form.specs.Sheets.{cellFits, cellsFit, wordFits, stagesFit}
+use Rattle.rules.proofs.Demand.{graph, ready, whole-stages}
+use Rattle.coded.proofs.Shapes.{Acts, copies, joins, Shape, Shapes, whole-shapes}
+use Rattle.sheet_form.specs.Forms.{sheetOne, sheetTwo}
+use Rattle.sheet_form.specs.Sheets.{Sheet, stageFits, stagesFit}
+use Rattle.sheet_form.specs.Lifting.{liftsAt, stageLifts, stagesLift}
+use Rattle.sheet_form.proofs.Cells.{cells-fit, fits-filled}
 use Rattle.sheet_form.proofs.Stages.{fits-stage}
 use Rattle.sheet_form.proofs.Sheets.{Held}
-use Rattle.sheet_form.proofs.Words.{words-low}
+use Rattle.sheet_form.proofs.Forms.{one-fits}
+use Rattle.sheet_form.proofs.Lifting.{at-lifts, liftSheet, lift-held}
 
--- cells that fit one by one
-cells-fit : (F : Form) (K p : ℕ) (cs : List ℕ) → ((i : ℕ) → filled (getD cs i empty) ≡ true → F .fits K (p + i) (getD cs i empty) ≡ true) → cellsFit F K p cs ≡ true
-unfolding cellsFit cellFits
-cells-fit F K p [] h = refl
-cells-fit F K p (c ∷ cs) h =
-    let z : p + 0 ≡ p = omega arith in
-    let r : cellsFit F K (suc p) cs ≡ true = cells-fit F K (suc p) cs (λ i t. let e : p + suc i ≡ suc p + i = omega arith in rw e at (h (suc i) t)) in
-    split (filled c) (λ t. let f : F .fits K p c ≡ true = rw z at (h 0 t) in rw (t, cellFits, f, r)) (λ t. rw (t, cellFits, r))
+or-true : (a : Bool) → a || true ≡ true
+or-true true = refl
+or-true false = refl
 
--- what is asked beyond size, position 0 and names: pins above 0, words below W
-record Good (K : ℕ) (s : Stage) : Type 0 where
-  above : (q : ℕ) → filled (getD (s .plan) q empty) ≡ true → 0 < getD (s .plan) q empty
-  words : every (wordFits K) (s .words) ≡ true
+-- ---- a stage of a build
 
-abbrev AllGood : ℕ → List Stage → Type 0
-AllGood K [] = Unit {0}
-AllGood K (s ∷ ss) = Good K s × AllGood K ss
+module _ (K : ℕ) (g : List Node) (given : List ℕ) (held : ℕ → Type 0) (room : ℕ) (s : Stage) (H : Shape K g given held room s) where
+  -- sheet 1 holds its pins
+  shape-fits : length g ≤ 65536 → room ≤ 65535 → stageFits sheetOne K s ≡ true
+  shape-fits few l = fits-stage sheetOne K s (record {
+    size = H .size;
+    zeroth = H .zeroth;
+    few = le-leb (length (s .words)) 65535 (omega (arith, H .fits));
+    words = H .words;
+    cells = cells-fit sheetOne K 1 (drop 1 (s .plan)) (λ i b.
+        rw (getD-drop 1 (s .plan) i empty)
+        (fits-filled sheetOne K (1 + i) (getD (s .plan) (1 + i) empty) (λ f. let n = H .names (1 + i) f in one-fits K (1 + i) (getD (s .plan) (1 + i) empty) (n .0) (omega (arith, n .1)))));
+  })
+
+  does-lift : (p : ℕ) → filled (getD (s .plan) p empty) ≡ true → Acts g given (s .plan) p → (eqb (getD (s .plan) (firstLower p) empty) (getD (s .plan) p empty) || not (isLeaf (getD g (getD (s .plan) p empty) leaf))) ≡ true
+  unfolding isLeaf
+  does-lift p f (copies e) = rw (eq-eqb (getD (s .plan) (firstLower p) empty) (getD (s .plan) p empty) e)
+  does-lift p f (joins a b o e u v) = rw e (or-true (eqb (getD (s .plan) (firstLower p) empty) (getD (s .plan) p empty)))
+
+  some : (p : ℕ) → filled (getD (s .plan) p empty) ≡ true → 1 ≤ p
+  some zero f = true-false f (H .zeroth)
+  some (suc p) f = omega arith
+
+  lifts : (p : ℕ) → liftsAt K g (s .plan) p ≡ true
+  unfolding liftsAt
+  lifts p = split (filled (getD (s .plan) p empty))
+      (λ f.
+      let n = lt-ltb (getD (s .plan) p empty) (length g) (H .names p f .1) in
+      split (leb (2 ^ K) p)
+      (λ t. rw (f, liftsAt, n, t))
+      (λ t. rw (f, liftsAt, n, t) (does-lift p f (H .acts p (some p f) (leb-false (2 ^ K) p t) f))))
+      (λ f. rw (f, liftsAt))
+
+  -- and the graph codes them
+  shape-lifts : stageLifts K g (s .plan) ≡ true
+  shape-lifts = at-lifts K g (s .plan) (λ p h. lifts p)
+
+-- ---- every stage
+
+module _ (K : ℕ) (g : List Node) (given : List ℕ) where
+  shapes-fit : (held : ℕ → Type 0) (room : ℕ) (ss : List Stage) → Shapes K g given held room ss → length g ≤ 65536 → room ≤ 65535 → stagesFit sheetOne K ss ≡ true
+  unfolding stagesFit
+  shapes-fit held room [] H few l = refl
+  shapes-fit held room (s ∷ ss) H few l = rw (shape-fits K g given held room s (H .0) few l) (shapes-fit _ _ ss (H .1) few (omega arith))
+
+  shapes-lift : (held : ℕ → Type 0) (room : ℕ) (ss : List Stage) → Shapes K g given held room ss → stagesLift K g ss ≡ true
+  unfolding stagesLift
+  shapes-lift held room [] H = refl
+  shapes-lift held room (s ∷ ss) H = rw (shape-lifts K g given held room s (H .0)) (shapes-lift _ _ ss (H .1))
 
 module _ (rule : WordRule) (K : ℕ) (g : List Node) (ok : Valid g) (A : Above g) (tall : 6 ≤ K) (small : length g ≤ empty) where
-  low : 1 ≤ K
-  low = omega arith
-
   abbrev r : ℕ → ℕ
   r p = rank g p
 
   G : Graph g r
   G = graph g ok
-
-  one-good : (done waiting : List ℕ) → Ready g r waiting → ((x : ℕ) → In x waiting → 0 < x) → (room : ℕ) (plan2 words realised waiting2 : List ℕ) → oneStage rule K g done waiting room ≡ stage plan2 words realised waiting2 →
-      Good K (record { plan = plan2; words = words })
-  unfolding setting
-  one-good done waiting R b room plan2 words realised waiting2 d =
-      let X : Setting = setting rule K g done waiting in
-      let S : Sound X r (length g) = setting-sound rule K g r G done waiting (R .bounded) in
-      let E = the-end rule K g r G low small done waiting (R .bounded) room plan2 words realised waiting2 d in
-      let fine = final X r (length g) S low (Fine X r (length g) S) (fine-kept X r (length g) S) (fine-first X r (length g) S (2 ^ (K + 1))) plan2 (E .rested) in
-      record {
-        above = λ q k. elim (S .visited .new (getD plan2 q empty) (fine .1 q k .0)) [ inl a ↦ in-nil (getD plan2 q empty) a | inr f ↦ from-above g A done waiting b f ];
-        words = words-low rule K tall g done waiting room plan2 words realised waiting2 d;
-      }
-
-  goods : (rooms k : ℕ) (done waiting : List ℕ) → Ready g r waiting → ((x : ℕ) → In x waiting → 0 < x) → (room : ℕ) (ss : List Stage) → stages rule K g rooms k done waiting room ≡ whole ss → AllGood K ss
-  unfolding stages
-  goods zero k done [] R b room ss e = let z : ss ≡ [] = cc in rw z tt
-  goods zero k done (w ∷ ws) R b room ss e = absurd (let z : _≡_ {A = ℕ} 0 1 = cc in omega arith)
-  goods (suc rooms) k done [] R b room ss e = let z : ss ≡ [] = cc in rw z tt
-  goods (suc rooms) k done (w ∷ ws) R b room ss e = stage-cases (oneStage rule K g done (w ∷ ws) room)
-      (λ n d. absurd (let c : refusal n k ≡ whole ss = rw (d, stages) at e in let z : _≡_ {A = ℕ} 0 1 = cc in omega arith))
-      (λ plan2 words realised waiting2 d.
-      let m = more-whole rule K g r G tall small (record { plan = plan2; words = words }) (stages rule K g rooms (suc k) (realised ++ done) waiting2 (room - length words)) ss (rw (d, stages) at e) in
-      rw (m .2) (
-        one-good done (w ∷ ws) R b room plan2 words realised waiting2 d,
-        goods rooms (suc k) (realised ++ done) waiting2 (still-ready rule K g r G tall small done (w ∷ ws) R room plan2 words realised waiting2 d)
-            (λ x i. b x (waits-less rule K g r G low small done (w ∷ ws) (R .bounded) room plan2 words realised waiting2 d x i)) (room - length words) (m .0) (m .1),
-      ))
 
   -- a pin above 0 has at most N - 1 pins under it
   rank-less : (x : ℕ) → 0 < x → x < length g → suc (rank g x) < length g
@@ -116,37 +122,28 @@ module _ (rule : WordRule) (K : ℕ) (g : List Node) (ok : Valid g) (A : Above g
         (λ x i. omega (arith, depth-rank g given r (falls-always g r G given) (length g) x, rank-less x (a x i) (b x i))) in
         inr (omega (arith, rank-less w (a w (in-here w ws)) (b w (in-here w ws))))
 
-    -- at most one stage a pin, the constant left out
-    pub few-stages : (rooms : ℕ) (ss : List Stage) → build rule K g given groups rooms ≡ whole ss → length ss ≤ length g - 1
-    few-stages rooms ss e = stages-few rule K g r G tall small rooms 1 given waiting R (wordLimit K - reserved groups) (length g - 1) (deep waiting (λ x i. R .bounded x i .0) all-above) ss (whole-stages rule K g ok tall small given [] groups named rooms ss e)
+    module _ (rooms : ℕ) (ss : List Stage) (e : build rule K g given groups rooms ≡ whole ss) where
+      -- at most one stage a pin, the constant left out
+      pub few-stages : length ss ≤ length g - 1
+      few-stages = stages-few rule K g r G tall small rooms 1 given waiting R (wordLimit K - reserved groups) (length g - 1) (deep waiting (λ x i. R .bounded x i .0) all-above) ss (whole-stages rule K g ok tall small given [] groups named rooms ss e)
 
-    -- every stage fits
-    fits : (load : ℕ → Bool) (held : ℕ → Type 0) (ss : List Stage) → length g ≤ 65536 → length (wordsOf ss) ≤ 256 → Right K g given [] load held ss → AllGood K ss → stagesFit sheetOne K ss ≡ true
-    unfolding stagesFit wordsOf fitsOne
-    fits load held [] n l Q a = refl
-    fits load held (s ∷ ss) n l Q a =
-        let one = fits-stage sheetOne K s (record {
-          size = Q .0 .size;
-          zeroth = Q .0 .zeroth;
-          few = le-leb (length (s .words)) 65535 (omega (arith, length-append (s .words) (wordsOf ss)));
-          words = a .0 .words;
-          cells = cells-fit sheetOne K 1 (drop 1 (s .plan)) (λ i t.
-              let e = getD-drop 1 (s .plan) i empty in
-              let f : filled (getD (s .plan) (1 + i) empty) ≡ true = rw e at t in
-              rw (e, lt-ltb 0 (getD (s .plan) (1 + i) empty) (a .0 .above (1 + i) f), lt-ltb (getD (s .plan) (1 + i) empty) 65536 (omega (arith, Q .0 .names (1 + i) f))));
-        }) in
-        rw one (fits _ _ ss n (omega (arith, length-append (s .words) (wordsOf ss))) (Q .1) (a .1))
+      shapes : Shapes K g given (λ n. In n given ⊎ (getD g n leaf ≡ leaf)) (wordLimit K - reserved groups) ss
+      shapes = whole-shapes rule K g ok A tall small given groups named rooms ss e
 
-    goods-built : (rooms : ℕ) (ss : List Stage) → build rule K g given groups rooms ≡ whole ss → AllGood K ss
-    goods-built rooms ss e = goods rooms 1 given waiting R all-above (wordLimit K - reserved groups) ss (whole-stages rule K g ok tall small given [] groups named rooms ss e)
+      -- the graph codes what the placer builds whole
+      pub built-lifts : stagesLift K g ss ≡ true
+      built-lifts = shapes-lift K g given _ _ ss shapes
 
-    -- a sheet holds what the placer builds whole
-    pub built-held : K ≤ 13 → length g ≤ 65536 → (rooms : ℕ) (ss : List Stage) → build rule K g given groups rooms ≡ whole ss → Held sheetOne (record { height = K; stages = ss })
-    unfolding isHeight wordLimit
-    built-held t n rooms ss e = record {
-      height = rw (le-leb 6 K tall, le-leb K 13 t);
-      few = le-leb (length ss) 65535 (omega (arith, few-stages rooms ss e));
-      stages = fits (firstLoad g given []) (λ n. In n given ⊎ (getD g n leaf ≡ leaf)) ss n (omega (arith, whole-sizes rule K g ok tall small given [] groups named rooms ss e .words, pow-mono {i = K - 5} {j = 8} (omega arith)))
-          (whole-right rule K g ok tall small given [] groups named rooms ss e)
-          (goods-built rooms ss e);
-    }
+      module _ (flat : K ≤ 13) (few : length g ≤ 65536) where
+        -- sheet 1 holds its pins
+        pub pins-held : Held sheetOne (record { height = K; stages = ss })
+        unfolding isHeight wordLimit
+        pins-held = record {
+          height = rw (le-leb 6 K tall, le-leb K 13 flat);
+          few = le-leb (length ss) 65535 (omega (arith, few-stages));
+          stages = shapes-fit K g given _ _ ss shapes few (omega (arith, pow-mono {i = K - 5} {j = 8} (omega arith)));
+        }
+
+        -- and sheet 2 its cells
+        pub built-held : Held sheetTwo (liftSheet g (record { height = K; stages = ss }))
+        built-held = lift-held g (record { height = K; stages = ss }) pins-held built-lifts

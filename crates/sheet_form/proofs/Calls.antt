@@ -6,7 +6,7 @@ use mathlib.Core.List.{List, [], _∷_, _++_, append-assoc, append-nil}
 use native.Mathlib.Nat.{mul-le-mul-left, div-add-mod', le-div-iff-mul-le}
 use native.Mathlib.Omega.{arith}
 use lib.Dec.{leb}
-use lib.ListN.{length, take, drop, replicate, length-append, drop-of-length-le}
+use lib.ListN.{length, getD, take, drop, replicate, length-append, drop-of-length-le}
 use lib.Pow.{pow-add, pow-pos}
 use lib.Seq.{take-at, drop-at}
 use borrow.Author.Tests.{le-leb, leb-true, eqb-true}
@@ -17,22 +17,25 @@ use Rattle.rules.specs.Records.{groupsOf, Ends}
 use Rattle.rules.specs.Traversal.{WordRule}
 use Rattle.rules.specs.Checks.{planSized, areasSized, workSize, refusalOf}
 use Rattle.rules.specs.Build as build
-use Rattle.rules.specs.Build.{Stage, whole, cellsOf, wordsOf, countsOf, areasAfter}
+use Rattle.rules.specs.Build.{Stage, whole, cellsOf, wordsOf, countsOf, areasAfter, codedStages}
 use Rattle.rules.specs.Job.{file}
 use Rattle.rules.proofs.Lists.Members.{and-true}
 use Rattle.rules.proofs.Build.Lengths.{Sized, length-padded}
-use Rattle.rules.proofs.Demand.{whole-sizes, whole-sized}
+use Rattle.rules.proofs.Build.Above.{Above}
+use Rattle.rules.proofs.Build.Coding.{stages-coded, words-coded, sized-coded}
+use Rattle.rules.proofs.Demand.{whole-sizes}
 use Rattle.checks.specs.Passed.{Passed}
 use Rattle.checks.proofs.Laws.Passed.{passed}
-use Rattle.sheet_form.specs.Forms.{Form, sheetOne}
-use Rattle.sheet_form.specs.Sheets.{Sheet, sheetBytes, writeSheet, Sheet?, sheet}
+use Rattle.sheet_form.specs.Forms.{Form, behindPin, sheetOne, sheetTwo}
+use Rattle.sheet_form.specs.Sheets.{Sheet, sheetBytes, writeSheet, sheet}
+use Rattle.sheet_form.specs.Lifting.{readEither}
 use Rattle.sheet_form.specs.Calls.{Areas, stagesIn, stand, sheetIn, into, writer, roomy, areasWith, from, reader}
-use Rattle.sheet_form.proofs.Cells.{Sound}
-use Rattle.sheet_form.proofs.Sheets.{is-held, read-written}
+use Rattle.sheet_form.proofs.Sheets.{is-held}
 use Rattle.sheet_form.proofs.Forms as forms
 use Rattle.sheet_form.proofs.Sizes.{sheet-short}
 use Rattle.sheet_form.proofs.Stages.{tall}
-use Rattle.sheet_form.proofs.Built.{Above, built-held}
+use Rattle.sheet_form.proofs.Built.{built-lifts, pins-held, built-held}
+use Rattle.sheet_form.proofs.Either.{two-either, one-either}
 
 -- ---- stages as they stand in areas
 
@@ -106,12 +109,6 @@ after-in F K need ss z a =
 
 -- ---- loading what was saved
 
-module _ (F : Form) (S : Sound F) (T : Sheet) (bs : List ℕ) (e : writeSheet F T ≡ file bs) where
-  -- What was saved is loaded, where the areas have room.
-  pub reader-written : (a : Areas) → reader F bs a ≡ from (sheet T) a
-  unfolding reader
-  reader-written a = ap (λ (r : Sheet?). from r a) (read-written F S T bs e)
-
 laid-all : (xs ys : List ℕ) → length xs ≡ length ys → laidOver xs ys ≡ xs
 unfolding laidOver
 laid-all xs ys l = ap (λ (r : List ℕ). xs ++ r) (drop-of-length-le ys {i = length xs} (omega arith)) ∙ append-nil xs
@@ -160,17 +157,33 @@ module _ (rule : WordRule) (K : ℕ) (gates given records : List ℕ) (a : build
   high : (6 ≤ K) × (K ≤ 13)
   high = tall K (P .height)
 
+  few : length g ≤ 65536
+  few = omega (arith, P .few, P .pins)
+
   is-whole : build.build rule K g given (groupsOf records) (rooms K (length (a .plan))) ≡ whole ss
   is-whole = unfold build.answerOf in e
 
-  -- its height and stages
+  -- its height and stages of pins
+  abbrev pub pinned : Sheet
+  pinned = record { height = K; stages = ss }
+
+  -- and the stages that it leaves, of cells
+  abbrev pub left : List Stage
+  left = codedStages K g ss
+
+  -- as a sheet
   abbrev pub built : Sheet
-  built = record { height = K; stages = ss }
+  built = record { height = K; stages = codedStages K g ss }
 
   -- A sheet holds what the placer builds: writing never refuses it with 15.
-  pub built-written : writeSheet sheetOne built ≡ file (sheetBytes sheetOne built)
+  pub built-written : writeSheet sheetTwo built ≡ file (sheetBytes sheetTwo built)
   unfolding writeSheet
-  built-written = rw (is-held sheetOne built (built-held rule K g (P .valid) above (high .0) small given (groupsOf records) named (high .1) (omega (arith, P .few, P .pins)) (rooms K (length (a .plan))) ss is-whole), writeSheet)
+  built-written = rw (is-held sheetTwo built (built-held rule K g (P .valid) above (high .0) small given (groupsOf records) named (rooms K (length (a .plan))) ss is-whole (high .1) few), writeSheet)
+
+  -- sheet 1 held its pins
+  pub pins-written : writeSheet sheetOne pinned ≡ file (sheetBytes sheetOne pinned)
+  unfolding writeSheet
+  pins-written = rw (is-held sheetOne pinned (pins-held rule K g (P .valid) above (high .0) small given (groupsOf records) named (rooms K (length (a .plan))) ss is-whole (high .1) few), writeSheet)
 
   -- it has no more stages than rooms
   pub few-stages : length ss ≤ rooms K (length (a .plan))
@@ -180,36 +193,60 @@ module _ (rule : WordRule) (K : ℕ) (gates given records : List ℕ) (a : build
   pub few-words : length (wordsOf ss) ≤ wordLimit K
   few-words = omega (arith, whole-sizes rule K g (P .valid) (high .0) small given [] (groupsOf records) named (rooms K (length (a .plan))) ss is-whole .words)
 
-  -- It takes at most 4 + W bytes, and 17 * 2^(K-2) more a stage.
-  pub built-short : length (sheetBytes sheetOne built) ≤ 4 + 2 ^ (K - 5) + length ss * (17 * 2 ^ (K - 2))
-  unfolding wordLimit
+  -- It takes at most 4 + W bytes, and 20 * 2^(K-2) more a stage.
+  pub built-short : length (sheetBytes sheetTwo built) ≤ 4 + 2 ^ (K - 5) + length ss * (20 * 2 ^ (K - 2))
+  unfolding wordLimit behindPin
   built-short =
-      let b = sheet-short sheetOne forms.one built (sheetBytes sheetOne built) built-written in
+      let b = sheet-short sheetTwo forms.two built (sheetBytes sheetTwo built) built-written in
+      let c : 8 * length (sheetBytes sheetTwo built) ≤ 35 + 8 * length (wordsOf ss) + length ss * (16 + (2 ^ (K + 1) - 1) * 20) = rw (words-coded K g ss, stages-coded K g ss) at b in
       let d : 3 + (K - 2) ≡ K + 1 = let t = high .0 in omega arith in
       let p : 2 ^ (K + 1) ≡ 2 ^ 3 * 2 ^ (K - 2) = rw d at (pow-add 2 3 (K - 2)) in
-      let q : 16 + (2 ^ (K + 1) - 1) * 17 ≤ 8 * (17 * 2 ^ (K - 2)) = omega (arith, pow-pos (K - 2)) in
-      omega (arith, b, mul-le-mul-left (length ss) q, few-words)
+      let q : 16 + (2 ^ (K + 1) - 1) * 20 ≤ 8 * (20 * 2 ^ (K - 2)) = omega (arith, pow-pos (K - 2)) in
+      omega (arith, c, mul-le-mul-left (length ss) q, few-words)
 
   -- Writing the areas as the placer leaves them answers 0, or 17 where the bytes are too few.
-  pub writer-built : (bytes : List ℕ) → writer sheetOne K (length ss) (three (areasAfter K (workSize gates records) ss a)) bytes ≡ into (file (sheetBytes sheetOne built)) bytes
+  pub writer-built : (bytes : List ℕ) → writer sheetTwo K (length ss) (three (areasAfter K (workSize gates records) left a)) bytes ≡ into (file (sheetBytes sheetTwo built)) bytes
   unfolding writer
-  writer-built bytes = rw (after-in sheetOne K (workSize gates records) ss (whole-sized rule K g (P .valid) (high .0) small given [] (groupsOf records) named (rooms K (length (a .plan))) ss is-whole) a, built-written)
+  writer-built bytes =
+      let w : sheetIn sheetTwo K (length ss) (three (areasAfter K (workSize gates records) left a)) ≡ writeSheet sheetTwo built
+          = rw (stages-coded K g ss) at (after-in sheetTwo K (workSize gates records) left (sized-coded K g ss) a) in
+      rw (w, built-written)
 
-  -- And reading that sheet into areas with as many rooms, a count each, and W words leaves them as the placer does, with the same height, stages and words.
-  pub reader-built : (b : Areas) → length (b .plan) ≡ length (a .plan) → wordLimit K ≤ length (b .words) → rooms K (length (a .plan)) ≤ length (b .counts) →
-      reader sheetOne (sheetBytes sheetOne built) b
-      ≡ record { reply = record { number = 0; height = K; stages = length ss; words = length (wordsOf ss) }; areas = three (areasAfter K (workSize gates records) ss (four b)) }
-  unfolding from roomy
-  reader-built b same w c =
-      let n : length ss ≤ rooms K (length (b .plan)) = rw same few-stages in
-      let l : length (cellsOf ss) ≤ length (b .plan) = rooms-fit K (length ss) (length (b .plan)) (length (cellsOf ss)) n (whole-sizes rule K g (P .valid) (high .0) small given [] (groupsOf records) named (rooms K (length (a .plan))) ss is-whole .cells) in
-      let d : rooms K (length (b .plan)) ≤ length (b .counts) = rw same c in
-      let s : planSized K (length (b .plan)) ≡ true = rw same (plan-sized K gates records a (P .areas)) in
-      let t : roomy built b ≡ true = rw (
-        le-leb (length ss) (rooms K (length (b .plan))) n,
-        le-leb (rooms K (length (b .plan))) (length (b .counts)) d,
-        le-leb (wordLimit K) (length (b .words)) w,
-        le-leb (length (wordsOf ss)) (length (b .words)) (omega (arith, few-words)),
-      ) in
-      reader-written sheetOne forms.one built (sheetBytes sheetOne built) built-written b
-      ∙ rw (t, from, as-built K (workSize gates records) ss (four b) s l)
+  -- Bytes that are read as what the placer leaves, into areas with as many rooms, a count each, and W words, leave these as the placer does, with the same
+  -- height, stages and words.
+  module _ (lent bs : List ℕ) (is : readEither lent bs ≡ sheet built) where
+    pub reader-sheet : (b : Areas) → length (b .plan) ≡ length (a .plan) → wordLimit K ≤ length (b .words) → rooms K (length (a .plan)) ≤ length (b .counts) →
+        reader lent bs b ≡ record { reply = record { number = 0; height = K; stages = length ss; words = length (wordsOf ss) }; areas = three (areasAfter K (workSize gates records) left (four b)) }
+    unfolding reader from roomy
+    reader-sheet b same w c =
+        let m = stages-coded K g ss in
+        let v = words-coded K g ss in
+        let n : length ss ≤ rooms K (length (b .plan)) = rw same few-stages in
+        let l : length (cellsOf left) ≤ length (b .plan) = rooms-fit K (length ss) (length (b .plan)) (length (cellsOf left)) n (cells-length (stageSize K) left (sized-coded K g ss) ∙ ap (λ (x : ℕ). x * stageSize K) m) in
+        let d : rooms K (length (b .plan)) ≤ length (b .counts) = rw same c in
+        let s : planSized K (length (b .plan)) ≡ true = rw same (plan-sized K gates records a (P .areas)) in
+        let t : roomy built b ≡ true = rw (
+          m,
+          v,
+          le-leb (length ss) (rooms K (length (b .plan))) n,
+          le-leb (rooms K (length (b .plan))) (length (b .counts)) d,
+          le-leb (wordLimit K) (length (b .words)) w,
+          le-leb (length (wordsOf ss)) (length (b .words)) (omega (arith, few-words)),
+        ) in
+        rw (is, from, t, as-built K (workSize gates records) left (four b) s l) (rw (m, v))
+
+  -- So the sheet that is written of what the placer left, read with any graph or none, gives it back.
+  pub built-read : (lent : List ℕ) → readEither lent (sheetBytes sheetTwo built) ≡ sheet built
+  built-read lent = two-either lent (sheetBytes sheetTwo built) built (forms.two-read built (sheetBytes sheetTwo built) built-written)
+
+  -- And a sheet 1 of the same build, read with its graph, gives the same: archived sheets load into the plan that a build leaves now.
+  pub old-read : readEither gates (sheetBytes sheetOne pinned) ≡ sheet built
+  unfolding sheetBytes
+  old-read = one-either gates (sheetBytes sheetOne pinned) pinned some (begins pinned) (forms.one-read pinned (sheetBytes sheetOne pinned) pins-written)
+      (built-lifts rule K g (P .valid) above (high .0) small given (groupsOf records) named (rooms K (length (a .plan))) ss is-whole)
+    where
+      some : 0 < length gates
+      some = omega (arith, P .some, P .even)
+
+      begins : (T : Sheet) → getD (sheetBytes sheetOne T) 0 0 ≡ 1
+      begins T = refl

@@ -5,7 +5,7 @@ use mathlib.Core.Bool.{Bool, true, false}
 use mathlib.Core.List.{List, [], _∷_, _++_, append-assoc}
 use native.Mathlib.Omega.{arith}
 use lib.Dec.{eqb}
-use lib.ListN.{length, length-append}
+use lib.ListN.{length, getD, length-append}
 use borrow.Author.Tests.{not-false, eqb-true, eqb-false}
 use Rattle.rules.specs.Cells.{empty, filled}
 use Rattle.rules.specs.Job.{bitsOf, got, next, field}
@@ -115,3 +115,31 @@ module _ (F : Form) (S : Sound F) (K : ℕ) where
   unfolding cellsBits
   cells-short p [] = omega arith
   cells-short p (c ∷ cs) = omega (arith, length-append (cellBits F K p c) (cellsBits F K (suc p) cs), cell-short p c, cells-short (suc p) cs)
+
+-- ---- cells by their place
+
+-- cells that fit one by one
+pub cells-fit : (F : Form) (K p : ℕ) (cs : List ℕ) → ((i : ℕ) → i < length cs → cellFits F K (p + i) (getD cs i empty) ≡ true) → cellsFit F K p cs ≡ true
+unfolding cellsFit
+cells-fit F K p [] h = refl
+cells-fit F K p (c ∷ cs) h =
+    let z : p + 0 ≡ p = omega arith in
+    let f : cellFits F K p c ≡ true = rw z at (h 0 (omega arith)) in
+    rw f (cells-fit F K (suc p) cs (λ i b. let e : p + suc i ≡ suc p + i = omega arith in rw e at (h (suc i) (omega arith))))
+
+-- cells that fit do so one by one, and so does what stands past them
+pub fits-at : (F : Form) (K p : ℕ) (cs : List ℕ) → cellsFit F K p cs ≡ true → (i : ℕ) → cellFits F K (p + i) (getD cs i empty) ≡ true
+unfolding cellsFit cellFits filled empty
+fits-at F K p [] e i = refl
+fits-at F K p (c ∷ cs) e zero = let z : p + 0 ≡ p = omega arith in rw z (and-true (cellFits F K p c) (cellsFit F K (suc p) cs) e .0)
+fits-at F K p (c ∷ cs) e (suc i) = let z : p + suc i ≡ suc p + i = omega arith in rw z (fits-at F K (suc p) cs (and-true (cellFits F K p c) (cellsFit F K (suc p) cs) e .1) i)
+
+-- a filled cell that fits, fits the form
+pub filled-fits : (F : Form) (K p c : ℕ) → filled c ≡ true → cellFits F K p c ≡ true → F .fits K p c ≡ true
+unfolding cellFits
+filled-fits F K p c t e = rw (t, cellFits) at e
+
+-- and back
+pub fits-filled : (F : Form) (K p c : ℕ) → (filled c ≡ true → F .fits K p c ≡ true) → cellFits F K p c ≡ true
+unfolding cellFits
+fits-filled F K p c h = split (filled c) (λ t. rw (t, cellFits) (h t)) (λ t. rw (t, cellFits))

@@ -3,8 +3,9 @@ pub mod Stages
 pub mod Sheets
 pub mod Forms
 pub mod Sizes
-pub mod Words
+pub mod Lifting
 pub mod Built
+pub mod Either
 pub mod Calls
 pub mod Back
 pub mod Examples

@@ -1,9 +1,9 @@
 -- How many bytes a sheet has. Assumes nothing.
-use Prim.Native.Nat.{ℕ, suc, _+_, _-_, _*_, _/_, _%_, _^_, _≤_}
+use Prim.Native.Nat.{ℕ, suc, _+_, _-_, _*_, _/_, _%_, _^_, _<_, _≤_}
 use mathlib.Core.Path.{_≡_, ap, _∙_}
 use mathlib.Core.Bool.{true}
 use mathlib.Core.List.{List, [], _∷_, _++_}
-use native.Mathlib.Nat.{mul-le-mul-left}
+use native.Mathlib.Nat.{mul-le-mul-left, mul-le-mul}
 use native.Mathlib.Omega.{arith}
 use lib.ListN.{length, drop, replicate, length-append, length-drop, length-replicate}
 use lib.Pow.{pow-mono}
@@ -14,11 +14,11 @@ use Rattle.rules.specs.Build.{Stage, wordsOf}
 use Rattle.rules.specs.Job.{bitsOf, toByte, file}
 use Rattle.rules.proofs.Lists.Members.{and-true}
 use Rattle.rules.proofs.Job.Bits.{width, gather-width, bytes-length}
-use Rattle.sheet_form.specs.Forms.{Form, sheetOne}
+use Rattle.sheet_form.specs.Forms.{Form, behindPin, form}
 use Rattle.sheet_form.specs.Sheets.{Sheet, cellsBits, stageBits, stagesBits, stageFits, stagesFit, sheetBits, sheetBytes, writeSheet}
 use Rattle.sheet_form.proofs.Cells.{Sound, cells-short}
 use Rattle.sheet_form.proofs.Stages.{tall, stage-fits}
-use Rattle.sheet_form.proofs.Forms.{one}
+use Rattle.sheet_form.proofs.Forms.{behind-few, sound}
 use Rattle.sheet_form.proofs.Sheets.{wrote}
 
 -- the most bits of a stage's cells: each position from 1 on filled
@@ -68,14 +68,16 @@ words-few F K (s ∷ ss) e =
     let d = and-true (stageFits F K s) (stagesFit F K ss) e in
     omega (arith, length-append (s .words) (wordsOf ss), words-few F K ss (d .1), leb-true (length (s .words)) 65535 (stage-fits F K s (d .0) .few))
 
--- No sheet 1 has more than 2^40 bytes.
-pub sheet-most : (T : Sheet) (bs : List ℕ) → writeSheet sheetOne T ≡ file bs → length bs ≤ 2 ^ 40
-sheet-most T bs e =
-    let H = wrote sheetOne one T bs e .held in
+-- No sheet has more than 2^40 bytes.
+pub sheet-most : (number : ℕ) → number < 256 → (T : Sheet) (bs : List ℕ) → writeSheet (form number) T ≡ file bs → length bs ≤ 2 ^ 40
+sheet-most number byte T bs e =
+    let S = sound number byte in
+    let H = wrote (form number) S T bs e .held in
     let K = T .height in
     let n = length (T .stages) in
-    let b = sheet-short sheetOne one T bs e in
+    let b = sheet-short (form number) S T bs e in
     let m : n ≤ 65535 = leb-true n 65535 (H .few) in
     let s : 2 ^ (K + 1) ≤ 16384 = pow-mono {i = K + 1} {j = 14} (omega (arith, tall K (H .height) .1)) in
-    let q : n * (16 + (2 ^ (K + 1) - 1) * 17) ≤ n * 300000 = mul-le-mul-left n (omega arith) in
-    omega (arith, b, q, words-few sheetOne K (T .stages) (H .stages))
+    let c : (2 ^ (K + 1) - 1) * (1 + (16 + behindPin number)) ≤ 16383 * 20 = mul-le-mul {n₂ = 16383} {m₂ = 20} (omega arith) (omega (arith, behind-few number)) in
+    let q : n * (16 + (2 ^ (K + 1) - 1) * (1 + (16 + behindPin number))) ≤ n * 400000 = mul-le-mul-left n (omega (arith, c)) in
+    omega (arith, b, q, words-few (form number) K (T .stages) (H .stages))

@@ -9,14 +9,14 @@ use lib.ListN.{length, getD, drop}
 use lib.Pow.{pow-mono, pow-pos}
 use borrow.Author.Tests.{not-true, lt-ltb, ltb-true, le-leb, leb-true, eq-eqb, eqb-true}
 use Rattle.rules.specs.Lists.{every, gather}
-use Rattle.rules.specs.Cells.{empty, filled, isHeight, stageSize, wordLimit}
+use Rattle.rules.specs.Cells.{empty, filled, isHeight, stageSize, wordLimit, wordFits}
 use Rattle.rules.specs.Build.{Stage}
 use Rattle.rules.specs.Job.{bitsOf, got, next, field, fields}
 use Rattle.rules.proofs.Lists.Members.{split, and-true}
 use Rattle.rules.proofs.Job.Bits.{Bits, bits-none, bits-append, bits-of, bits-gather}
 use Rattle.rules.proofs.Job.Fields.{every-cons, every-parts, through, no-cut, same-got, joined, field-got, field-only, fitsIn, fields-got, fields-only}
 use Rattle.sheet_form.specs.Forms.{Form}
-use Rattle.sheet_form.specs.Sheets.{cellsBits, cellsFit, wordFits, stageBits, stagesBits, stageFits, stagesFit, readCells, readWords, readStage, readStages}
+use Rattle.sheet_form.specs.Sheets.{cellsBits, cellsFit, stageBits, stagesBits, stageFits, stagesFit, readCells, readWords, readStage, readStages}
 use Rattle.sheet_form.proofs.Cells.{Sound, cells-got, cells-only, bits-cells}
 
 -- a height from 6 to 13

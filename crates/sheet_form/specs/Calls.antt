@@ -1,4 +1,4 @@
--- Q-3: the two calls on lent areas, answer and areas at exit. Refusals change nothing. Assumes nothing.
+-- The two calls on lent areas, answer and areas at exit. Refusals change nothing. Assumes nothing.
 use Prim.Native.Nat.{ℕ, zero, suc, _*_}
 use mathlib.Core.Bool.{Bool, true, false, _&&_}
 use mathlib.Core.List.{List, [], _∷_}
@@ -9,7 +9,8 @@ use Rattle.rules.specs.Cells.{empty, stageSize, wordLimit, rooms}
 use Rattle.rules.specs.Build.{Stage, cellsOf, wordsOf, countsOf}
 use Rattle.rules.specs.Job.{File?, noFile, file}
 use Rattle.sheet_form.specs.Forms.{Form}
-use Rattle.sheet_form.specs.Sheets.{Sheet, writeSheet, Sheet?, refused, sheet, readSheet}
+use Rattle.sheet_form.specs.Sheets.{Sheet, writeSheet, Sheet?, refused, sheet}
+use Rattle.sheet_form.specs.Lifting.{readEither}
 
 -- the areas that a build fills
 pub record Areas : Type 0 where
@@ -111,5 +112,5 @@ from (sheet S) a =
     ]
 
 -- the whole call
-unfoldable pub reader : Form → List ℕ → Areas → Loaded
-reader F bytes a = from (readSheet F bytes) a
+unfoldable pub reader : (gates bytes : List ℕ) → Areas → Loaded
+reader gates bytes a = from (readEither gates bytes) a

@@ -1,4 +1,4 @@
--- Q-3: the plan sheet, both ways, over what a filled cell's bits are. Bits stand most significant first. Assumes nothing.
+-- The plan sheet, both ways, over what a filled cell's bits are. Bits stand most significant first. Assumes nothing.
 use Prim.Native.Nat.{ℕ, zero, suc, _-_}
 use mathlib.Core.Bool.{Bool, true, false, not, _&&_}
 use mathlib.Core.List.{List, [], _∷_, _++_}
