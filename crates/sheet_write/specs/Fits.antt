@@ -7,7 +7,7 @@ use lib.ListN.{length, drop}
 use Rattle.rules.specs.Cells.{isHeight, stageSize}
 use Rattle.rules.specs.Build.{Stage}
 use Rattle.rules.specs.Job.{noFile}
-use Rattle.sheet_form.specs.Forms.{sheetOne}
+use Rattle.sheet_form.specs.Forms.{sheetTwo}
 use Rattle.sheet_form.specs.Sheets.{cellBits, cellsBits, stageBits, stagesBits, cellFits, cellsFit, stageFits, stagesFit}
 use Rattle.sheet_form.specs.Calls.{Areas, areas, stagesIn, stand, sheetIn}
 
@@ -17,20 +17,21 @@ pub record Ends (fits : Bool) (bits : List ℕ) (at r : ℕ) : Type 0 where
   pub some : 0 < r → fits ≡ true
   pub behind : 0 < r → r ≡ at + length bits
 
--- a cell of sheet 1 is the same at every height and position
-pub record CellEnds (c r : ℕ) : Type 0 where
-  pub ends : (K p : ℕ) → Ends (cellFits sheetOne K p c) (cellBits sheetOne K p c) 0 r
-  pub short : r ≤ 17
+-- a cell at a position
+pub record CellEnds (K p c r : ℕ) : Type 0 where
+  pub ends : Ends (cellFits sheetTwo K p c) (cellBits sheetTwo K p c) 0 r
+  pub short : r ≤ 20
 
 -- cells that begin at a bit
-pub record CellsAt (at : ℕ) (cells : List ℕ) : Type 0 where
+pub record CellsAt (K at : ℕ) (cells : List ℕ) : Type 0 where
+  pub height : isHeight K ≡ true
   pub some : 1 ≤ at
-  pub near : at + 17 * length cells ≤ 2 ^ 40
+  pub near : at + 20 * length cells ≤ 2 ^ 40
 
--- where they end, at any height
-pub record CellsEnd (cells : List ℕ) (at r : ℕ) : Type 0 where
-  pub ends : (K : ℕ) → Ends (cellsFit sheetOne K 1 (drop 1 cells)) (cellsBits sheetOne K 1 (drop 1 cells)) at r
-  pub near : r ≤ at + 17 * length cells
+-- where they end
+pub record CellsEnd (K : ℕ) (cells : List ℕ) (at r : ℕ) : Type 0 where
+  pub ends : Ends (cellsFit sheetTwo K 1 (drop 1 cells)) (cellsBits sheetTwo K 1 (drop 1 cells)) at r
+  pub near : r ≤ at + 20 * length cells
 
 -- a stage's cells, all of them, that begin at a bit
 pub record StageAt (K at : ℕ) (cells : List ℕ) : Type 0 where
@@ -47,7 +48,7 @@ stageWith cells words = record { plan = cells; words = words }
 
 -- no stage has more than 2^20 bits
 pub record StageEnds (K : ℕ) (cells words : List ℕ) (at r : ℕ) : Type 0 where
-  pub ends : Ends (stageFits sheetOne K (stageWith cells words)) (stageBits sheetOne K (stageWith cells words)) at r
+  pub ends : Ends (stageFits sheetTwo K (stageWith cells words)) (stageBits sheetTwo K (stageWith cells words)) at r
   pub near : r ≤ at + 2 ^ 20
 
 -- a height, and not too many stages
@@ -63,7 +64,7 @@ pub record StagesAt (K n : ℕ) (p w c : List ℕ) : Type 0 where
 
 -- where they end behind number, height and stage count
 pub record StagesEnd (K n : ℕ) (p w c : List ℕ) (r : ℕ) : Type 0 where
-  pub ends : Ends (stagesFit sheetOne K (stagesIn K n p w c)) (stagesBits sheetOne K (stagesIn K n p w c)) 28 r
+  pub ends : Ends (stagesFit sheetTwo K (stagesIn K n p w c)) (stagesBits sheetTwo K (stagesIn K n p w c)) 28 r
   pub near : r ≤ 2 ^ 37
 
 -- areas whose stages a sheet can hold
@@ -71,11 +72,11 @@ pub record Fitting (K n : ℕ) (a : Areas) : Type 0 where
   pub height : isHeight K ≡ true
   pub few : n ≤ 65535
   pub held : stand K n a ≡ true
-  pub fits : stagesFit sheetOne K (stagesIn K n (a .plan) (a .words) (a .counts)) ≡ true
+  pub fits : stagesFit sheetTwo K (stagesIn K n (a .plan) (a .words) (a .counts)) ≡ true
 
 -- the sheet's bits without padding, or 0 where there is no sheet
 pub record Measured (K n : ℕ) (a : Areas) (r : ℕ) : Type 0 where
-  pub none : r ≡ 0 → sheetIn sheetOne K n a ≡ noFile
+  pub none : r ≡ 0 → sheetIn sheetTwo K n a ≡ noFile
   pub some : 0 < r → Fitting K n a
-  pub bits : 0 < r → r ≡ 28 + length (stagesBits sheetOne K (stagesIn K n (a .plan) (a .words) (a .counts)))
+  pub bits : 0 < r → r ≡ 28 + length (stagesBits sheetTwo K (stagesIn K n (a .plan) (a .words) (a .counts)))
   pub near : r ≤ 2 ^ 37

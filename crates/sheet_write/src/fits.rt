@@ -1,41 +1,43 @@
 // Which stages a sheet can hold, and how many bits they take: where a part ends that begins at a bit, 0 where it does not fit.
+use cell::Cell;
 use cells::Height;
 use cells::is_height;
 use cells::wide;
 use graph::EMPTY;
+use sheet_form::cell_fits;
 ghost use mathlib.Core.Path.{_≡_};
+ghost use mathlib.Core.Bool.{true};
 ghost use Prim.Native.Nat.{_≤_};
 ghost use lib.Dec.{ltb};
 ghost use lib.ListN.{length};
 ghost use Rattle.rules.specs.Lists.{every, sum};
+ghost use Rattle.rules.specs.Cells.{isHeight};
 ghost use Rattle.sheet_form.specs.Calls.{areas, stand};
 ghost use Rattle.sheet_write.specs.Fits.{CellEnds, CellsAt, CellsEnd, StageAt, StageEnds, Sized, StagesAt, StagesEnd, Measured};
 
-// The filled bit, and a pin's 16.
-fn cell_end(c: u32) -> usize
-    ensures { λ r. ⌜ CellEnds c r ⌝ }
+// The filled bit, and behind it a pin's 16 and 3 for what the cell does.
+fn cell_end(height: u32, p: usize, cell: Cell) -> usize
+    requires { ⌜ isHeight height ≡ true ⌝ }
+    ensures { λ r. ⌜ CellEnds height p (cell .0) r ⌝ }
 {
-    if c == EMPTY {
+    if cell.is_empty() {
         return 1;
     }
-    if c == 0 {
+    if !cell_fits(Height(height), p, cell) {
         return 0;
     }
-    if 65535 < c {
-        return 0;
-    }
-    17
+    20
 }
 
 // The cells from position 1 on.
-fn cells_end(cells: &[u32], from: usize) -> usize
-    requires { ⌜ CellsAt from (now cells) ⌝ }
-    ensures { λ r. ⌜ CellsEnd (now (cells .entry)) from r ⌝ }
+fn cells_end(height: u32, cells: &[u32], from: usize) -> usize
+    requires { ⌜ CellsAt height from (now cells) ⌝ }
+    ensures { λ r. ⌜ CellsEnd height (now (cells .entry)) from r ⌝ }
 {
     let mut at = from;
     let mut i = 1;
     while i < cells.len() {
-        let bits = cell_end(cells[i]);
+        let bits = cell_end(height, i, Cell(cells[i]));
         if bits == 0 {
             return 0;
         }
@@ -72,7 +74,7 @@ fn stage_end(height: u32, cells: &[u32], words: &[u32], at: usize) -> usize
     if !words_fit(words, Height(height).word_limit()) {
         return 0;
     }
-    cells_end(cells, at + 16 + 8 * words.len())
+    cells_end(height, cells, at + 16 + 8 * words.len())
 }
 
 // Behind the sheet number, the height and the stage count.

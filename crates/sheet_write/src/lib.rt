@@ -7,7 +7,7 @@ use refusals::NO_SHEET;
 use refusals::TOO_SHORT;
 use sections::put_sheet;
 ghost use mathlib.Core.Path.{_≡_};
-ghost use Rattle.sheet_form.specs.Forms.{sheetOne};
+ghost use Rattle.sheet_form.specs.Forms.{sheetTwo};
 ghost use Rattle.sheet_form.specs.Calls.{areas, written, writer};
 
 // The number of document 02, and how many bytes the sheet has; 0 on refusal.
@@ -26,7 +26,7 @@ pub fn write(
     counts: &[u32],
     bytes: &mut [u8],
 ) -> Written
-    ensures { λ r. ⌜ written (r .number) (r .length) (now (bytes .exit)) ≡ writer sheetOne height stages (areas (now (plan .entry)) (now (words .entry)) (now (counts .entry))) (now (bytes .entry)) ⌝ }
+    ensures { λ r. ⌜ written (r .number) (r .length) (now (bytes .exit)) ≡ writer sheetTwo height stages (areas (now (plan .entry)) (now (words .entry)) (now (counts .entry))) (now (bytes .entry)) ⌝ }
 {
     let bits = measure(height, stages, plan, words, counts);
     if bits == 0 {

@@ -1,9 +1,9 @@
 // The parts of a sheet, put one behind the other.
 use bits::put;
+use cell::Cell;
 use cells::Height;
 use cells::wide;
-use graph::EMPTY;
-use sheet_form::SHEET_ONE;
+use sheet_form::SHEET_TWO;
 ghost use mathlib.Core.Path.{_≡_};
 ghost use Prim.Native.Nat.{_^_, _≤_};
 ghost use Rattle.rules.specs.Lists.{gather};
@@ -13,16 +13,17 @@ ghost use Rattle.sheet_form.specs.Calls.{areas};
 ghost use Rattle.sheet_write.specs.Fits.{Fitting};
 ghost use Rattle.sheet_write.specs.Sections.{fileBits, CellPut, CellsTo, CellsPut, WordsTo, StageTo, StagePut, StagesPut};
 
-// A one and the pin, a zero for an empty cell.
-fn put_cell(bytes: &mut [u8], at: usize, c: u32) -> usize
+// A one, the pin and what the cell does; a zero for an empty cell.
+fn put_cell(bytes: &mut [u8], at: usize, cell: Cell) -> usize
     requires { ⌜ at ≤ 2 ^ 39 ⌝ }
-    ensures { λ r. ⌜ CellPut c (now (bytes .entry)) (now (bytes .exit)) at r ⌝ }
+    ensures { λ r. ⌜ CellPut (cell .0) (now (bytes .entry)) (now (bytes .exit)) at r ⌝ }
 {
-    if c == EMPTY {
+    if cell.is_empty() {
         return put(bytes, at, 1, 0);
     }
     let p = put(bytes, at, 1, 1);
-    put(bytes, p, 16, c)
+    let q = put(bytes, p, 16, cell.pin().0);
+    put(bytes, q, 3, cell.does())
 }
 
 // The cells from position 1 on.
@@ -33,7 +34,7 @@ fn put_cells(bytes: &mut [u8], from: usize, cells: &[u32]) -> usize
     let mut at = from;
     let mut i = 1;
     while i < cells.len() {
-        at = put_cell(bytes, at, cells[i]);
+        at = put_cell(bytes, at, Cell(cells[i]));
         i += 1;
     }
     at
@@ -103,7 +104,7 @@ pub fn put_sheet(
     requires { ⌜ Fitting height stages (areas (now plan) (now words) (now counts)) ⌝ }
     ensures { λ r. ⌜ Put (fileBits height stages (areas (now (plan .entry)) (now (words .entry)) (now (counts .entry)))) (now (bytes .entry)) (now (bytes .exit)) 0 r ⌝ }
 {
-    let p = put(bytes, 0, 8, SHEET_ONE);
+    let p = put(bytes, 0, 8, SHEET_TWO);
     let q = put(bytes, p, 4, height);
     put(bytes, q, 16, stages as u32);
     let r = put_stages(bytes, height, stages, plan, words, counts);

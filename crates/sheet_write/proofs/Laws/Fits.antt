@@ -13,16 +13,17 @@ use lib.Pow.{pow-mono, pow-pos}
 use lib.Seq.{drop-cons, drop-drop, getD-drop, length-take-le}
 use borrow.Author.Tests.{le-leb, lt-leb, leb-true, lt-ltb, le-ltb, eqb-true, eqb-false, eq-eqb, ne-eqb}
 use Rattle.rules.specs.Lists.{every, sum, gather}
-use Rattle.rules.specs.Cells.{empty, filled, isHeight, stageSize, wordLimit}
+use Rattle.rules.specs.Cells.{empty, filled, isHeight, stageSize, wordLimit, wordFits}
 use Rattle.rules.specs.Build.{Stage}
 use Rattle.rules.specs.Job.{bitsOf, noFile}
+use Rattle.rules.specs.Coded.{cellPin}
 use Rattle.rules.proofs.Lists.Members.{split, and-true, true-false}
 use Rattle.rules.proofs.Bools.{and-none, and-right}
 use Rattle.rules.proofs.Job.Bits.{width, gather-width}
 use Rattle.cells.specs.Answers.{orZero}
 use Rattle.records.proofs.Reading.{every-step, every-end}
-use Rattle.sheet_form.specs.Forms.{fitsOne, sheetOne}
-use Rattle.sheet_form.specs.Sheets.{cellBits, cellsBits, stageBits, stagesBits, cellFits, cellsFit, wordFits, stageFits, stagesFit, holdable, writeSheet}
+use Rattle.sheet_form.specs.Forms.{does, behindPin, formFits, sheetTwo}
+use Rattle.sheet_form.specs.Sheets.{cellBits, cellsBits, stageBits, stagesBits, cellFits, cellsFit, stageFits, stagesFit, holdable, writeSheet}
 use Rattle.sheet_form.specs.Calls.{Areas, areas, stagesIn, stand, sheetIn}
 use Rattle.sheet_form.proofs.Stages.{tall, StageFits, fits-stage, stage-fits}
 use Rattle.sheet_form.proofs.Back.{Stand, stand-is, held-in}
@@ -42,95 +43,85 @@ above-zero {r} z = split (eqb r 0) (λ t. absurd (z (eqb-true r 0 t))) (λ t. le
 
 -- ---- a cell
 
--- an empty cell is one bit
-pub cell-empty : (c : ℕ) → c ≡ 4294967295 → CellEnds c 1
-unfolding cellFits cellBits filled empty
-cell-empty c e =
-    let f : filled c ≡ false = rw (eq-eqb c 4294967295 e) in
-    record { ends = λ K p. ends-some (omega arith) (rw (f, cellFits)) (rw (f, cellBits)); short = omega arith }
-
--- any other number is a filled cell
+-- any number but the empty mark is a filled cell
 pub marked : (c : ℕ) → (c ≡ 4294967295 → ⊥) → filled c ≡ true
 unfolding filled empty
 marked c e = rw (ne-eqb c 4294967295 e)
 
--- a pin 0 does not fit
-pub cell-zero : (c : ℕ) → c ≡ 0 → CellEnds c 0
-unfolding cellFits fitsOne
-cell-zero c e =
-    let f = marked c (λ z. omega arith) in
-    record { ends = λ K p. ends-none (rw (f, cellFits, le-ltb 0 c (omega arith)) refl); short = omega arith }
+module _ (K p c : ℕ) where
+  -- an empty cell is one bit
+  pub cell-empty : filled c ≡ false → CellEnds K p c 1
+  unfolding cellFits cellBits
+  cell-empty f = record { ends = ends-some (omega arith) (rw (f, cellFits)) (rw (f, cellBits)); short = omega arith }
 
--- a pin above 65,535 does not fit
-pub cell-great : (c : ℕ) → (c ≡ 4294967295 → ⊥) → 65535 < c → CellEnds c 0
-unfolding cellFits fitsOne
-cell-great c n h =
-    let f = marked c n in
-    record { ends = λ K p. ends-none (rw (f, cellFits, le-ltb c 65536 (omega arith)) (and-none (ltb 0 c))); short = omega arith }
+  -- a cell that sheet 2 does not hold
+  pub cell-lost : filled c ≡ true → formFits 2 K p c ≡ false → CellEnds K p c 0
+  unfolding cellFits
+  cell-lost f e = record { ends = ends-none (rw (f, cellFits) e); short = omega arith }
 
--- any other is a one and 16 bits
-pub cell-pin : (c : ℕ) → (c ≡ 4294967295 → ⊥) → (c ≡ 0 → ⊥) → c ≤ 65535 → CellEnds c 17
-unfolding cellFits cellBits fitsOne
-cell-pin c n z h =
-    let f = marked c n in
-    let a : 0 < c = above-zero z in
-    record { ends = λ K p. ends-some (omega arith) (rw (f, cellFits, lt-ltb 0 c a, lt-ltb c 65536 (omega arith))) (rw (f, cellBits) (omega (arith, width 16 c))); short = omega arith }
+  -- one that it holds is a one, 16 bits and 3
+  pub cell-held : filled c ≡ true → formFits 2 K p c ≡ true → CellEnds K p c 20
+  unfolding cellFits cellBits behindPin
+  cell-held f e = record {
+    ends = ends-some (omega arith) (rw (f, cellFits) e) (rw (f, cellBits) (omega (arith, length-append (bitsOf 16 (cellPin c)) (bitsOf 3 (does c)), width 16 (cellPin c), width 3 (does c))));
+    short = omega arith;
+  }
 
 -- ---- the cells of a stage
 
 module _ (K : ℕ) (cells : List ℕ) (i : ℕ) where
   -- the cell at an index, and those behind it: their bits
-  pub bits-step : i < length cells → cellsBits sheetOne K i (drop i cells) ≡ cellBits sheetOne K i (getD cells i 0) ++ cellsBits sheetOne K (i + 1) (drop (i + 1) cells)
+  pub bits-step : i < length cells → cellsBits sheetTwo K i (drop i cells) ≡ cellBits sheetTwo K i (getD cells i 0) ++ cellsBits sheetTwo K (i + 1) (drop (i + 1) cells)
   unfolding cellsBits
   bits-step h = rw (drop-cons cells i 0 h, add-one i)
 
   -- past the last cell there are none
-  pub bits-end : length cells ≤ i → cellsBits sheetOne K i (drop i cells) ≡ []
+  pub bits-end : length cells ≤ i → cellsBits sheetTwo K i (drop i cells) ≡ []
   unfolding cellsBits
   bits-end h = rw (drop-of-length-le cells h)
 
-  fit-step : i < length cells → cellsFit sheetOne K i (drop i cells) ≡ cellFits sheetOne K i (getD cells i 0) && cellsFit sheetOne K (i + 1) (drop (i + 1) cells)
+  fit-step : i < length cells → cellsFit sheetTwo K i (drop i cells) ≡ cellFits sheetTwo K i (getD cells i 0) && cellsFit sheetTwo K (i + 1) (drop (i + 1) cells)
   unfolding cellsFit
   fit-step h = rw (drop-cons cells i 0 h, add-one i)
 
-  fit-end : length cells ≤ i → cellsFit sheetOne K i (drop i cells) ≡ true
+  fit-end : length cells ≤ i → cellsFit sheetTwo K i (drop i cells) ≡ true
   unfolding cellsFit
   fit-end h = rw (drop-of-length-le cells h)
 
 -- the cells before index i fit, and end at a bit
-pub record Cells (cells : List ℕ) (from i at : ℕ) : Type 0 where
+pub record Cells (K : ℕ) (cells : List ℕ) (from i at : ℕ) : Type 0 where
   pub upto : i ≤ 1 + length cells
-  pub near : at + 17 ≤ from + 17 * i
+  pub near : at + 20 ≤ from + 20 * i
   pub some : 1 ≤ at
-  pub fits : (K : ℕ) → cellsFit sheetOne K 1 (drop 1 cells) ≡ cellsFit sheetOne K i (drop i cells)
-  pub bits : (K : ℕ) → from + length (cellsBits sheetOne K 1 (drop 1 cells)) ≡ at + length (cellsBits sheetOne K i (drop i cells))
+  pub fits : cellsFit sheetTwo K 1 (drop 1 cells) ≡ cellsFit sheetTwo K i (drop i cells)
+  pub bits : from + length (cellsBits sheetTwo K 1 (drop 1 cells)) ≡ at + length (cellsBits sheetTwo K i (drop i cells))
 
 -- at position 1 there is none before
-pub cells-none : {cells : List ℕ} {from : ℕ} → 1 ≤ from → Cells cells from 1 from
-cells-none h = record { upto = omega arith; near = omega arith; some = h; fits = λ K. refl; bits = λ K. refl }
+pub cells-none : {K : ℕ} {cells : List ℕ} {from : ℕ} → 1 ≤ from → Cells K cells from 1 from
+cells-none h = record { upto = omega arith; near = omega arith; some = h; fits = refl; bits = refl }
 
-module _ {cells : List ℕ} {from i at : ℕ} (C : Cells cells from i at) where
-  module _ (h : i < length cells) {b : ℕ} (E : CellEnds (getD cells i 0) b) where
+module _ {K : ℕ} {cells : List ℕ} {from i at : ℕ} (C : Cells K cells from i at) where
+  module _ (h : i < length cells) {b : ℕ} (E : CellEnds K i (getD cells i 0) b) where
     -- a cell that does not fit decides
-    pub cells-lost : b ≡ 0 → CellsEnd cells from 0
-    cells-lost z = record { ends = λ K. ends-none (C .fits K ∙ fit-step K cells i h ∙ rw (E .ends K i .none z)); near = omega arith }
+    pub cells-lost : b ≡ 0 → CellsEnd K cells from 0
+    cells-lost z = record { ends = ends-none (C .fits ∙ fit-step K cells i h ∙ rw (E .ends .none z)); near = omega arith }
 
     -- one that fits takes its bits
-    pub cells-more : (b ≡ 0 → ⊥) → Cells cells from (i + 1) (at + b)
+    pub cells-more : (b ≡ 0 → ⊥) → Cells K cells from (i + 1) (at + b)
     cells-more z =
         let p : 0 < b = above-zero z in
         record {
           upto = omega arith;
           near = omega (arith, C .near, E .short);
           some = omega (arith, C .some);
-          fits = λ K. C .fits K ∙ fit-step K cells i h ∙ rw (E .ends K i .some p);
-          bits = λ K. omega (arith, C .bits K, ap length (bits-step K cells i h), length-append (cellBits sheetOne K i (getD cells i 0)) (cellsBits sheetOne K (i + 1) (drop (i + 1) cells)), E .ends K i .behind p);
+          fits = C .fits ∙ fit-step K cells i h ∙ rw (E .ends .some p);
+          bits = omega (arith, C .bits, ap length (bits-step K cells i h), length-append (cellBits sheetTwo K i (getD cells i 0)) (cellsBits sheetTwo K (i + 1) (drop (i + 1) cells)), E .ends .behind p);
         }
 
   -- no cell left: all fit
-  pub cells-done : length cells ≤ i → CellsEnd cells from at
+  pub cells-done : length cells ≤ i → CellsEnd K cells from at
   cells-done h = record {
-    ends = λ K. ends-some (omega (arith, C .some)) (C .fits K ∙ fit-end K cells i h) (omega (arith, C .bits K, ap length (bits-end K cells i h)));
+    ends = ends-some (omega (arith, C .some)) (C .fits ∙ fit-end K cells i h) (omega (arith, C .bits, ap length (bits-end K cells i h)));
     near = omega (arith, C .near, C .upto);
   }
 
@@ -167,7 +158,7 @@ module _ {K at : ℕ} {cells : List ℕ} (A : StageAt K at cells) (words : List 
   unfolding stageFits filled empty
   stage-first n = record { ends = ends-none (by cells (A .first) n); near = omega arith }
     where
-      by : (cs : List ℕ) → 1 ≤ length cs → (getD cs 0 0 ≡ 4294967295 → ⊥) → stageFits sheetOne K (stageWith cs words) ≡ false
+      by : (cs : List ℕ) → 1 ≤ length cs → (getD cs 0 0 ≡ 4294967295 → ⊥) → stageFits sheetTwo K (stageWith cs words) ≡ false
       by [] h m = absurd (omega arith)
       by (c ∷ cs) h m = rw (ne-eqb c 4294967295 m, and-none (eqb (suc (length cs)) (stageSize K)))
 
@@ -186,19 +177,19 @@ module _ {K at : ℕ} {cells : List ℕ} (A : StageAt K at cells) (words : List 
 
   -- else the cells decide
   pub stage-cells : getD cells 0 0 ≡ 4294967295 → length words ≤ 65535 → {limit : ℕ} → limit ≡ orZero (isHeight K) (wordLimit K) → every (λ w. ltb w limit) words ≡ true →
-      {r : ℕ} → CellsEnd cells (at + 16 + 8 * length words) r → StageEnds K cells words at r
+      {r : ℕ} → CellsEnd K cells (at + 16 + 8 * length words) r → StageEnds K cells words at r
   unfolding stageBits wordFits
   stage-cells z few l e {r} C =
       let q = height-is K (wordLimit K) (A .height) l in
       let w : every (wordFits K) words ≡ true = rw q at e in
       record {
         ends = record {
-          none = λ y. without (C .ends K .none y);
-          some = λ y. fits-stage sheetOne K (stageWith cells words) (record { size = A .size; zeroth = first cells (A .first) z; few = le-leb (length words) 65535 few; words = w; cells = C .ends K .some y });
+          none = λ y. without (C .ends .none y);
+          some = λ y. fits-stage sheetTwo K (stageWith cells words) (record { size = A .size; zeroth = first cells (A .first) z; few = le-leb (length words) 65535 few; words = w; cells = C .ends .some y });
           behind = λ y. omega (
             arith,
-            C .ends K .behind y,
-            length-append (bitsOf 16 (length words) ++ gather (bitsOf 8) words) (cellsBits sheetOne K 1 (drop 1 cells)),
+            C .ends .behind y,
+            length-append (bitsOf 16 (length words) ++ gather (bitsOf 8) words) (cellsBits sheetTwo K 1 (drop 1 cells)),
             length-append (bitsOf 16 (length words)) (gather (bitsOf 8) words),
             width 16 (length words),
             gather-width 8 words,
@@ -211,8 +202,8 @@ module _ {K at : ℕ} {cells : List ℕ} (A : StageAt K at cells) (words : List 
       first [] h e = absurd (omega arith)
       first (c ∷ cs) h e = empty-mark c e
 
-      without : cellsFit sheetOne K 1 (drop 1 cells) ≡ false → stageFits sheetOne K (stageWith cells words) ≡ false
-      without e = split (stageFits sheetOne K (stageWith cells words)) (λ t. true-false (stage-fits sheetOne K (stageWith cells words) t .cells) e) (λ t. t)
+      without : cellsFit sheetTwo K 1 (drop 1 cells) ≡ false → stageFits sheetTwo K (stageWith cells words) ≡ false
+      without e = split (stageFits sheetTwo K (stageWith cells words)) (λ t. true-false (stage-fits sheetTwo K (stageWith cells words) t .cells) e) (λ t. t)
 
 -- a stage has at most 16,384 cells, and one at least
 pub size-most : (K : ℕ) → isHeight K ≡ true → (stageSize K ≤ 16384) × (1 ≤ stageSize K)
@@ -295,8 +286,8 @@ module _ {K n : ℕ} {p w c : List ℕ} (S : Stand K n p w c) where
 -- the stages before index i fit, and end at a bit
 pub record Fits (K n : ℕ) (p w c : List ℕ) (i from at : ℕ) : Type 0 where
   pub places : Places K n p w c i from at
-  pub fits : stagesFit sheetOne K (stagesIn K n p w c) ≡ stagesFit sheetOne K (rest K n p w c i from)
-  pub bits : 28 + length (stagesBits sheetOne K (stagesIn K n p w c)) ≡ at + length (stagesBits sheetOne K (rest K n p w c i from))
+  pub fits : stagesFit sheetTwo K (stagesIn K n p w c) ≡ stagesFit sheetTwo K (rest K n p w c i from)
+  pub bits : 28 + length (stagesBits sheetTwo K (stagesIn K n p w c)) ≡ at + length (stagesBits sheetTwo K (rest K n p w c i from))
 
 module _ {K n : ℕ} {p w c : List ℕ} (A : StagesAt K n p w c) where
   -- the areas hold so many
@@ -305,7 +296,7 @@ module _ {K n : ℕ} {p w c : List ℕ} (A : StagesAt K n p w c) where
 
   -- before the first stage
   pub fits-none : Fits K n p w c 0 0 28
-  fits-none = record { places = places-none stands; fits = ap (stagesFit sheetOne K) (rest-all stands); bits = ap (λ (ss : List Stage). 28 + length (stagesBits sheetOne K ss)) (rest-all stands) }
+  fits-none = record { places = places-none stands; fits = ap (stagesFit sheetTwo K) (rest-all stands); bits = ap (λ (ss : List Stage). 28 + length (stagesBits sheetTwo K ss)) (rest-all stands) }
 
   module _ {i from at : ℕ} (F : Fits K n p w c i from at) where
     -- no stage left: all fit
@@ -314,7 +305,7 @@ module _ {K n : ℕ} {p w c : List ℕ} (A : StagesAt K n p w c) where
     fits-done h =
         let z = rest-none stands (F .places) h in
         record {
-          ends = ends-some (omega (arith, F .places .some)) (F .fits ∙ rw z) (omega (arith, F .bits, ap (λ (ss : List Stage). length (stagesBits sheetOne K ss)) z));
+          ends = ends-some (omega (arith, F .places .some)) (F .fits ∙ rw z) (omega (arith, F .bits, ap (λ (ss : List Stage). length (stagesBits sheetTwo K ss)) z));
           near = omega (arith, F .places .near, F .places .upto, A .few);
         }
 
@@ -355,7 +346,7 @@ module _ {K n : ℕ} {p w c : List ℕ} (A : StagesAt K n p w c) where
             record {
               places = places-more stands (F .places) h count q y (E .near);
               fits = F .fits ∙ rw (next, E .ends .some y);
-              bits = omega (arith, F .bits, ap (λ (ss : List Stage). length (stagesBits sheetOne K ss)) next, length-append (stageBits sheetOne K one) (stagesBits sheetOne K rs), E .ends .behind y);
+              bits = omega (arith, F .bits, ap (λ (ss : List Stage). length (stagesBits sheetTwo K ss)) next, length-append (stageBits sheetTwo K one) (stagesBits sheetTwo K rs), E .ends .behind y);
             }
 
 -- ---- the sum of counts
@@ -414,20 +405,20 @@ module _ {K n : ℕ} (A : Sized K n) (p w c : List ℕ) where
 
 -- ---- the measure
 
-no-sheet : {K n : ℕ} {a : Areas} → sheetIn sheetOne K n a ≡ noFile → Measured K n a 0
+no-sheet : {K n : ℕ} {a : Areas} → sheetIn sheetTwo K n a ≡ noFile → Measured K n a 0
 no-sheet e = record { none = λ _. e; some = λ h. absurd (omega arith); bits = λ h. absurd (omega arith); near = omega arith }
 
 -- the sheet of areas by whether it can be held
-unheld : (K n : ℕ) (a : Areas) → (Fitting K n a → ⊥) → sheetIn sheetOne K n a ≡ noFile
+unheld : (K n : ℕ) (a : Areas) → (Fitting K n a → ⊥) → sheetIn sheetTwo K n a ≡ noFile
 unfolding sheetIn writeSheet holdable
 unheld K n a f = split (stand K n a)
     (λ t. rw (t, sheetIn) (by t))
     (λ t. rw (t, sheetIn))
   where
-    by : stand K n a ≡ true → writeSheet sheetOne (record { height = K; stages = stagesIn K n (a .plan) (a .words) (a .counts) }) ≡ noFile
-    by t = split (isHeight K && leb (length (stagesIn K n (a .plan) (a .words) (a .counts))) 65535 && stagesFit sheetOne K (stagesIn K n (a .plan) (a .words) (a .counts)))
+    by : stand K n a ≡ true → writeSheet sheetTwo (record { height = K; stages = stagesIn K n (a .plan) (a .words) (a .counts) }) ≡ noFile
+    by t = split (isHeight K && leb (length (stagesIn K n (a .plan) (a .words) (a .counts))) 65535 && stagesFit sheetTwo K (stagesIn K n (a .plan) (a .words) (a .counts)))
         (λ u.
-        let x = and-true (isHeight K && leb (length (stagesIn K n (a .plan) (a .words) (a .counts))) 65535) (stagesFit sheetOne K (stagesIn K n (a .plan) (a .words) (a .counts))) u in
+        let x = and-true (isHeight K && leb (length (stagesIn K n (a .plan) (a .words) (a .counts))) 65535) (stagesFit sheetTwo K (stagesIn K n (a .plan) (a .words) (a .counts))) u in
         let y = and-true (isHeight K) (leb (length (stagesIn K n (a .plan) (a .words) (a .counts))) 65535) (x .0) in
         let l = held-in K n (a .plan) (a .words) (a .counts) (stand-is K n a t) .stages in
         absurd (f (record { height = y .0; few = omega (arith, leb-true (length (stagesIn K n (a .plan) (a .words) (a .counts))) 65535 (y .1), l); held = t; fits = x .1 })))

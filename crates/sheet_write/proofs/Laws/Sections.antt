@@ -1,6 +1,6 @@
 -- The parts of a sheet, put one behind the other. Assumes nothing.
 use mathlib.Core.Path.{_≡_, refl, sym, ap, _∙_}
-use mathlib.Core.Bool.{true}
+use mathlib.Core.Bool.{true, false}
 use mathlib.Core.List.{List, [], _∷_, _++_, append-assoc}
 use Prim.Native.Nat.{ℕ, suc, _+_, _-_, _*_, _%_, _^_, _<_, _≤_}
 use native.Mathlib.Numerals.{add-one}
@@ -12,41 +12,45 @@ use Rattle.rules.specs.Lists.{gather}
 use Rattle.rules.specs.Cells.{empty, filled, isHeight, stageSize}
 use Rattle.rules.specs.Build.{Stage}
 use Rattle.rules.specs.Job.{bitsOf}
+use Rattle.rules.specs.Coded.{cellPin}
 use Rattle.rules.proofs.Lists.Members.{and-true}
 use Rattle.rules.proofs.Job.Bits.{width, gather-width}
 use Rattle.cells.specs.Answers.{orZero}
 use Rattle.bits.specs.Putting.{Put}
 use Rattle.bits.proofs.Laws.Putting.{Left, left-all, left-step, left-none, put-then}
 use Rattle.bits.proofs.Laws.Files.{put-padded}
-use Rattle.sheet_form.specs.Forms.{sheetOne}
+use Rattle.sheet_form.specs.Forms.{does, behindPin, sheetTwo}
 use Rattle.sheet_form.specs.Sheets.{cellBits, cellsBits, stageBits, stagesBits, sheetBits, stageFits, stagesFit}
 use Rattle.sheet_form.specs.Calls.{Areas, areas, stagesIn, sheetOf}
 use Rattle.sheet_form.proofs.Stages.{stage-fits}
 use Rattle.sheet_form.proofs.Back.{Stand, stand-is, held-in}
 use Rattle.sheet_write.specs.Fits.{stageWith, Fitting}
 use Rattle.sheet_write.specs.Sections.{fileBits, CellPut, CellsPut, StageTo, StagePut, StagesPut}
-use Rattle.sheet_write.proofs.Laws.Fits.{empty-mark, marked, bits-step, bits-end, height-is, size-most, rest, here, Places, places-none, rest-all, rest-none, places-more, cells-there, words-there, cells-size, rest-next}
+use Rattle.sheet_write.proofs.Laws.Fits.{bits-step, bits-end, height-is, size-most, rest, here, Places, places-none, rest-all, rest-none, places-more, cells-there, words-there, cells-size, rest-next}
 
 -- ---- a cell
 
 -- an empty cell is a zero
-pub cell-blank : (c : ℕ) → c ≡ 4294967295 → {x y : List ℕ} {at r : ℕ} → Put (bitsOf 1 0) x y at r → CellPut c x y at r
+pub cell-blank : (c : ℕ) → filled c ≡ false → {x y : List ℕ} {at r : ℕ} → Put (bitsOf 1 0) x y at r → CellPut c x y at r
 unfolding cellBits bitsOf
-cell-blank c e P = record { put = λ K p. rw (empty-mark c e, cellBits) P; len = P .len; near = omega (arith, P .behind) }
+cell-blank c e P = record { put = λ K p. rw (e, cellBits) P; len = P .len; near = omega (arith, P .behind) }
 
--- a filled one is a one and its pin
-pub cell-full : (c : ℕ) → (c ≡ 4294967295 → ⊥) → {x y z : List ℕ} {at q r : ℕ} → Put (bitsOf 1 1) x y at q → Put (bitsOf 16 c) y z q r → CellPut c x z at r
-unfolding cellBits bitsOf
-cell-full c n P Q = record { put = λ K p. rw (marked c n, cellBits) (put-then P Q); len = Q .len ∙ P .len; near = omega (arith, P .behind, Q .behind) }
+-- a filled one is a one, its pin, and what it does
+pub cell-full : (c : ℕ) → filled c ≡ true → {w x y z : List ℕ} {at p q r n d : ℕ} → Put (bitsOf 1 1) w x at p → n ≡ cellPin c → Put (bitsOf 16 n) x y p q → d ≡ does c → Put (bitsOf 3 d) y z q r → CellPut c w z at r
+unfolding cellBits bitsOf behindPin
+cell-full c f {n = n} {d = d} P en Q ed R =
+    let a : Put (bitsOf 16 (cellPin c)) _ _ _ _ = rw en at Q in
+    let b : Put (bitsOf 3 (does c)) _ _ _ _ = rw ed at R in
+    record { put = λ K p. rw (f, cellBits) (put-then P (put-then a b)); len = R .len ∙ Q .len ∙ P .len; near = omega (arith, P .behind, Q .behind, R .behind, width 16 n, width 3 d) }
 
 -- ---- the cells of a stage
 
 -- the cells before index i are put, the rest is left
 pub record Cells (cells : List ℕ) (i from at : ℕ) (bytes bytes′ : List ℕ) : Type 0 where
   pub upto : i ≤ 1 + length cells
-  pub near : at + 17 ≤ from + 17 * i
+  pub near : at + 20 ≤ from + 20 * i
   pub len : length bytes′ ≡ length bytes
-  pub left : (K : ℕ) → Left (cellsBits sheetOne K 1 (drop 1 cells)) (cellsBits sheetOne K i (drop i cells)) bytes bytes′ from at
+  pub left : (K : ℕ) → Left (cellsBits sheetTwo K 1 (drop 1 cells)) (cellsBits sheetTwo K i (drop i cells)) bytes bytes′ from at
 
 -- at position 1 none is put
 pub cells-none : {cells : List ℕ} {from : ℕ} {bytes : List ℕ} → Cells cells 1 from from bytes bytes
@@ -106,8 +110,8 @@ stage-put {words = words} A P Q R = record {
 -- the stages before index i are put, the rest is left
 pub record Stages (K n : ℕ) (a : Areas) (i from at : ℕ) (bytes bytes′ : List ℕ) : Type 0 where
   pub places : Places K n (a .plan) (a .words) (a .counts) i from at
-  pub fits : stagesFit sheetOne K (rest K n (a .plan) (a .words) (a .counts) i from) ≡ true
-  pub left : Left (stagesBits sheetOne K (stagesIn K n (a .plan) (a .words) (a .counts))) (stagesBits sheetOne K (rest K n (a .plan) (a .words) (a .counts) i from)) bytes bytes′ 28 at
+  pub fits : stagesFit sheetTwo K (rest K n (a .plan) (a .words) (a .counts) i from) ≡ true
+  pub left : Left (stagesBits sheetTwo K (stagesIn K n (a .plan) (a .words) (a .counts))) (stagesBits sheetTwo K (rest K n (a .plan) (a .words) (a .counts) i from)) bytes bytes′ 28 at
 
 module _ {K n : ℕ} {a : Areas} (F : Fitting K n a) where
   -- the areas hold them
@@ -137,9 +141,9 @@ module _ {K n : ℕ} {a : Areas} (F : Fitting K n a) where
       next : rest K n (a .plan) (a .words) (a .counts) i from ≡ one ∷ rest K n (a .plan) (a .words) (a .counts) (i + 1) (from + count)
       next = rest-next stands (S .places) h count q size is-size
 
-      both : (stageFits sheetOne K one ≡ true) × (stagesFit sheetOne K (rest K n (a .plan) (a .words) (a .counts) (i + 1) (from + count)) ≡ true)
+      both : (stageFits sheetTwo K one ≡ true) × (stagesFit sheetTwo K (rest K n (a .plan) (a .words) (a .counts) (i + 1) (from + count)) ≡ true)
       unfolding stagesFit
-      both = and-true (stageFits sheetOne K one) (stagesFit sheetOne K (rest K n (a .plan) (a .words) (a .counts) (i + 1) (from + count))) (rw next at (S .fits))
+      both = and-true (stageFits sheetTwo K one) (stagesFit sheetTwo K (rest K n (a .plan) (a .words) (a .counts) (i + 1) (from + count))) (rw next at (S .fits))
 
       -- its cells and words are there
       pub part-there : (i * size + size ≤ length (a .plan)) × (from + count ≤ length (a .words))
@@ -149,7 +153,7 @@ module _ {K n : ℕ} {a : Areas} (F : Fitting K n a) where
       pub stage-asks : StageTo at (one .plan) (one .words)
       stage-asks =
           let l = cells-size stands (S .places) h count q size is-size in
-          record { near = omega (arith, S .places .near, F .few); few = rw l (size-most K (F .height) .0); short = leb-true (length (one .words)) 65535 (stage-fits sheetOne K one (both .0) .few) }
+          record { near = omega (arith, S .places .near, F .few); few = rw l (size-most K (F .height) .0); short = leb-true (length (one .words)) 65535 (stage-fits sheetTwo K one (both .0) .few) }
 
       -- one more stage is put
       pub stages-more : {b₂ : List ℕ} {r : ℕ} → StagePut (one .plan) (one .words) b₁ b₂ at r → Stages K n a (i + 1) (from + count) r b b₂
@@ -163,12 +167,12 @@ module _ {K n : ℕ} {a : Areas} (F : Fitting K n a) where
   -- ---- the sheet
 
   -- number, height, stage count, stages and padding are the sheet
-  pub sheet-put : {x y z u v o : List ℕ} {p q q₁ r s : ℕ} → Put (bitsOf 8 1) x y 0 p → Put (bitsOf 4 K) y z p q → Put (bitsOf 16 n) z u q q₁ → StagesPut K n a u v r → Put (bitsOf ((8 - r % 8) % 8) 0) v o r s → Put (fileBits K n a) x o 0 s
+  pub sheet-put : {x y z u v o : List ℕ} {p q q₁ r s : ℕ} → Put (bitsOf 8 2) x y 0 p → Put (bitsOf 4 K) y z p q → Put (bitsOf 16 n) z u q q₁ → StagesPut K n a u v r → Put (bitsOf ((8 - r % 8) % 8) 0) v o r s → Put (fileBits K n a) x o 0 s
   unfolding fileBits sheetBits
   sheet-put {q₁ = q₁} P Q R T Z =
-      let e : q₁ ≡ 28 = omega (arith, P .behind, Q .behind, R .behind, width 8 1, width 4 K, width 16 n) in
+      let e : q₁ ≡ 28 = omega (arith, P .behind, Q .behind, R .behind, width 8 2, width 4 K, width 16 n) in
       let ss = stagesIn K n (a .plan) (a .words) (a .counts) in
       let l : length ss ≡ n = held-in K n (a .plan) (a .words) (a .counts) stands .stages in
       let A = put-then (put-then (put-then P Q) (rw e at R)) (T .put) in
-      let d : ((bitsOf 8 1 ++ bitsOf 4 K) ++ bitsOf 16 n) ++ stagesBits sheetOne K ss ≡ bitsOf 8 1 ++ ((bitsOf 4 K ++ bitsOf 16 (length ss)) ++ stagesBits sheetOne K ss) = rw l (simp append-assoc) in
+      let d : ((bitsOf 8 2 ++ bitsOf 4 K) ++ bitsOf 16 n) ++ stagesBits sheetTwo K ss ≡ bitsOf 8 2 ++ ((bitsOf 4 K ++ bitsOf 16 (length ss)) ++ stagesBits sheetTwo K ss) = rw l (simp append-assoc) in
       put-padded (rw d at A) Z

@@ -8,19 +8,19 @@ use Rattle.sheet_write.proofs.fits.cells_end.Statement.{statement}
 use Rattle.sheet_write.proofs.fits.cells_end.Tie as tie
 
 abbrev Inv-loop : tie.InvT-loop
-Inv-loop cells from at₀ i₀ at i = Cells cells from i at
+Inv-loop height cells from at₀ i₀ at i = Cells height cells from i at
 
 abbrev μ-loop : tie.MeasureT-loop
-μ-loop cells from at₀ i₀ at i = length cells - i
+μ-loop height cells from at₀ i₀ at i = length cells - i
 
 loop-holds : tie.Need-loop-holds Inv-loop μ-loop
 loop-holds c = cells-none (c .before .pre .some)
 
-mul-cell-end : tie.Need-mul-cell-end Inv-loop μ-loop
-mul-cell-end c = search needs
+mul-t7 : tie.Need-mul-t7 Inv-loop μ-loop
+mul-t7 c = search needs
 
-shared-slice-read-cell-end : tie.Need-shared-slice-read-cell-end Inv-loop μ-loop
-shared-slice-read-cell-end c = search needs
+shared-slice-read-t10 : tie.Need-shared-slice-read-t10 Inv-loop μ-loop
+shared-slice-read-t10 c = search needs
 
 cell-end-requires : tie.Need-cell-end-requires Inv-loop μ-loop
 cell-end-requires c κs = search needs
@@ -50,8 +50,8 @@ cells-end-spec =
     Inv-loop
     μ-loop
     loop-holds
-    mul-cell-end
-    shared-slice-read-cell-end
+    mul-t7
+    shared-slice-read-t10
     cell-end-requires
     returns
     add-at

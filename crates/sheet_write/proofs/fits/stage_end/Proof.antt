@@ -37,7 +37,7 @@ add-cells-end-2 : tie.Need-add-cells-end-2
 add-cells-end-2 c = search needs
 
 cells-end-requires : tie.Need-cells-end-requires
-cells-end-requires c κs = record { some = omega (arith, c .before .before .before .before .before .before .before .before .pre .some); near = omega (arith, c .before .before .before .before .before .before .before .before .pre .near, c .before .before .before .before .before .before .before .before .pre .few, c .before .before .before .if2 .left) }
+cells-end-requires c κs = record { height = c .before .before .before .before .before .before .before .before .pre .height; some = omega (arith, c .before .before .before .before .before .before .before .before .pre .some); near = omega (arith, c .before .before .before .before .before .before .before .before .pre .near, c .before .before .before .before .before .before .before .before .pre .few, c .before .before .before .if2 .left) }
 
 returns-4 : tie.Need-returns-4
 returns-4 c = stage-cells (c .before .before .before .before .before .before .before .before .before .pre) _ (eqb-true _ _ (yes refl (c .before .before .before .before .before .if1 .left))) (c .before .before .before .before .if2 .left) (c .before .before .before .word-limit .ensures) (yes (c .before .before .words-fit .ensures) (c .before .if3 .left)) (c .cells-end .ensures)

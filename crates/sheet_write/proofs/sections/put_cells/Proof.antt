@@ -16,11 +16,11 @@ abbrev μ-loop : tie.MeasureT-loop
 loop-holds : tie.Need-loop-holds Inv-loop μ-loop
 loop-holds c = cells-none
 
-mul-put-cell : tie.Need-mul-put-cell Inv-loop μ-loop
-mul-put-cell c = search needs
+mul-t6 : tie.Need-mul-t6 Inv-loop μ-loop
+mul-t6 c = search needs
 
-shared-slice-read-put-cell : tie.Need-shared-slice-read-put-cell Inv-loop μ-loop
-shared-slice-read-put-cell c = search needs
+shared-slice-read-t11 : tie.Need-shared-slice-read-t11 Inv-loop μ-loop
+shared-slice-read-t11 c = search needs
 
 put-cell-requires : tie.Need-put-cell-requires Inv-loop μ-loop
 put-cell-requires c κs = omega (arith, c .before .before .before .loop .inv .near, c .before .before .before .loop .inv .upto, c .before .before .before .before .before .before .pre .near)
@@ -47,8 +47,8 @@ put-cells-spec =
     Inv-loop
     μ-loop
     loop-holds
-    mul-put-cell
-    shared-slice-read-put-cell
+    mul-t6
+    shared-slice-read-t11
     put-cell-requires
     add-i
     loop-less

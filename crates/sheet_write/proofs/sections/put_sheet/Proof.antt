@@ -11,13 +11,13 @@ put-requires : tie.Need-put-requires
 put-requires c κs = record { near = omega arith; short = omega arith }
 
 put-requires-2 : tie.Need-put-requires-2
-put-requires-2 c κs = record { near = omega (arith, c .before .before .before .put .ensures .behind, width 8 1); short = omega arith }
+put-requires-2 c κs = record { near = omega (arith, c .before .before .before .put .ensures .behind, width 8 2); short = omega arith }
 
 cast-put : tie.Need-cast-put
 cast-put c = search needs
 
 put-requires-3 : tie.Need-put-requires-3
-put-requires-3 c κs = record { near = omega (arith, c .before .before .before .before .before .before .before .put .ensures .behind, width 8 1, c .before .before .before .put2 .ensures .behind, width 4 (c .before .before .before .before .before .before .before .before .before .before .before .before .before .args .height)); short = omega arith }
+put-requires-3 c κs = record { near = omega (arith, c .before .before .before .before .before .before .before .put .ensures .behind, width 8 2, c .before .before .before .put2 .ensures .behind, width 4 (c .before .before .before .before .before .before .before .before .before .before .before .before .before .args .height)); short = omega arith }
 
 put-stages-requires : tie.Need-put-stages-requires
 put-stages-requires c κs = c .before .before .before .before .before .before .before .before .before .before .before .before .before .before .before .before .before .pre
