@@ -209,7 +209,7 @@ module _ (rule : WordRule) (K : ℕ) (gates given records : List ℕ) (a : build
   unfolding writer
   writer-built bytes =
       let w : sheetIn sheetTwo K (length ss) (three (areasAfter K (workSize gates records) left a)) ≡ writeSheet sheetTwo built
-          = rw (stages-coded K g ss) at (after-in sheetTwo K (workSize gates records) left (sized-coded K g ss) a) in
+      = rw (stages-coded K g ss) at (after-in sheetTwo K (workSize gates records) left (sized-coded K g ss) a) in
       rw (w, built-written)
 
   -- Bytes that are read as what the placer leaves, into areas with as many rooms, a count each, and W words, leave these as the placer does, with the same

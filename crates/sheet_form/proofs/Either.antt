@@ -1,5 +1,5 @@
 -- Reading either sheet. Assumes nothing.
-use Prim.Native.Nat.{ℕ, _<_}
+use Prim.Native.Nat.{ℕ, _^_, _<_, _≤_}
 use mathlib.Core.Path.{_≡_, refl, sym, _∙_}
 use mathlib.Core.Bool.{true, false, _&&_}
 use mathlib.Core.List.{List, [], _∷_}
@@ -15,6 +15,7 @@ use Rattle.sheet_form.specs.Sheets.{Sheet, Sheet?, refused, sheet, readS
 use Rattle.sheet_form.specs.Lifting.{stagesLift, lift, readEither}
 use Rattle.sheet_form.proofs.Sheets.{no-sheet, Held, wrote}
 use Rattle.sheet_form.proofs.Forms.{one, two, one-only, two-only}
+use Rattle.sheet_form.proofs.Sizes.{sheet-most}
 use Rattle.sheet_form.proofs.Lifting.{liftSheet, lift-held}
 
 module _ (gates : List ℕ) where
@@ -65,3 +66,16 @@ module _ (gates : List ℕ) where
   either-held (b ∷ bs) T B e = split (eqb b 1 && ltb 0 (length gates))
       (λ t. lifted-held (readSheet sheetOne (b ∷ bs)) T (λ S d. wrote sheetOne one S (b ∷ bs) (one-only S (b ∷ bs) B d) .held) (rw (t, readEither) at e))
       (λ t. wrote sheetTwo two T (b ∷ bs) (two-only T (b ∷ bs) B (rw (t, readEither) at e)) .held)
+
+  lifted-most : (bs : List ℕ) → Bytes bs → (r : Sheet?) (T : Sheet) → readSheet sheetOne bs ≡ r → lift (graphOf gates) r ≡ sheet T → length bs ≤ 2 ^ 40
+  unfolding lift
+  lifted-most bs B (refused n) T d e = no-sheet e
+  lifted-most bs B (sheet S) T d e = sheet-most 1 (omega arith) S bs (one-only S bs B d)
+
+  -- No sheet has more than 2^40 bytes.
+  pub either-most : (bs : List ℕ) (T : Sheet) → Bytes bs → readEither gates bs ≡ sheet T → length bs ≤ 2 ^ 40
+  unfolding readEither
+  either-most [] T B e = omega arith
+  either-most (b ∷ bs) T B e = split (eqb b 1 && ltb 0 (length gates))
+      (λ t. lifted-most (b ∷ bs) B (readSheet sheetOne (b ∷ bs)) T refl (rw (t, readEither) at e))
+      (λ t. sheet-most 2 (omega arith) T (b ∷ bs) (two-only T (b ∷ bs) B (rw (t, readEither) at e)))

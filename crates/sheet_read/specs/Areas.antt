@@ -24,13 +24,13 @@ pub record Padded (used room x : ℕ) (xs xs′ : List ℕ) : Type 0 where
   pub is : (ys zs : List ℕ) → length ys ≡ used → length ys ≤ length zs → xs ≡ laidOver ys zs → xs′ ≡ laidOver (padded room x ys) zs
 
 -- a sheet, and areas with room for it
-pub record FillAt (xs : List ℕ) (K n total : ℕ) (p w c : List ℕ) : Type 0 where
-  pub known : Known xs K n total
+pub record FillAt (number : ℕ) (gates xs : List ℕ) (K n total : ℕ) (p w c : List ℕ) : Type 0 where
+  pub known : Known number gates xs K n total
   pub room : roomFor K n total (length p) (length w) (length c) ≡ true
 
 -- the areas as reading leaves them
-pub record Filled (xs : List ℕ) (K n total : ℕ) (p w c p′ w′ c′ : List ℕ) : Type 0 where
+pub record Filled (number : ℕ) (gates xs : List ℕ) (K n total : ℕ) (p w c p′ w′ c′ : List ℕ) : Type 0 where
   pub plan : length p′ ≡ length p
   pub words : length w′ ≡ length w
   pub counts : length c′ ≡ length c
-  pub is : (k : Known xs K n total) → areas p′ w′ c′ ≡ areasWith (sheetWith K (k .ss)) (areas p w c)
+  pub is : (k : Known number gates xs K n total) → areas p′ w′ c′ ≡ areasWith (sheetWith K (k .ss)) (areas p w c)

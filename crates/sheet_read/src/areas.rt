@@ -47,6 +47,8 @@ fn pad(area: &mut [u32], used: usize, room: usize, x: u32)
 // The stages, and behind them what a build leaves in areas that it does not use.
 pub fn fill(
     bytes: &[u8],
+    number: u32,
+    gates: &[u32],
     height: u32,
     stages: usize,
     total: usize,
@@ -54,10 +56,10 @@ pub fn fill(
     words: &mut [u32],
     counts: &mut [u32],
 )
-    requires { ⌜ FillAt (now bytes) height stages total (now plan) (now words) (now counts) ⌝ }
-    ensures { λ _. ⌜ Filled (now (bytes .entry)) height stages total (now (plan .entry)) (now (words .entry)) (now (counts .entry)) (now (plan .exit)) (now (words .exit)) (now (counts .exit)) ⌝ }
+    requires { ⌜ FillAt number (now gates) (now bytes) height stages total (now plan) (now words) (now counts) ⌝ }
+    ensures { λ _. ⌜ Filled number (now (gates .entry)) (now (bytes .entry)) height stages total (now (plan .entry)) (now (words .entry)) (now (counts .entry)) (now (plan .exit)) (now (words .exit)) (now (counts .exit)) ⌝ }
 {
-    walk(bytes, plan, words, counts);
+    walk(bytes, number, gates, plan, words, counts);
     let h = Height(height);
     let rooms = h.rooms(plan.len());
     let size = h.stage_size();

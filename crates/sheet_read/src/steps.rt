@@ -1,13 +1,12 @@
-// The walk through cells and words. A number is stored where the area reaches so far, so that an area of length 0 only measures. A step that ends past
+// The walk through words. A number is stored where the area reaches so far, so that an area of length 0 only measures. A step that ends past
 // the end met what 15 refuses, and the walk stops there.
 use bits::field;
 use cells::Height;
 use cells::wide;
-use graph::EMPTY;
 ghost use mathlib.Core.Path.{_≡_};
 ghost use lib.ListN.{set};
 ghost use Rattle.job.specs.Steps.{Took};
-ghost use Rattle.sheet_read.specs.Steps.{onePin, oneCell, oneWord, cellsRead, wordsRead, At, WordsAt};
+ghost use Rattle.sheet_read.specs.Steps.{oneWord, wordsRead, WordsAt};
 
 // The bit behind what was read, and how many numbers are stored.
 pub struct Step {
@@ -22,76 +21,6 @@ pub fn store(area: &mut [u32], i: usize, x: u32)
         return;
     }
     area[i] = x;
-}
-
-fn read_pin(bytes: &[u8], at: usize, area: &mut [u32], s: usize) -> Step
-    requires { ⌜ At at s (now bytes) ⌝ }
-    ensures { λ r. ⌜ Took onePin (now (bytes .entry)) at s (now (area .entry)) (now (area .exit)) (r .at) (r .count) ⌝ }
-{
-    let end = 8 * bytes.len();
-    if end - at < 16 {
-        return Step {
-            at: end + 1,
-            count: s,
-        };
-    }
-    let pin = field(bytes, at, 16);
-    if pin == 0 {
-        return Step {
-            at: end + 1,
-            count: s,
-        };
-    }
-    store(area, s, pin);
-    Step {
-        at: at + 16,
-        count: s + 1,
-    }
-}
-
-// A pin, or the empty mark.
-fn read_cell(bytes: &[u8], at: usize, area: &mut [u32], s: usize) -> Step
-    requires { ⌜ At at s (now bytes) ⌝ }
-    ensures { λ r. ⌜ Took oneCell (now (bytes .entry)) at s (now (area .entry)) (now (area .exit)) (r .at) (r .count) ⌝ }
-{
-    let end = 8 * bytes.len();
-    if end <= at {
-        return Step {
-            at: end + 1,
-            count: s,
-        };
-    }
-    if field(bytes, at, 1) == 1 {
-        return read_pin(bytes, at + 1, area, s);
-    }
-    store(area, s, EMPTY);
-    Step {
-        at: at + 1,
-        count: s + 1,
-    }
-}
-
-pub fn read_cells(bytes: &[u8], from: usize, n: usize, area: &mut [u32], s: usize) -> Step
-    requires { ⌜ At from s (now bytes) ⌝ }
-    ensures { λ r. ⌜ Took (cellsRead n) (now (bytes .entry)) from s (now (area .entry)) (now (area .exit)) (r .at) (r .count) ⌝ }
-{
-    let end = 8 * bytes.len();
-    let mut at = from;
-    let mut count = s;
-    let mut i = 0;
-    while i < n {
-        let step = read_cell(bytes, at, area, count);
-        if end < step.at {
-            return step;
-        }
-        at = step.at;
-        count = step.count;
-        i += 1;
-    }
-    Step {
-        at: at,
-        count: count,
-    }
 }
 
 // A word below W.

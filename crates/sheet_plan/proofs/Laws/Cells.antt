@@ -185,7 +185,7 @@ module _ {K from : ℕ} {xs cells₀ : List ℕ} (A : CellsAt K from xs cells₀
       cells-more k =
           let l : length (set cells p c) ≡ length cells = length-set cells p c in
           let e : readCells (form number) K (length cells - p) p (drop at (bitsIn xs)) ≡ after (c ∷ []) (readCells (form number) K (length cells - (p + 1)) (p + 1) (drop at₂ (bitsIn xs)))
-              = rw (step, add-one p) (next-cell number K (length cells - suc p) p (drop at (bitsIn xs)) (T .is k)) in
+          = rw (step, add-one p) (next-cell number K (length cells - suc p) p (drop at (bitsIn xs)) (T .is k)) in
           let t : take (p + 1) (set cells p c) ≡ take p cells ++ (c ∷ []) = rw (add-one p) (take-suc-set cells p c h) in
           record {
             low = omega arith;

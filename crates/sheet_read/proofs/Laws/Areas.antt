@@ -115,7 +115,7 @@ rooms-most : (K size : ℕ) → rooms K size * 2 ^ (K + 1) ≤ size
 unfolding rooms
 rooms-most K size = le-div-iff-mul-le (pow-pos (K + 1)) .0 (omega arith)
 
-module _ {xs : List ℕ} {K n total : ℕ} {p w c : List ℕ} (A : FillAt xs K n total p w c) where
+module _ {number : ℕ} {gates xs : List ℕ} {K n total : ℕ} {p w c : List ℕ} (A : FillAt number gates xs K n total p w c) where
   -- the walk may be done again
   pub walk-asks : SheetAt xs
   walk-asks = record { some = A .known .some; small = A .known .small }
@@ -123,7 +123,7 @@ module _ {xs : List ℕ} {K n total : ℕ} {p w c : List ℕ} (A : FillAt xs K n
   R : Room K n total (length p) (length w) (length c)
   R = room-is K n total (length p) (length w) (length c) (A .room)
 
-  module _ {p₁ w₁ c₁ : List ℕ} {at K₁ n₁ t₁ : ℕ} (W : Walked xs p w c p₁ w₁ c₁ at K₁ n₁ t₁) where
+  module _ {p₁ w₁ c₁ : List ℕ} {at K₁ n₁ t₁ : ℕ} (W : Walked number gates xs p w c p₁ w₁ c₁ at K₁ n₁ t₁) where
     -- the areas keep their lengths
     pub plan-length : length p₁ ≡ length p
     plan-length = W .kept .plan
@@ -155,7 +155,7 @@ module _ {xs : List ℕ} {K n total : ℕ} {p w c : List ℕ} (A : FillAt xs K n
         limit-there = omega (arith, R .limit, is-height K (wordLimit K) h el, W .kept .words)
 
         -- stages and filling are what reading leaves
-        pub filled : {p₂ w₂ c₂ : List ℕ} → Padded (n * s) (r * s) 4294967295 p₁ p₂ → Padded total l 4294967295 w₁ w₂ → Padded n r 0 c₁ c₂ → Filled xs K n total p w c p₂ w₂ c₂
+        pub filled : {p₂ w₂ c₂ : List ℕ} → Padded (n * s) (r * s) 4294967295 p₁ p₂ → Padded total l 4294967295 w₁ w₂ → Padded n r 0 c₁ c₂ → Filled number gates xs K n total p w c p₂ w₂ c₂
         unfolding areasWith empty
         filled P Q S = record {
           plan = P .len ∙ plan-length;

@@ -1,14 +1,13 @@
--- One cell, one word, and many of them. Assumes nothing.
+-- One word, and many of them. Assumes nothing.
 use mathlib.Core.Path.{_≡_, refl, sym, ap, _∙_}
 use mathlib.Core.Bool.{Bool, true, false}
 use mathlib.Core.List.{List, [], _∷_, _++_}
 use Prim.Native.Nat.{ℕ, zero, suc, _+_, _-_, _*_, _^_, _<_, _≤_}
 use native.Mathlib.Omega.{arith}
-use lib.Dec.{ltb, eqb}
 use lib.ListN.{length, set, drop, length-set, length-append}
-use borrow.Author.Tests.{le-ltb, lt-ltb, eq-eqb, ne-eqb, eqb-true, eqb-false}
+use borrow.Author.Tests.{le-ltb, lt-ltb}
 use Rattle.rules.specs.Lists.{every}
-use Rattle.rules.specs.Cells.{empty, isHeight, wordLimit}
+use Rattle.rules.specs.Cells.{isHeight, wordLimit, wordFits}
 use Rattle.rules.specs.Job.{Read, cut, got, next, field, fields}
 use Rattle.rules.proofs.Lists.Members.{split}
 use Rattle.rules.proofs.Job.Fields.{through, no-cut, same-got}
@@ -17,71 +16,7 @@ use Rattle.bits.specs.Fields.{bitsIn, FieldIs}
 use Rattle.bits.proofs.Laws.Fields.{field-there, field-lost}
 use Rattle.job.specs.Steps.{Took}
 use Rattle.job.proofs.Laws.Many.{Reader, many, Going, took-lost}
-use Rattle.sheet_form.specs.Forms.{readCoded, fitsOne, sheetOne}
-use Rattle.sheet_form.specs.Sheets.{wordFits, readCell, readCells}
-use Rattle.sheet_read.specs.Steps.{onePin, oneCell, oneWord, cellsRead, wordsRead, At, WordsAt}
-
--- ---- a pin
-
-module _ {at s : ℕ} {xs : List ℕ} (A : At at s xs) where
-  -- too few bits left for a pin: cut
-  pub pin-lost : 8 * length xs - at < 16 → {a : List ℕ} → Took onePin xs at s a a (8 * length xs + 1) s
-  unfolding onePin readCoded next
-  pin-lost h = took-lost refl (rw (field-lost at 16 xs h))
-
-  module _ (h : 16 ≤ 8 * length xs - at) {n : ℕ} (F : FieldIs at 16 xs n) where
-    there : field 16 (drop at (bitsIn xs)) ≡ got n (drop (at + 16) (bitsIn xs))
-    there = let i = A .inside in field-there at 16 xs n F (omega arith)
-
-    -- a pin 0 is refused as a cut is
-    pub pin-zero : n ≡ 0 → {a : List ℕ} → Took onePin xs at s a a (8 * length xs + 1) s
-    unfolding onePin readCoded next fitsOne
-    pin-zero z = took-lost refl (rw (there, next, le-ltb 0 n (omega arith)))
-
-    -- any other is stored
-    pub pin-took : (n ≡ 0 → ⊥) → {a a′ : List ℕ} → a′ ≡ set a s n → Took onePin xs at s a a′ (at + 16) (s + 1)
-    unfolding onePin readCoded next fitsOne
-    pin-took z {a} e =
-        let i = A .inside in
-        let p : 0 < n = split (eqb n 0) (λ t. absurd (z (eqb-true n 0 t))) (λ t. let k = eqb-false n 0 t in omega arith) in
-        record {
-          len = ap length e ∙ length-set a s n;
-          lost = λ k _. absurd (omega arith);
-          read = λ _. record { from = i; these = n ∷ []; is = rw (there, next, lt-ltb 0 n p, lt-ltb n 65536 (F .below)); area = e; count = refl; few = omega arith };
-        }
-
--- ---- a cell
-
-module _ {at s : ℕ} {xs : List ℕ} (A : At at s xs) where
-  -- no bit left for a cell: cut
-  pub cell-lost : 8 * length xs ≤ at → {a : List ℕ} → Took oneCell xs at s a a (8 * length xs + 1) s
-  unfolding oneCell readCell next
-  cell-lost h = took-lost refl (rw (field-lost at 1 xs (omega arith)))
-
-  module _ (h : at < 8 * length xs) {n : ℕ} (F : FieldIs at 1 xs n) where
-    -- behind a filled bit a pin may be read
-    pub pin-at : At (at + 1) s xs
-    pin-at = record { small = A .small; inside = omega arith; room = omega (arith, A .room) }
-
-    -- a filled bit and a pin are a cell
-    pub cell-pin : n ≡ 1 → {a a′ : List ℕ} {at′ s′ : ℕ} → Took onePin xs (at + 1) s a a′ at′ s′ → Took oneCell xs at s a a′ at′ s′
-    unfolding oneCell onePin readCell next
-    cell-pin e T =
-        let i : oneCell (drop at (bitsIn xs)) ≡ onePin (drop (at + 1) (bitsIn xs)) = rw (field-there at 1 xs n F (omega arith), next, eq-eqb n 1 e) in
-        record {
-          len = T .len;
-          lost = λ k _. i ∙ T .lost k (omega arith);
-          read = λ k. let R = T .read k in record { from = omega arith; these = R .these; is = i ∙ R .is; area = R .area; count = R .count; few = omega (arith, R .few) };
-        }
-
-    -- another bit is an empty cell
-    pub cell-empty : (n ≡ 1 → ⊥) → {a a′ : List ℕ} → a′ ≡ set a s empty → Took oneCell xs at s a a′ (at + 1) (s + 1)
-    unfolding oneCell readCell next
-    cell-empty e {a} d = record {
-      len = ap length d ∙ length-set a s empty;
-      lost = λ k _. absurd (omega arith);
-      read = λ _. record { from = omega arith; these = empty ∷ []; is = rw (field-there at 1 xs n F (omega arith), next, ne-eqb n 1 e); area = d; count = refl; few = omega arith };
-    }
+use Rattle.sheet_read.specs.Steps.{oneWord, wordsRead, WordsAt}
 
 -- ---- a word
 
@@ -116,23 +51,6 @@ module _ {K at s : ℕ} {xs : List ℕ} (A : WordsAt K at s xs) where
         }
 
 -- ---- many
-
-cell-first : (K n p : ℕ) (r : Read ℕ) → ((bs : List ℕ) → readCells sheetOne K n (suc p) bs ≡ many oneCell n bs) →
-    next r (λ c cs. next (readCells sheetOne K n (suc p) cs) (λ xs ds. got (c ∷ xs) ds)) ≡ next (next r (λ c cs. got (c ∷ []) cs)) (λ x cs. next (many oneCell n cs) (λ xs ds. got (x ++ xs) ds))
-unfolding next
-cell-first K n p cut e = refl
-cell-first K n p (got x cs) e = rw (e cs)
-
--- so many cells of sheet 1, at any height and position, are so many readings of one
-pub cells-any : (K n p : ℕ) (bs : List ℕ) → readCells sheetOne K n p bs ≡ many oneCell n bs
-unfolding readCells many oneCell readCell readCoded fitsOne
-cells-any K zero p bs = refl
-cells-any K (suc n) p bs = cell-first K n p (readCell sheetOne 0 0 bs) (cells-any K n (suc p))
-
--- what the code reads
-pub cells-many : (n : ℕ) (bs : List ℕ) → cellsRead n bs ≡ many oneCell n bs
-unfolding cellsRead
-cells-many n bs = cells-any 0 n 0 bs
 
 abbrev judged : ℕ → List ℕ → List ℕ → Read (List ℕ)
 judged K ws ds = elim (every (wordFits K) ws) [ true ↦ got ws ds | false ↦ cut ]
@@ -184,27 +102,15 @@ many-length one h (suc n) bs ys ds e =
     let u = through (many one n (t .b)) (λ xs ds. got (t .a ++ xs) ds) (t .second) in
     same-got (λ (x y : List ℕ). length x ≡ suc n) (u .second) (omega (arith, length-append (t .a) (u .a), h bs (t .a) (t .b) (t .first), many-length one h n (t .b) (u .a) (u .b) (u .first)))
 
-cell-one : (bs ys ds : List ℕ) → oneCell bs ≡ got ys ds → length ys ≡ 1
-unfolding oneCell
-cell-one bs ys ds e = let t = through (readCell sheetOne 0 0 bs) (λ c cs. got (c ∷ []) cs) e in same-got (λ (x y : List ℕ). length x ≡ 1) (t .second) refl
-
 word-one : (K : ℕ) (bs ys ds : List ℕ) → oneWord K bs ≡ got ys ds → length ys ≡ 1
 unfolding oneWord
 word-one K bs ys ds e =
     let t = through (field 8 bs) (λ w cs. elim (wordFits K w) [ true ↦ got (w ∷ []) cs | false ↦ cut ]) e in
     split (wordFits K (t .a)) (λ v. same-got (λ (x y : List ℕ). length x ≡ 1) (rw v at (t .second)) refl) (λ v. no-cut (rw v at (t .second)))
 
--- so many cells are read
-pub cells-length : (n : ℕ) (bs ys ds : List ℕ) → cellsRead n bs ≡ got ys ds → length ys ≡ n
-cells-length n bs ys ds e = many-length oneCell cell-one n bs ys ds (sym (cells-many n bs) ∙ e)
-
 -- so many words are read
 pub words-length : (K n : ℕ) (bs ys ds : List ℕ) → wordsRead K n bs ≡ got ys ds → length ys ≡ n
 words-length K n bs ys ds e = many-length (oneWord K) (word-one K) n bs ys ds (sym (words-many K n bs) ∙ e)
-
--- the next cell may be read
-pub cells-at : {one : Reader} {xs : List ℕ} {n i from s : ℕ} {a a₁ : List ℕ} {at count : ℕ} → Going one xs n i from s a a₁ at count → At from s xs → At at count xs
-cells-at G A = record { small = A .small; inside = G .inside; room = omega (arith, G .few, A .room) }
 
 -- the next word may be read
 pub words-at : {one : Reader} {xs : List ℕ} {K n i from s : ℕ} {a a₁ : List ℕ} {at count : ℕ} → Going one xs n i from s a a₁ at count → WordsAt K from s xs → WordsAt K at count xs

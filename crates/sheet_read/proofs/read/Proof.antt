@@ -1,8 +1,6 @@
 -- `sheet_read::read` meets its contract. Assumes nothing.
-use native.Mathlib.Omega.{arith}
 use mathlib.Core.Path.{refl, _∙_}
-use denote.Ref.{now}
-use Rattle.rules.proofs.Lists.Members.{eqb-true, eqb-false}
+use native.Mathlib.Omega.{arith}
 use Rattle.rules.proofs.Bools.{no, yes}
 use Rattle.sheet_read.proofs.Laws.Answers.{refuses, none-read, other-read, no-read, short-read, is-read}
 use borrow.Author.Needs.{needs}
@@ -13,19 +11,22 @@ refuse-requires : tie.Need-refuse-requires
 refuse-requires c κs = search needs
 
 returns : tie.Need-returns
-returns c = refuses (c .refuse .ensures) _ ∙ none-read _ (omega (arith, c .before .if1 .taken)) _
+returns c = refuses (c .refuse .ensures) _ ∙ none-read _ _ (omega (arith, c .before .if1 .taken)) _
 
-shared-slice-read-if2 : tie.Need-shared-slice-read-if2
-shared-slice-read-if2 c = search needs
+shared-slice-read-number-of : tie.Need-shared-slice-read-number-of
+shared-slice-read-number-of c = search needs
+
+number-of-requires : tie.Need-number-of-requires
+number-of-requires c κs = search needs
 
 refuse-requires-2 : tie.Need-refuse-requires-2
 refuse-requires-2 c κs = search needs
 
 returns-2 : tie.Need-returns-2
-returns-2 c = refuses (c .refuse2 .ensures) _ ∙ other-read _ (λ z. omega (arith, c .before .before .before .if1 .left)) (eqb-false _ _ (no refl (c .before .if2 .taken))) _
+returns-2 c = refuses (c .refuse2 .ensures) _ ∙ other-read _ _ (λ z. omega (arith, c .before .before .before .before .if1 .left)) _ (c .before .before .number-of .ensures) (c .before .if2 .taken) _
 
 judge-requires : tie.Need-judge-requires
-judge-requires c κs = record { some = omega (arith, c .before .before .before .before .before .if1 .left); one = eqb-true _ _ (yes refl (c .before .before .before .if2 .left)) }
+judge-requires c κs = record { some = omega (arith, c .before .before .before .before .before .before .if1 .left); is = c .before .before .before .before .number-of .ensures; known = c .before .before .before .if2 .left }
 
 refuse-requires-3 : tie.Need-refuse-requires-3
 refuse-requires-3 c κs = search needs
@@ -81,7 +82,8 @@ read-spec =
     (tie.spec
     refuse-requires
     returns
-    shared-slice-read-if2
+    shared-slice-read-number-of
+    number-of-requires
     refuse-requires-2
     returns-2
     judge-requires
