@@ -13,18 +13,19 @@ ghost use Rattle.entries.specs.Sheets.{sheetRead, sheetWritten};
 // that is 2, and nothing is changed.
 #[no_mangle]
 pub extern "C" fn read_sheet(
+    gates: &[u32],
     bytes: &[u8],
     plan: &mut [u32],
     words: &mut [u32],
     counts: &mut [u32],
     answer: &mut [usize],
 ) -> u32
-    ensures { λ r. ⌜ entry r (areas (now (plan .exit)) (now (words .exit)) (now (counts .exit))) (now (answer .exit)) ≡ sheetRead (now (bytes .entry)) (areas (now (plan .entry)) (now (words .entry)) (now (counts .entry))) (now (answer .entry)) ⌝ }
+    ensures { λ r. ⌜ entry r (areas (now (plan .exit)) (now (words .exit)) (now (counts .exit))) (now (answer .exit)) ≡ sheetRead (now (gates .entry)) (now (bytes .entry)) (areas (now (plan .entry)) (now (words .entry)) (now (counts .entry))) (now (answer .entry)) ⌝ }
 {
     if answer.len() < 4 {
         return WRONG_SIZE;
     }
-    let a = read(bytes, plan, words, counts);
+    let a = read(gates, bytes, plan, words, counts);
     let numbers = [wide(a.number), wide(a.height), a.stages, a.words];
     tell(&numbers, answer);
     a.number
