@@ -1,7 +1,7 @@
 -- A stage of pins that is to be coded, and a plan of them. Assumes nothing.
 use Prim.Native.Nat.{ℕ, zero, suc, _+_, _*_, _^_, _≤_, _<_}
 use mathlib.Core.Path.{_≡_}
-use mathlib.Core.Bool.{true}
+use mathlib.Core.Bool.{Bool, true}
 use mathlib.Core.List.{List, _++_}
 use lib.ListN.{length, getD, take, drop}
 use Rattle.rules.specs.Cells.{isHeight, empty, filled, stageSize, firstLower}
@@ -23,6 +23,21 @@ pub record CellAt (K : ℕ) (cells : List ℕ) (p : ℕ) : Type 0 where
   pub here : p < length cells
   pub first : p < 2 ^ K → firstLower p < length cells
   pub pin : filled (getD cells p empty) ≡ true → getD cells p empty < 65536
+
+-- the first i cells of a stage coded, the others pins still
+unfoldable pub codedTo : ℕ → List Node → List ℕ → ℕ → List ℕ
+codedTo K g pl i = take i (coded K g pl) ++ drop i pl
+
+-- positions `from` to `to`, above level 0, are the next to be coded of a stage of pins
+pub record PartAt (K : ℕ) (g : List Node) (from to : ℕ) (cells pl : List ℕ) : Type 0 where
+  pub stage : StageAt K pl
+  pub now : cells ≡ codedTo K g pl from
+  pub order : from ≤ to
+  pub high : to ≤ 2 ^ K
+
+-- eight cells that are told to be empty are
+pub record Blank (cells : List ℕ) (p : ℕ) (r : Bool) : Type 0 where
+  pub all : r ≡ true → (q : ℕ) → p ≤ q → q < p + 8 → getD cells q 0 ≡ 4294967295
 
 -- the first n stages of a plan, coded
 unfoldable pub codedPlan : ℕ → ℕ → List Node → List ℕ → List ℕ

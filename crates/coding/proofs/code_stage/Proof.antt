@@ -1,18 +1,15 @@
--- `coding::code_stage` meets its contract: the cells before p are coded. Assumes nothing.
-use Prim.Native.Nat.{_-_, _≤_}
-use mathlib.Core.Path.{_≡_, refl}
+-- `coding::code_stage` meets its contract: eight cells at a time, those before p are coded. Assumes nothing.
+use Prim.Native.Nat.{_-_}
 use native.Mathlib.Omega.{arith}
-use mathlib.Core.List.{[]}
-use lib.ListN.{length}
+use borrow.Author.Tests.{not-false}
 use Rattle.rules.specs.Graph.{graphOf}
-use Rattle.coded.proofs.InPlace.{partly}
-use Rattle.coding.proofs.Laws.{width-is, partly-none, inside, partly-cell, partly-more, partly-done}
+use Rattle.coding.proofs.Laws.{Coming, coming-none, coming-long, coming-room, coming-part, coming-coded, coming-blank, coming-done}
 use borrow.Author.Needs.{needs}
 use Rattle.coding.proofs.code_stage.Statement.{statement}
 use Rattle.coding.proofs.code_stage.Tie as tie
 
 abbrev Inv-loop : tie.InvT-loop
-Inv-loop height cells₀ gates end p₀ cells p = (length cells ≡ length cells₀) × (p ≤ end) × (cells ≡ partly (height .0) (graphOf gates) cells₀ p)
+Inv-loop height cells₀ gates end p₀ cells p = Coming (height .0) (graphOf gates) cells₀ end p cells
 
 abbrev μ-loop : tie.MeasureT-loop
 μ-loop height cells₀ gates end p₀ cells p = end - p
@@ -21,34 +18,34 @@ width-requires : tie.Need-width-requires Inv-loop μ-loop
 width-requires c κs = search needs
 
 loop-holds : tie.Need-loop-holds Inv-loop μ-loop
-loop-holds c = (refl, omega arith, partly-none _ _ _ (c .before .before .before .pre))
+loop-holds c = coming-none _ _ _ (c .before .before .before .pre) _ (c .width .ensures)
 
-cast-coded-cell : tie.Need-cast-coded-cell Inv-loop μ-loop
-cast-coded-cell c = omega (arith, inside _ _ _ (c .before .before .before .before .before .before .pre) _ _ _ (c .before .before .before .width .ensures) (c .before .before .loop .inv .2) (c .before .loop-test .taken) (c .before .before .loop .inv .0), c .before .before .before .before .before .before .pre .double, c .before .before .before .before .before .before .pre .high)
+add-next : tie.Need-add-next Inv-loop μ-loop
+add-next c = omega (arith, coming-room _ _ _ (c .before .before .before .before .before .pre) _ (c .before .before .width .ensures) _ _ (c .before .loop .inv) (c .loop-test .taken), c .before .before .before .before .before .pre .high)
 
-coded-cell-requires : tie.Need-coded-cell-requires Inv-loop μ-loop
-coded-cell-requires c κs = partly-cell _ _ _ (c .before .before .before .before .before .before .pre) _ _ _ (c .before .before .before .width .ensures) (c .before .before .loop .inv .2) (c .before .loop-test .taken) (c .before .before .loop .inv .0)
+blank-requires : tie.Need-blank-requires Inv-loop μ-loop
+blank-requires c κs = omega (arith, coming-room _ _ _ (c .before .before .before .before .before .before .pre) _ (c .before .before .before .width .ensures) _ _ (c .before .before .loop .inv) (c .before .loop-test .taken), coming-long _ _ _ (c .before .before .before .before .before .before .pre) _ (c .before .before .before .width .ensures) _ _ (c .before .before .loop .inv), c .before .before .before .before .before .before .pre .size, c .before .before .before .before .before .before .pre .double)
 
-mul-cells : tie.Need-mul-cells Inv-loop μ-loop
-mul-cells c = omega (arith, inside _ _ _ (c .before .before .before .before .before .before .before .pre) _ _ _ (c .before .before .before .before .width .ensures) (c .before .before .before .loop .inv .2) (c .before .before .loop-test .taken) (c .before .before .before .loop .inv .0), c .before .before .before .before .before .before .before .pre .double, c .before .before .before .before .before .before .before .pre .high)
-
-slice-write-cells : tie.Need-slice-write-cells Inv-loop μ-loop
-slice-write-cells c = omega (arith, inside _ _ _ (c .before .before .before .before .before .before .before .pre) _ _ _ (c .before .before .before .before .width .ensures) (c .before .before .before .loop .inv .2) (c .before .before .loop-test .taken) (c .before .before .before .loop .inv .0), c .before .before .before .loop .inv .0, c .before .before .before .before .before .before .before .pre .size)
-
-add-p : tie.Need-add-p Inv-loop μ-loop
-add-p c = search needs
+code-part-requires : tie.Need-code-part-requires Inv-loop μ-loop
+code-part-requires c κs = record { it = _; at = coming-part _ _ _ (c .before .before .before .before .before .before .before .before .before .pre) _ (c .before .before .before .before .before .before .width .ensures) _ _ (c .before .before .before .before .before .loop .inv) (c .before .before .before .before .loop-test .taken) }
 
 loop-less : tie.Need-loop-less Inv-loop μ-loop
 loop-less c = search needs
 
 loop-again : tie.Need-loop-again Inv-loop μ-loop
-loop-again c = (search needs, omega (arith, c .before .before .loop-test .taken), partly-more _ _ _ (c .before .before .before .before .before .before .before .pre) _ _ _ (c .before .before .before .before .width .ensures) (c .before .before .before .loop .inv .2) (c .before .before .loop-test .taken) (c .before .before .before .loop .inv .0) _ (c .coded-cell .ensures))
+loop-again c = coming-coded _ _ _ (c .before .before .before .before .before .before .before .before .before .before .before .before .pre) _ (c .before .before .before .before .before .before .before .before .before .width .ensures) _ _ (c .before .before .before .before .before .before .before .before .loop .inv) (c .before .before .before .before .before .before .before .loop-test .taken) _ (c .before .before .code-part .ensures .all _ (coming-part _ _ _ (c .before .before .before .before .before .before .before .before .before .before .before .before .pre) _ (c .before .before .before .before .before .before .before .before .before .width .ensures) _ _ (c .before .before .before .before .before .before .before .before .loop .inv) (c .before .before .before .before .before .before .before .loop-test .taken)))
+
+loop-less-2 : tie.Need-loop-less-2 Inv-loop μ-loop
+loop-less-2 c = search needs
+
+loop-again-2 : tie.Need-loop-again-2 Inv-loop μ-loop
+loop-again-2 c = coming-blank _ _ _ (c .before .before .before .before .before .before .before .before .pre) _ (c .before .before .before .before .before .width .ensures) _ _ (c .before .before .before .before .loop .inv) (c .before .before .before .loop-test .taken) _ (c .before .blank .ensures) (not-false _ (c .if1 .left))
 
 same-length : tie.Need-same-length Inv-loop μ-loop
-same-length c = search needs
+same-length c = coming-long _ _ _ (c .before .before .before .before .before .pre) _ (c .before .before .width .ensures) _ _ (c .before .loop .inv)
 
 returns : tie.Need-returns Inv-loop μ-loop
-returns c = let S = c .before .before .before .before .before .pre in partly-done _ _ _ S _ _ _ (c .before .before .width .ensures) (c .before .loop .inv .2) (c .loop-test .left) (omega (arith, c .before .loop .inv .1, width-is _ (graphOf []) _ S (c .before .before .width .ensures)))
+returns c = coming-done _ _ _ (c .before .before .before .before .before .pre) _ (c .before .before .width .ensures) _ _ (c .before .loop .inv) (c .loop-test .left)
 
 pub code-stage-spec : {M : Type 1} → statement M
 code-stage-spec =
@@ -58,12 +55,12 @@ code-stage-spec =
     μ-loop
     width-requires
     loop-holds
-    cast-coded-cell
-    coded-cell-requires
-    mul-cells
-    slice-write-cells
-    add-p
+    add-next
+    blank-requires
+    code-part-requires
     loop-less
     loop-again
+    loop-less-2
+    loop-again-2
     same-length
     returns)
