@@ -66,7 +66,7 @@ same-areas : {p q w v c d : List ℕ} → p ≡ q → w ≡ v → c ≡ d → ar
 same-areas x y z = cc
 
 module _ (C : Call) (z : C .answer .number ≡ 0) where
-  P : Whole C
+  abbrev P : Whole C
   P = whole C z
 
   abbrev ss : List build.Stage
