@@ -1,11 +1,13 @@
 /* Two of the scope document's bench examples at height 6. Pins 1 to 4 are leaves, 5 = (2, 4), 6 = (6, 9), 7 = (10, 12), output 14: as a job
- * file, which is read back, built in D + 1 rooms, listed and folded; and built under the rule that writes idle runs too, with too few counts, and
- * under a number that names no rule. D of a chain of 60 gates, and with a given pin near its end. A merge: the leaf outputs 2 and 4, a partition
- * each, no extra stages. The first example's plan as a sheet, which is read back and listed again, into too few words, cut, and of an unknown number.
- * And the AIGER document's half adder, read whole and cut, and written again, with its two unused variables as inputs. */
+ * file, which is read back, built in D + 1 rooms, listed, with what each cell does, and folded; and built under the rule that writes idle runs too, with
+ * too few counts, and under a number that names no rule. D of a chain of 60 gates, and with a given pin near its end. A merge: the leaf outputs 2 and 4, a
+ * partition each, no extra stages. The first example's plan as a sheet, which is read back and listed again, into too few words, cut, and of an unknown
+ * number; and its sheet 1, as earlier versions wrote it, with its graph and without. And the AIGER document's half adder, read whole and cut, and written
+ * again, with its two unused variables as inputs. */
 #include "placer.h"
 #include <stdio.h>
 #include <stdlib.h>
+#include <string.h>
 
 #define E PLACER_EMPTY
 
@@ -22,6 +24,21 @@ static void *lent(size_t count, size_t size) {
 }
 
 static void *numbers(size_t count) { return lent(count, sizeof(uint32_t)); }
+
+/* What each filled cell of a plan does: the plan alone tells. */
+static void show_cells(uint32_t height, const uint32_t *plan, size_t plan_len) {
+    const size_t size = placer_stage_size(height);
+    for (size_t p = 0; p < plan_len; p++) {
+        uint32_t cell = plan[p];
+        if (!placer_cell_filled(cell))
+            continue;
+        if (placer_cell_ands(cell))
+            printf("position %zu: pin %u ANDs, inversions %u %u\n", p, placer_cell_pin(cell), placer_cell_first_inversion(cell),
+                   placer_cell_second_inversion(cell));
+        else
+            printf("position %zu: pin %u is %s\n", p, placer_cell_pin(cell), p % size < size / 2 ? "copied" : "loaded");
+    }
+}
 
 /* The file of the job, and the job of the file, which is built, listed and folded, with leaf 4 at 0 and the others at 1. */
 static uint32_t job(void) {
@@ -63,16 +80,17 @@ static uint32_t job(void) {
     if (number != PLACER_DONE)
         return number;
 
-    size_t folded[PLACER_FOLD_LEN], bits_len = placer_fold_bits_size(gs), result_len = placer_fold_result_size(plan_len);
-    size_t looks_len = placer_fold_work_size(gs);
-    uint32_t *bits = numbers(bits_len), *result = numbers(result_len), *looks = numbers(looks_len);
-    bits[1] = bits[2] = bits[3] = 1;
-    number = fold_plan(height, plan, plan_len, g, gs, v, vs, bits, bits_len, result, result_len, looks, looks_len, folded,
-                       PLACER_FOLD_LEN);
+    show_cells(height, plan, plan_len);
+
+    /* the fold needs no graph, and bits for the leaves alone */
+    const uint32_t bits[5] = {0, 1, 1, 1, 0};
+    size_t folded[PLACER_FOLD_LEN], result_len = placer_fold_result_size(plan_len);
+    uint32_t *result = numbers(result_len), *looks = numbers(PLACER_FOLD_WORK);
+    number = fold_plan(height, plan, plan_len, bits, 5, result, result_len, looks, PLACER_FOLD_WORK, folded, PLACER_FOLD_LEN);
     for (size_t p = 0; p < plan_len; p++)
-        if (plan[p] == 7)
+        if (placer_cell_pin(plan[p]) == 7)
             printf("pin 7 at position %zu folds to %u\n", p, result[p]);
-    free(looks), free(result), free(bits), free(out), free(work), free(counts), free(words), free(plan);
+    free(looks), free(result), free(out), free(work), free(counts), free(words), free(plan);
     return number;
 }
 
@@ -93,7 +111,23 @@ static uint32_t show(uint32_t rule, size_t counts_len) {
     return number;
 }
 
-/* The sheet of its plan, and that plan again: the same listing. */
+/* The same plan as version 0.6.0 wrote it: sheet 1, pins alone. */
+static const uint8_t sheet_one[] = {
+    0x01, 0x60, 0x00, 0x10, 0x00, 0x10, 0x00, 0x00, 0x10, 0x00, 0x70, 0x00, 0x10, 0x00, 0x50, 0x00, 0x10, 0x00, 0x60, 0x00,
+    0x10, 0x00, 0x10, 0x00, 0x10, 0x00, 0x30, 0x00, 0x10, 0x00, 0x20, 0x00, 0x10, 0x00, 0x40, 0x00, 0x00,
+};
+
+/* Its plan from sheet 1, without its graph and with it: the cells as they are built. */
+static void older(const uint32_t *plan) {
+    uint32_t plan1[128], words1[2], counts1[1];
+    size_t read[PLACER_SHEET_LEN];
+    uint32_t number = read_sheet(gates, 0, sheet_one, sizeof sheet_one, plan1, 128, words1, 2, counts1, 1, read, PLACER_SHEET_LEN);
+    printf("sheet 1 alone: refused %u: %s\n", number, placer_describe(number));
+    number = read_sheet(gates, 16, sheet_one, sizeof sheet_one, plan1, 128, words1, 2, counts1, 1, read, PLACER_SHEET_LEN);
+    printf("sheet 1 with its graph: %s\n", number == PLACER_DONE && memcmp(plan, plan1, sizeof plan1) == 0 ? "the same cells" : "other cells");
+}
+
+/* The sheet of its plan, and that plan again: the same listing. No graph is lent, since sheet 2 has the inversions. */
 static uint32_t sheet(void) {
     uint32_t plan[128], words[2], counts[1], work[16 * 8 + 8 * 2 + 512], plan2[128], words2[2], counts2[1];
     size_t built[PLACER_BUILD_LEN], wrote[PLACER_WRITE_LEN], read[PLACER_SHEET_LEN], listed[PLACER_LIST_LEN];
@@ -108,7 +142,7 @@ static uint32_t sheet(void) {
     size_t size = wrote[PLACER_WRITE_LENGTH];
     printf("sheet of %zu bytes, of at most %zu\n", size, room);
 
-    number = read_sheet(bytes, size, plan2, 128, words2, 2, counts2, 1, read, PLACER_SHEET_LEN);
+    number = read_sheet(given, 0, bytes, size, plan2, 128, words2, 2, counts2, 1, read, PLACER_SHEET_LEN);
     if (number != PLACER_DONE)
         return number;
     printf("height %zu stages %zu words %zu\n", read[PLACER_SHEET_HEIGHT], read[PLACER_SHEET_STAGES], read[PLACER_SHEET_WORDS]);
@@ -119,11 +153,12 @@ static uint32_t sheet(void) {
     free(out);
 
     for (int damage = 0; damage < 3; damage++) {
-        bytes[0] = damage == 2 ? 3 : 1;
-        uint32_t refused = read_sheet(bytes, damage == 1 ? size - 1 : size, plan2, 128, words2, damage == 0 ? 1 : 2, counts2, 1, read, PLACER_SHEET_LEN);
+        bytes[0] = damage == 2 ? 3 : 2;
+        uint32_t refused = read_sheet(given, 0, bytes, damage == 1 ? size - 1 : size, plan2, 128, words2, damage == 0 ? 1 : 2, counts2, 1, read, PLACER_SHEET_LEN);
         printf("sheet: refused %u: %s\n", refused, placer_describe(refused));
     }
     free(bytes);
+    older(plan);
     return number;
 }
 

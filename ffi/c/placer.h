@@ -8,8 +8,8 @@
  * Before.  Areas that are filled or scratch (plan, words, counts, work, result, out) need not be cleared.
  * Threads. The library keeps nothing between calls and has no variables of its own. While a call runs, no thread writes its areas, and none
  *          reads those that it writes.
- * Stack.   Where the gates are not in order (a gate has an operand above it), a build, merge or fold takes up to 1 MiB of stack, and so
- *          does placer_depth: the search for a loop has its marks there, since what is lent must stay unchanged. Else a call takes a few
+ * Stack.   Where the gates are not in order (a gate has an operand above it), a build or a merge takes up to 1 MiB of stack, and so does
+ *          placer_depth: the search for a loop has its marks there, since what is lent must stay unchanged. Else a call takes a few
  *          kilobytes; for the same reason reading an AIGER file takes 600 kB more, writing one 70 kB, and a replay 330 kB.
  * Rooms.   A room is the memory of one stage: 2^(height + 1) numbers of the plan and one of counts. A build fills as many as it has stages.
  *          Lend D + 1 rooms, and a refusal is about capacity (6, 7 or 8), never about rooms (9). D is the most gates on a way from an
@@ -50,8 +50,8 @@ enum placer_refusal {
     PLACER_NO_AIGER = 12,     /* the bytes are no AIGER file, or it is cut; the answer has the place of the first bad line, or the file's length */
     PLACER_RESET = 13,        /* a latch has a reset value other than 0; the answer has the place of its line */
     PLACER_NOT_AIGER = 14,    /* no AIGER file holds the job */
-    PLACER_NO_SHEET = 15,     /* the bytes are no plan sheet, or no sheet holds the plan */
-    PLACER_NEW_SHEET = 16,    /* a plan sheet of an unknown number */
+    PLACER_NO_SHEET = 15,     /* the bytes are no plan sheet, no sheet holds the plan, or its graph doesn't say what a pin of sheet 1 does */
+    PLACER_NEW_SHEET = 16,    /* a plan sheet of an unknown number, or of number 1 where no graph is lent */
     PLACER_SHORT = 17,        /* an area for what comes out is too short: of a plan sheet, or a replay's out or end */
     PLACER_NOT_PLAIN = 18,    /* a replay has a memory or a given pin */
     PLACER_NOT_DRIVEN = 19,   /* a driven pin is no leaf, or is driven twice */
@@ -78,7 +78,7 @@ static inline const char *placer_describe(uint32_t number) {
     case PLACER_RESET: return "a latch has a reset value other than 0";
     case PLACER_NOT_AIGER: return "no AIGER file holds the job";
     case PLACER_NO_SHEET: return "no plan sheet, or no sheet for the plan";
-    case PLACER_NEW_SHEET: return "a plan sheet of an unknown number";
+    case PLACER_NEW_SHEET: return "a plan sheet of an unknown number, or of number 1 without its graph";
     case PLACER_SHORT: return "an area for what comes out is too short";
     case PLACER_NOT_PLAIN: return "a memory or a given pin, which no recording replays";
     case PLACER_NOT_DRIVEN: return "a driven pin is no leaf, or is driven twice";
@@ -86,6 +86,34 @@ static inline const char *placer_describe(uint32_t number) {
     case PLACER_LOOP: return "a loop of gates";
     default: return "no number of the placer";
     }
+}
+
+/* ---- Cells: what stands at a position of a plan
+ *
+ * A cell is PLACER_EMPTY, or the sum of its pin and of what it does: 65,536 where it ANDs its two lower cells, then 131,072 where it takes the first
+ * of them inverted and 262,144 where it takes the second. A filled cell that doesn't AND is its pin alone: at level 0 it loads the pin, above it
+ * copies its first lower cell. So a plan is folded, packed and drawn without its graph. */
+
+/* Whether a cell is filled. Ask this first: the low 16 bits of PLACER_EMPTY are a pin's too. */
+static inline int placer_cell_filled(uint32_t cell) { return cell != PLACER_EMPTY; }
+
+/* The pin of a filled cell; PLACER_EMPTY, which is no pin, for an empty one. */
+static inline uint32_t placer_cell_pin(uint32_t cell) { return placer_cell_filled(cell) ? cell % 65536 : PLACER_EMPTY; }
+
+/* 1 where a cell ANDs its two lower cells, 0 where it loads, copies or is empty. */
+static inline uint32_t placer_cell_ands(uint32_t cell) { return placer_cell_filled(cell) ? cell / 65536 % 2 : 0; }
+
+/* 1 where it takes its first lower cell inverted, and its second; 0 each unless it ANDs. */
+static inline uint32_t placer_cell_first_inversion(uint32_t cell) { return placer_cell_filled(cell) ? cell / 131072 % 2 : 0; }
+
+static inline uint32_t placer_cell_second_inversion(uint32_t cell) { return placer_cell_filled(cell) ? cell / 262144 % 2 : 0; }
+
+/* The cell that loads or copies a pin from 1 to 65,535. */
+static inline uint32_t placer_cell_plain(uint32_t pin) { return pin; }
+
+/* The cell of such a pin that ANDs, with inversions of 0 or 1. */
+static inline uint32_t placer_cell_and(uint32_t pin, uint32_t first_inversion, uint32_t second_inversion) {
+    return pin + 65536 + 131072 * first_inversion + 262144 * second_inversion;
 }
 
 /* ---- Sizes, in elements. What does not fit a size_t is SIZE_MAX, which no memory has; so is any size for a height that is none. */
@@ -120,10 +148,8 @@ static inline size_t placer_merge_work_size(size_t gates_len, size_t records_len
     return placer_sum(placer_build_work_size(gates_len, records_len), placer_product(8, placer_sum(indices_len, lengths_len)));
 }
 
-/* bits and work of a fold: at least this each, a number a pin. */
-static inline size_t placer_fold_bits_size(size_t gates_len) { return gates_len / 2; }
-
-static inline size_t placer_fold_work_size(size_t gates_len) { return gates_len / 2; }
+/* work of a fold: at least this, a number for each pin that a cell may hold. */
+enum { PLACER_FOLD_WORK = 65536 };
 
 /* result of a fold: at least this, a number a position. */
 static inline size_t placer_fold_result_size(size_t plan_len) { return plan_len; }
@@ -141,9 +167,9 @@ static inline size_t placer_listing_size(uint32_t height, size_t stages, size_t 
     return placer_sum(64, placer_sum(placer_product(stages, stage), placer_product(11, words)));
 }
 
-/* The bytes that hold the plan sheet of any build with so many stages: 4, one a word that may be written, and 17 * 2^(height - 2) a stage. */
+/* The bytes that hold the plan sheet of any build with so many stages: 4, one a word that may be written, and 20 * 2^(height - 2) a stage. */
 static inline size_t placer_sheet_size(uint32_t height, size_t stages) {
-    size_t stage = height < 6 || height > 13 ? SIZE_MAX : (size_t)17 << (height - 2);
+    size_t stage = height < 6 || height > 13 ? SIZE_MAX : (size_t)20 << (height - 2);
     return placer_sum(4, placer_sum(placer_words_size(height), placer_product(stages, stage)));
 }
 
@@ -181,7 +207,7 @@ enum placer_build_answer {
 /* gates:   two literals a pin from pin 0 on, both PLACER_EMPTY for a leaf, in any order; a literal is 2 * pin, and 1 more if inverted
  * given:   pins whose value is given
  * records: endpoint records, each a kind (1 output, 2 flip-flop, 3 memory, 4 staged pin) and its numbers
- * plan:    placer_plan_size(height, rooms) numbers, for the pins in their cells, stage after stage
+ * plan:    placer_plan_size(height, rooms) numbers, for the cells, stage after stage
  * words:   at least placer_words_size(height) numbers, for the written words, stage after stage
  * counts:  at least placer_counts_size(rooms) numbers, for how many words each stage writes
  * work:    at least placer_build_work_size(gates_len, records_len) numbers; scratch, 0 afterwards
@@ -283,19 +309,21 @@ static inline uint32_t merge_partitions(uint32_t height, const uint32_t *gates, 
 
 /* ---- A fold */
 
-/* The answer of a fold: what is returned (0, 1, 2, 3, 23 or 5), and with 23 the pin. */
-enum placer_fold_answer { PLACER_FOLD_NUMBER, PLACER_FOLD_PIN, PLACER_FOLD_LEN };
+/* The answer of a fold: what is returned (0, 1 or 2). */
+enum placer_fold_answer { PLACER_FOLD_NUMBER, PLACER_FOLD_LEN };
 
-/* Folds any plan, for the bits of leaves and given pins, to one bit a position.
- * plan, gates, given: as a build had and left them
- * bits:    at least placer_fold_bits_size(gates_len) numbers, one a pin from pin 0 on, 0 or not 0
+/* Folds any plan, for the bits of leaves and given pins, to one bit a position. The graph isn't needed: a cell says what it does. Level 0 of the
+ * first stage loads from the bits, that of a later one from the lowest cell above level 0 of the stage before that holds the pin. A cell that lacks
+ * a lower cell that it needs folds to 0, and so do empty cells and position 0.
+ * plan:    cells, as a build left them or a sheet had them, or any numbers: of one that is no cell the low 19 bits count
+ * bits:    one a pin from pin 0 on, 0 or not 0; as many as there are. Pin 0's counts for 0, and so does that of a pin past them
  * result:  at least placer_fold_result_size(plan_len) numbers, for 0 or 1 a position
- * work:    at least placer_fold_work_size(gates_len) numbers; scratch, 0 afterwards
+ * work:    at least PLACER_FOLD_WORK numbers; scratch, these 0 afterwards
  * answer:  at least PLACER_FOLD_LEN numbers
  *
- * Returns the number. Where `answer` is too short that is 2, and nothing is changed. */
-uint32_t fold_plan(uint32_t height, const uint32_t *plan, size_t plan_len, const uint32_t *gates, size_t gates_len,
-                   const uint32_t *given, size_t given_len, const uint32_t *bits, size_t bits_len, uint32_t *result,
+ * Returns the number: 1 for a height that is none; 2 where the plan is not a multiple of a stage, or result, work or `answer` is too short; and then
+ * nothing is changed. */
+uint32_t fold_plan(uint32_t height, const uint32_t *plan, size_t plan_len, const uint32_t *bits, size_t bits_len, uint32_t *result,
                    size_t result_len, uint32_t *work, size_t work_len, size_t *answer, size_t answer_len);
 
 /* ---- A recording replayed */
@@ -329,7 +357,8 @@ uint32_t replay_recording(uint32_t height, const uint32_t *gates, size_t gates_l
 enum placer_list_answer { PLACER_LIST_NUMBER, PLACER_LIST_LENGTH, PLACER_LIST_LEN };
 enum placer_write_answer { PLACER_WRITE_NUMBER, PLACER_WRITE_LENGTH, PLACER_WRITE_LEN };
 
-/* The text of what a build answered and left: the listing of its plan, or `refused NUMBER stage STAGE` and the pin if there is one.
+/* The text of what a build answered and left: the listing of its plan, a position and the pin of its cell a line, or `refused NUMBER stage STAGE` and
+ * the pin if there is one.
  * number, stages, stage, pin: of the build's answer
  * plan, words, counts: as it left them
  * out:     for the text, which has no byte 0 at its end; placer_listing_size(height, stages, the words in all) bytes hold it
@@ -343,8 +372,9 @@ uint32_t list_answer(uint32_t height, uint32_t number, size_t stages, size_t sta
 
 /* ---- Plan sheets: a plan on disk, without its graph */
 
-/* The sheet of a plan, as a build left it. Its bits stand most significant first: the sheet number 8 (1), the height 4, the stages 16; for each stage its
- * word count 16 and words of 8, then for each position from 1 on a bit that says whether it is filled, and if so its pin of 16; and zeros up to a byte.
+/* The sheet of a plan, as a build left it: sheet 2. Its bits stand most significant first: the sheet number 8 (2), the height 4, the stages 16; for each
+ * stage its word count 16 and words of 8, then for each position from 1 on a bit that says whether it is filled, and if so its pin of 16 and three bits:
+ * whether it ANDs, its first inversion, its second; and zeros up to a byte. Sheet 1, which earlier versions wrote, has the pins alone.
  * height:  the build's
  * stages:  of the build's answer
  * plan, words, counts: as it left them
@@ -352,26 +382,29 @@ uint32_t list_answer(uint32_t height, uint32_t number, size_t stages, size_t sta
  * answer:  at least PLACER_WRITE_LEN numbers
  *
  * Returns 0; 15 for a plan that no sheet can hold (a height that is none, more than 65,535 stages or stages that the areas don't hold, a filled position
- * 0, a pin 0 or above 65,535, a word not below placer_words_size(height), a count above 65,535), which no build leaves; 17 where the bytes are too few;
- * and then they are unchanged. Where `answer` is too short that is 2, and nothing is changed. */
+ * 0, a number that is no cell, a pin 0, inversions on a cell that doesn't AND, an AND at level 0, a word not below placer_words_size(height), a count
+ * above 65,535), which no build leaves; 17 where the bytes are too few; and then they are unchanged. Where `answer` is too short that is 2, and nothing
+ * is changed. */
 uint32_t write_sheet(uint32_t height, size_t stages, const uint32_t *plan, size_t plan_len, const uint32_t *words, size_t words_len,
                      const uint32_t *counts, size_t counts_len, uint8_t *bytes, size_t bytes_len, size_t *answer, size_t answer_len);
 
 /* The answer of a sheet read: what is returned, the height, the stages and the words in all; 0 each on refusal. */
 enum placer_sheet_answer { PLACER_SHEET_NUMBER, PLACER_SHEET_HEIGHT, PLACER_SHEET_STAGES, PLACER_SHEET_WORDS, PLACER_SHEET_LEN };
 
-/* The plan of a sheet, into areas that then stand as a build leaves them: unused cells and words PLACER_EMPTY, unused counts 0. Only what write_sheet
- * writes is read.
+/* The plan of a sheet, into areas that then stand as a build leaves them: unused cells and words PLACER_EMPTY, unused counts 0. Of sheet 2 only what
+ * write_sheet writes is read; of sheet 1, which has pins alone, the cells become what the graph says of them.
+ * gates:   the graph of a sheet 1, as the build had it; length 0 for none. Sheet 2 needs none, and doesn't look at it
  * plan:    a room a stage; it counts at its whole stages, and numbers behind them stay
  * words:   at least placer_words_size(height) numbers and as many as the sheet has words; numbers behind these stay. There are fewer words than bytes
  * counts:  at least a number a room of the plan; numbers behind these stay
  * answer:  at least PLACER_SHEET_LEN numbers
  *
- * Returns 0; 16 where the first byte is no known sheet number; 15 for bytes that are cut, too many, or no sheet otherwise; 17 where an area is too short
- * for the sheet; and then no area is changed. With areas of no numbers it only judges: 17 is then for what is a sheet. Where `answer` is too short that
- * is 2, and nothing is changed. */
-uint32_t read_sheet(const uint8_t *bytes, size_t bytes_len, uint32_t *plan, size_t plan_len, uint32_t *words, size_t words_len, uint32_t *counts,
-                    size_t counts_len, size_t *answer, size_t answer_len);
+ * Returns 0; 16 where the first byte is no known sheet number, or is 1 and there is no graph; 15 for bytes that are cut, too many, or no sheet otherwise
+ * (of sheet 2 also for inversions on a cell that doesn't AND and for an AND at level 0; of sheet 1 also for a pin that isn't in the graph and for a leaf
+ * that would AND, its first lower cell not holding it); 17 where an area is too short for the sheet; and then no area is changed. With areas of no
+ * numbers it only judges: 17 is then for what is a sheet. Where `answer` is too short that is 2, and nothing is changed. */
+uint32_t read_sheet(const uint32_t *gates, size_t gates_len, const uint8_t *bytes, size_t bytes_len, uint32_t *plan, size_t plan_len, uint32_t *words,
+                    size_t words_len, uint32_t *counts, size_t counts_len, size_t *answer, size_t answer_len);
 
 /* ---- Job files */
 

@@ -1,16 +1,35 @@
 //! Two of the scope document's bench examples at height 6. Pins 1 to 4 are leaves, 5 = (2, 4), 6 = (6, 9), 7 = (10, 12), output 14: as a job
-//! file, which is read back, built in D + 1 rooms, listed and folded; and built under the rule that writes idle runs too, and with too few counts.
-//! D of a chain of 60 gates, and with a given pin near its end. A merge: the leaf outputs 2 and 4, a partition each, no extra stages. The first example's
-//! plan as a sheet, which is read back and listed again, into too few words, cut, and of an unknown number. And the AIGER document's half adder, read
-//! whole and cut, and written again, with its two unused variables as inputs.
+//! file, which is read back, built in D + 1 rooms, listed, with what each cell does, and folded; and built under the rule that writes idle runs too, and
+//! with too few counts. D of a chain of 60 gates, and with a given pin near its end. A merge: the leaf outputs 2 and 4, a partition each, no extra stages.
+//! The first example's plan as a sheet, which is read back and listed again, into too few words, cut, and of an unknown number; and its sheet 1, as earlier
+//! versions wrote it, with its graph and without. And the AIGER document's half adder, read whole and cut, and written again, with its two unused variables
+//! as inputs.
 #[allow(dead_code)] // not all of it is shown
 #[path = "placer.rs"]
 mod placer;
 
-use placer::{build, build_by, depth, fold, list_answer, merge, read_aiger, read_job, read_sheet, reserved, write_aiger, write_job, write_sheet, Answer, Areas, Groups, Refusal, WordRule, EMPTY as E};
+use placer::{build, build_by, depth, fold, list_answer, merge, read_aiger, read_job, read_sheet, reserved, write_aiger, write_job, write_sheet, Answer, Areas, Cell, Groups, Refusal, WordRule, EMPTY as E};
 
 const GATES: [u32; 16] = [E, E, E, E, E, E, E, E, E, E, 2, 4, 6, 9, 10, 12];
 const RECORDS: [u32; 2] = [1, 14];
+
+/// The same plan as version 0.6.0 wrote it: sheet 1, pins alone.
+const SHEET_ONE: [u8; 37] = [
+    0x01, 0x60, 0x00, 0x10, 0x00, 0x10, 0x00, 0x00, 0x10, 0x00, 0x70, 0x00, 0x10, 0x00, 0x50, 0x00, 0x10, 0x00, 0x60, 0x00,
+    0x10, 0x00, 0x10, 0x00, 0x10, 0x00, 0x30, 0x00, 0x10, 0x00, 0x20, 0x00, 0x10, 0x00, 0x40, 0x00, 0x00,
+];
+
+/// What each filled cell of a plan does: the plan alone tells.
+fn show_cells(height: u32, plan: &[u32]) {
+    let size = placer::stage_size(height);
+    for (p, cell) in plan.iter().map(|&cell| Cell(cell)).enumerate() {
+        match cell.pin() {
+            None => {}
+            Some(pin) if cell.ands() => println!("position {p}: pin {pin} ANDs, inversions {} {}", cell.first_inversion() as u32, cell.second_inversion() as u32),
+            Some(pin) => println!("position {p}: pin {pin} is {}", if p % size < size / 2 { "copied" } else { "loaded" }),
+        }
+    }
+}
 
 /// The file of the job, and the job of the file, which is built, listed and folded, with leaf 4 at 0 and the others at 1.
 fn job() {
@@ -39,12 +58,13 @@ fn job() {
     let listed = list_answer(height, &built, &plan, &words, &counts, &mut out);
     print!("{}", String::from_utf8_lossy(&out[..listed.length]));
 
-    let mut bits = vec![0; placer::fold_bits_size(gates.len())];
+    show_cells(height, &plan);
+
+    // the fold needs no graph, and bits for the leaves alone
     let mut result = vec![0; plan.len()];
-    let mut looks = vec![0; placer::fold_work_size(gates.len())];
-    bits[1..=3].fill(1);
-    fold(height, &plan, gates, given, &bits, &mut result, &mut looks);
-    for p in (0..plan.len()).filter(|p| plan[*p] == 7) {
+    let mut looks = vec![0; placer::FOLD_WORK];
+    fold(height, &plan, &[0, 1, 1, 1, 0], &mut result, &mut looks);
+    for p in (0..plan.len()).filter(|p| Cell(plan[*p]).pin() == Some(7)) {
         println!("pin 7 at position {p} folds to {}", result[p]);
     }
 }
@@ -60,7 +80,7 @@ fn first(rule: WordRule, counts: usize) {
     }
 }
 
-/// The sheet of its plan, and that plan again: the same listing.
+/// The sheet of its plan, and that plan again: the same listing. No graph is lent, since sheet 2 has the inversions.
 fn sheet() {
     let (mut plan, mut words, mut counts, mut work) = ([0; 128], [0; 2], [0; 1], [0; 16 * 8 + 8 * 2 + 512]);
     let built = build(6, &GATES, &[], &RECORDS, Areas { plan: &mut plan, words: &mut words, counts: &mut counts, work: &mut work });
@@ -68,21 +88,29 @@ fn sheet() {
     let wrote = write_sheet(6, built.stages, &plan, &words, &counts, &mut bytes);
     println!("sheet of {} bytes, of at most {}", wrote.length, bytes.len());
 
+    let whole = plan;
     let (mut plan, mut words, mut counts) = ([0; 128], [0; 2], [0; 1]);
-    let read = read_sheet(&bytes[..wrote.length], &mut plan, &mut words, &mut counts);
+    let read = read_sheet(&[], &bytes[..wrote.length], &mut plan, &mut words, &mut counts);
     println!("height {} stages {} words {}", read.height, read.stages, read.words);
     let answer = Answer { stages: read.stages, words: read.words, ..Answer::default() };
     let mut out = vec![0; placer::listing_size(read.height, read.stages, read.words)];
     let listed = list_answer(read.height, &answer, &plan, &words, &counts, &mut out);
     print!("{}", String::from_utf8_lossy(&out[..listed.length]));
 
-    for (first, length, room) in [(1, wrote.length, 1), (1, wrote.length - 1, 2), (3, wrote.length, 2)] {
+    for (first, length, room) in [(2, wrote.length, 1), (2, wrote.length - 1, 2), (3, wrote.length, 2)] {
         bytes[0] = first;
-        let damaged = read_sheet(&bytes[..length], &mut plan, &mut words[..room], &mut counts);
+        let damaged = read_sheet(&[], &bytes[..length], &mut plan, &mut words[..room], &mut counts);
         if let Some(refusal) = Refusal::of(damaged.number) {
             println!("sheet: {refusal}");
         }
     }
+
+    // from sheet 1, without its graph and with it: the cells as they are built
+    if let Some(refusal) = Refusal::of(read_sheet(&[], &SHEET_ONE, &mut plan, &mut words, &mut counts).number) {
+        println!("sheet 1 alone: {refusal}");
+    }
+    let read = read_sheet(&GATES, &SHEET_ONE, &mut plan, &mut words, &mut counts);
+    println!("sheet 1 with its graph: {}", if read.number == 0 && plan == whole { "the same cells" } else { "other cells" });
 }
 
 /// The chain of examples/split.txt: pins 1 and 2 are leaves, 3 = (2, 4), and each pin p after it (2 * (p - 1), 2).

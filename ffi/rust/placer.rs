@@ -6,8 +6,8 @@
 //! gates on a way from an endpoint down to a leaf or a given pin, and `depth` tells it.
 //!
 //! The library keeps nothing between calls, so threads may call it at once. Where the gates are not in order (a gate has an operand above it) a
-//! build, depth, merge or fold takes up to 1 MiB of its thread's stack, else a few kilobytes; reading an AIGER file takes 600 kB more, writing one
-//! 70 kB, a replay 330 kB.
+//! build, depth or merge takes up to 1 MiB of its thread's stack, else a few kilobytes; reading an AIGER file takes 600 kB more, writing one 70 kB, a
+//! replay 330 kB.
 
 use core::fmt;
 
@@ -50,9 +50,9 @@ pub enum Refusal {
     Reset = 13,
     /// No AIGER file holds the job.
     NotAiger = 14,
-    /// The bytes are no plan sheet, or no sheet holds the plan.
+    /// The bytes are no plan sheet, no sheet holds the plan, or its graph doesn't say what a pin of sheet 1 does.
     NoSheet = 15,
-    /// A plan sheet of an unknown number.
+    /// A plan sheet of an unknown number, or of number 1 where no graph is lent.
     NewSheet = 16,
     /// A slice for what comes out is too short: of a plan sheet, or a replay's out or end.
     Short = 17,
@@ -113,7 +113,7 @@ impl Refusal {
             Refusal::Reset => "a latch has a reset value other than 0",
             Refusal::NotAiger => "no AIGER file holds the job",
             Refusal::NoSheet => "no plan sheet, or no sheet for the plan",
-            Refusal::NewSheet => "a plan sheet of an unknown number",
+            Refusal::NewSheet => "a plan sheet of an unknown number, or of number 1 without its graph",
             Refusal::Short => "an area for what comes out is too short",
             Refusal::NotPlain => "a memory or a given pin, which no recording replays",
             Refusal::NotDriven => "a driven pin is no leaf, or is driven twice",
@@ -126,6 +126,52 @@ impl Refusal {
 impl fmt::Display for Refusal {
     fn fmt(&self, f: &mut fmt::Formatter<'_>) -> fmt::Result {
         write!(f, "refused {}: {}", *self as u32, self.describe())
+    }
+}
+
+/// What stands at a position of a plan: `EMPTY`, or the sum of its pin and of what it does: 65,536 where it ANDs its two lower cells, then 131,072 where
+/// it takes the first of them inverted and 262,144 where it takes the second. A filled cell that doesn't AND is its pin alone: at level 0 it loads the
+/// pin, above it copies its first lower cell. So a plan is folded, packed and drawn without its graph.
+#[derive(Clone, Copy, Debug, PartialEq, Eq)]
+pub struct Cell(pub u32);
+
+impl Cell {
+    /// One that holds nothing.
+    pub const NONE: Cell = Cell(EMPTY);
+
+    /// One that loads or copies a pin from 1 to 65,535.
+    pub const fn plain(pin: u32) -> Cell {
+        Cell(pin)
+    }
+
+    /// One of such a pin that ANDs.
+    pub const fn and(pin: u32, first_inverted: bool, second_inverted: bool) -> Cell {
+        Cell(pin | 1 << 16 | (first_inverted as u32) << 17 | (second_inverted as u32) << 18)
+    }
+
+    /// Ask this first: the low 16 bits of `EMPTY` are a pin's too.
+    pub const fn is_empty(self) -> bool {
+        self.0 == EMPTY
+    }
+
+    /// None for an empty cell.
+    pub const fn pin(self) -> Option<u32> {
+        if self.is_empty() { None } else { Some(self.0 % 65_536) }
+    }
+
+    /// Whether it ANDs its two lower cells; if not, it loads, copies or is empty.
+    pub const fn ands(self) -> bool {
+        !self.is_empty() && self.0 >> 16 & 1 == 1
+    }
+
+    /// Whether it takes its first lower cell inverted; only a cell that ANDs does.
+    pub const fn first_inversion(self) -> bool {
+        !self.is_empty() && self.0 >> 17 & 1 == 1
+    }
+
+    /// And its second.
+    pub const fn second_inversion(self) -> bool {
+        !self.is_empty() && self.0 >> 18 & 1 == 1
     }
 }
 
@@ -156,15 +202,8 @@ pub const fn merge_work_size(gates: usize, records: usize, indices: usize, lengt
     build_work_size(gates, records).saturating_add(indices.saturating_add(lengths).saturating_mul(8))
 }
 
-/// The least size of a fold's bits, by the length of gates. Its result has at least the plan's.
-pub const fn fold_bits_size(gates: usize) -> usize {
-    gates / 2
-}
-
-/// The least size of a fold's work, by the length of gates.
-pub const fn fold_work_size(gates: usize) -> usize {
-    gates / 2
-}
+/// The least size of a fold's work, a number for each pin that a cell may hold. Its result has at least the plan's, and its bits may have any.
+pub const FOLD_WORK: usize = 65_536;
 
 /// The least size of a replay's tape, by the length of the plan.
 pub const fn replay_tape_size(plan: usize) -> usize {
@@ -187,9 +226,9 @@ pub const fn listing_size(height: u32, stages: usize, words: usize) -> usize {
     stages.saturating_mul(stage).saturating_add(words.saturating_mul(11)).saturating_add(64)
 }
 
-/// Bytes that hold the plan sheet of any build with so many stages: 4, one a word that may be written, and 17 * 2^(height - 2) a stage.
+/// Bytes that hold the plan sheet of any build with so many stages: 4, one a word that may be written, and 20 * 2^(height - 2) a stage.
 pub const fn sheet_size(height: u32, stages: usize) -> usize {
-    let stage = if height < 6 || height > 13 { usize::MAX } else { 17 << (height - 2) };
+    let stage = if height < 6 || height > 13 { usize::MAX } else { 20 << (height - 2) };
     stages.saturating_mul(stage).saturating_add(words_size(height)).saturating_add(4)
 }
 
@@ -237,7 +276,7 @@ pub struct Answer {
     pub cells: usize,
 }
 
-/// The areas that a build or a merge writes. Each counts at its own size; numbers past it are never changed.
+/// The areas that a build or a merge writes; the plan's numbers are cells. Each counts at its own size; numbers past it are never changed.
 pub struct Areas<'a> {
     pub plan: &'a mut [u32],
     pub words: &'a mut [u32],
@@ -310,11 +349,10 @@ pub struct Tape<'a> {
     pub bits: &'a mut [u8],
 }
 
-/// The numbers that a fold answers: 0, or what refuses it; with 23 the smallest pin on any loop.
+/// The number that a fold answers: 0, or what refuses it, `NoHeight` or `WrongSize`.
 #[derive(Clone, Copy, Debug, PartialEq, Eq)]
 pub struct Folded {
     pub number: u32,
-    pub pin: usize,
 }
 
 /// The numbers that a listing and a file written answer: 0 and how many bytes were written, or what refuses it and 0.
@@ -406,8 +444,6 @@ extern "C" {
     fn fold_plan(
         height: u32,
         plan: *const u32, plan_len: usize,
-        gates: *const u32, gates_len: usize,
-        given: *const u32, given_len: usize,
         bits: *const u32, bits_len: usize,
         result: *mut u32, result_len: usize,
         work: *mut u32, work_len: usize,
@@ -462,6 +498,7 @@ extern "C" {
 
     #[link_name = "read_sheet"]
     fn read_sheet_entry(
+        gates: *const u32, gates_len: usize,
         bytes: *const u8, bytes_len: usize,
         plan: *mut u32, plan_len: usize,
         words: *mut u32, words_len: usize,
@@ -602,24 +639,23 @@ pub fn merge_by(rule: WordRule, height: u32, gates: &[u32], given: &[u32], recor
     Merged { number, stages, words, stage, partitions, trials, refused, pin, cells }
 }
 
-/// Folds any plan, for the bits of leaves and given pins (a number a pin from pin 0 on, 0 or not 0), to 0 or 1 a position. The work is 0
-/// afterwards.
-pub fn fold(height: u32, plan: &[u32], gates: &[u32], given: &[u32], bits: &[u32], result: &mut [u32], work: &mut [u32]) -> Folded {
-    let mut answer = [0usize; 2];
+/// Folds any plan of cells, for the bits of leaves and given pins (a number a pin from pin 0 on, 0 or not 0; pin 0's and those past the last count for
+/// 0), to 0 or 1 a position. Of a number that is no cell the low 19 bits count; a cell that lacks a lower cell that it needs folds to 0, and so do empty
+/// ones and position 0. The work has `FOLD_WORK` numbers, 0 afterwards.
+pub fn fold(height: u32, plan: &[u32], bits: &[u32], result: &mut [u32], work: &mut [u32]) -> Folded {
+    let mut answer = [0usize; 1];
     // SAFETY: as for `build_by`.
     let number = unsafe {
         fold_plan(
             height,
             plan.as_ptr(), plan.len(),
-            gates.as_ptr(), gates.len(),
-            given.as_ptr(), given.len(),
             bits.as_ptr(), bits.len(),
             result.as_mut_ptr(), result.len(),
             work.as_mut_ptr(), work.len(),
             answer.as_mut_ptr(), answer.len(),
         )
     };
-    Folded { number, pin: answer[1] }
+    Folded { number }
 }
 
 /// Builds the plan of a circuit and runs it clock by clock, a line of the recording each; at every clock the bits are those of the plain graph. A
@@ -697,14 +733,16 @@ pub fn write_sheet(height: u32, stages: usize, plan: &[u32], words: &[u32], coun
     Written { number, length: answer[1] }
 }
 
-/// The plan of a sheet's bytes, into slices that then stand as a build leaves them. Lend a room a stage, a count a room, and words at least
-/// `words_size(height)` and as many as the sheet has, of which there are fewer than bytes. With empty slices it only judges: `Short` is then for what is a
-/// sheet.
-pub fn read_sheet(bytes: &[u8], plan: &mut [u32], words: &mut [u32], counts: &mut [u32]) -> Sheet {
+/// The plan of a sheet's bytes, into slices that then stand as a build leaves them. Sheet 2 has the cells whole, and `gates` may be empty; a sheet 1, which
+/// earlier versions wrote, has pins alone, and needs the gates that were built: without them it is refused with `NewSheet`. Lend a room a stage, a count a
+/// room, and words at least `words_size(height)` and as many as the sheet has, of which there are fewer than bytes. With empty slices it only judges:
+/// `Short` is then for what is a sheet.
+pub fn read_sheet(gates: &[u32], bytes: &[u8], plan: &mut [u32], words: &mut [u32], counts: &mut [u32]) -> Sheet {
     let mut answer = [0usize; 4];
     // SAFETY: as for `build_by`.
     let number = unsafe {
         read_sheet_entry(
+            gates.as_ptr(), gates.len(),
             bytes.as_ptr(), bytes.len(),
             plan.as_mut_ptr(), plan.len(),
             words.as_mut_ptr(), words.len(),
