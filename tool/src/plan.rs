@@ -1,6 +1,6 @@
 //! A plan: built by the library, listed by the library.
 
-use crate::end::{Done, End};
+use crate::end::{stopped, Done, End};
 use crate::files::Out;
 use crate::job::{self, Job, Read};
 use crate::memory::{self, lend, Lent, Space};
@@ -28,6 +28,9 @@ pub struct Args {
     /// Write the plan of the only file as a plan sheet
     #[arg(long, value_name = "OUT")]
     sheet: Option<PathBuf>,
+    /// The chip or job that a plan sheet was made of: one of number 1 needs it for its inversions
+    #[arg(long, value_name = "FILE")]
+    graph: Option<PathBuf>,
 }
 
 /// What a build answered and left.
@@ -82,14 +85,16 @@ pub fn refusal_line(number: u32, stage: usize, pin: usize) -> Vec<u8> {
     format!("refused {number} stage {stage}{shown}\n").into_bytes()
 }
 
-fn one(path: &PathBuf, args: &Args, out: &mut Out) -> Done<()> {
+/// One file; the graph is for a plan sheet.
+fn one(path: &PathBuf, graph: Option<&Job>, args: &Args, out: &mut Out) -> Done<()> {
     let from = Instant::now();
     let (name, job, built) = match job::read(path, args.space.memory)? {
+        Read::Job(job) if graph.is_some() => return stopped(job.name, "has a graph of its own: --graph is for plan sheets"),
         Read::Job(job) => {
             let built = Built::of(&job, &args.space)?;
             (job.name.clone(), Some(job), built)
         }
-        Read::Sheet { name, bytes } => match sheet::read(&name, &bytes, &args.space)? {
+        Read::Sheet { name, bytes } => match sheet::read(&name, &bytes, graph, &args.space)? {
             sheet::Read::Plan(built) => (name, None, built),
             sheet::Read::Refused { number, said } => {
                 out.put(refusal_line(number, 0, 0))?;
@@ -115,7 +120,7 @@ fn one(path: &PathBuf, args: &Args, out: &mut Out) -> Done<()> {
     }
     if let Some(path) = &args.svg {
         let mut drawn = Out::file(path)?;
-        svg::draw(&name, job.as_ref(), &built, &mut drawn)?;
+        svg::draw(&name, job.as_ref().or(graph), &built, &mut drawn)?;
         drawn.flush()?;
     }
     Ok(())
@@ -129,10 +134,15 @@ pub fn run(args: &Args) -> Done<()> {
     if args.sheet.is_some() && args.files.len() > 1 {
         return Err(End::Stopped("placer: --sheet writes one plan: name one file".to_string()));
     }
+    let standard = |path: &PathBuf| path.as_os_str() == "-";
+    if args.graph.iter().any(standard) && args.files.iter().any(standard) {
+        return Err(End::Stopped("placer: file and graph can't both be standard input".to_string()));
+    }
+    let graph = args.graph.as_ref().map(|path| job::accepted(path, args.space.memory)).transpose()?;
     let mut out = Out::standard();
     let mut worst = 0;
     for path in &args.files {
-        let ended = one(path, args, &mut out);
+        let ended = one(path, graph.as_ref(), args, &mut out);
         out.flush()?;
         match ended {
             Ok(()) => {}

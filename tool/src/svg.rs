@@ -4,7 +4,7 @@ use crate::end::Done;
 use crate::files::Out;
 use crate::job::{Form, Job};
 use crate::memory;
-use crate::placer::EMPTY;
+use crate::placer::Cell;
 use crate::plan::Built;
 use std::fmt::Write;
 
@@ -12,6 +12,7 @@ const LOAD: (&str, &str) = ("#8fb5e3", "a load: a leaf, a given pin or what the 
 const COPY: (&str, &str) = ("#d2d2d2", "a copy of its first lower cell");
 const GATE: (&str, &str) = ("#f2b04e", "a gate: AND of both lower cells");
 const WORD: (&str, &str) = ("#c0203a", "stands in a word that the stage writes");
+const DOT: (&str, &str) = ("#ffffff", "a dot on a line: inverted there");
 /// A stage with more filled cells is drawn as a map.
 const SMALL: usize = 160;
 
@@ -51,8 +52,12 @@ fn row(position: usize) -> usize {
 }
 
 impl Stage<'_> {
+    fn cell(&self, position: usize) -> Cell {
+        self.cells.get(position).map_or(Cell::NONE, |&cell| Cell(cell))
+    }
+
     fn pin(&self, position: usize) -> Option<u32> {
-        self.cells.get(position).copied().filter(|&pin| pin != EMPTY)
+        self.cell(position).pin()
     }
 
     fn level(&self, position: usize) -> usize {
@@ -60,11 +65,12 @@ impl Stage<'_> {
     }
 
     fn kind(&self, position: usize) -> Kind {
-        match self.pin(position) {
-            None => Kind::Empty,
-            Some(_) if self.level(position) == 0 => Kind::Load,
-            Some(pin) if self.pin(position + row(position)) == Some(pin) => Kind::Copy,
-            Some(_) => Kind::Gate,
+        let cell = self.cell(position);
+        match self.level(position) {
+            _ if cell.is_empty() => Kind::Empty,
+            0 => Kind::Load,
+            _ if cell.ands() => Kind::Gate,
+            _ => Kind::Copy,
         }
     }
 
@@ -143,7 +149,7 @@ fn places(stage: &Stage<'_>, position: usize, left: f64, at: &mut [f64]) -> f64 
 }
 
 /// A small stage, as trees of labelled cells. How wide and high it is.
-fn trees(stage: &Stage<'_>, gates: &[u32], names: &[(u32, String)], down: f64, text: &mut String) -> Done<(f64, f64)> {
+fn trees(stage: &Stage<'_>, names: &[(u32, String)], down: f64, text: &mut String) -> Done<(f64, f64)> {
     let mut at = memory::area(0.0, stage.cells.len())?;
     let mut under = memory::area(false, stage.cells.len())?;
     for position in stage.filled() {
@@ -165,14 +171,11 @@ fn trees(stage: &Stage<'_>, gates: &[u32], names: &[(u32, String)], down: f64, t
         let _ = writeln!(text, "<text x=\"8\" y=\"{at:.0}\" fill=\"#555555\">level {level}</text>");
     }
     for position in stage.filled() {
-        let inverted = |k: usize| {
-            let literal = stage.pin(position).and_then(|pin| gates.get(2 * pin as usize + k));
-            stage.kind(position) == Kind::Gate && literal.map_or(false, |literal| literal % 2 == 1)
-        };
+        let inverted = [stage.cell(position).first_inversion(), stage.cell(position).second_inversion()];
         for (k, below) in stage.lower(position) {
             let (x1, y1, x2, y2) = (x(position), y(position) + BOX.1 / 2.0, x(below), y(below) - BOX.1 / 2.0);
             let _ = writeln!(text, "<line x1=\"{x1:.1}\" y1=\"{y1:.1}\" x2=\"{x2:.1}\" y2=\"{y2:.1}\" stroke=\"#333333\"/>");
-            if inverted(k) {
+            if inverted[k] {
                 let (cx, cy) = (x1 + (x2 - x1) * 0.14, y1 + (y2 - y1) * 0.14);
                 let _ = writeln!(text, "<circle cx=\"{cx:.1}\" cy=\"{cy:.1}\" r=\"4\" fill=\"#ffffff\" stroke=\"#333333\"/>");
             }
@@ -245,22 +248,20 @@ fn map(stage: &Stage<'_>, down: f64, text: &mut String) -> (f64, f64) {
     (EDGE + MAP + 16.0, STEP * (stage.height as f64 + 1.0))
 }
 
-fn legend(down: f64, graph: bool, text: &mut String) {
-    let dot = ("#ffffff", if graph { "a dot on a line: inverted there" } else { "inversions stand in the graph, which a plan sheet has not" });
-    for (k, (colour, what)) in [LOAD, COPY, GATE, WORD, dot].iter().enumerate() {
+fn legend(down: f64, text: &mut String) {
+    for (k, (colour, what)) in [LOAD, COPY, GATE, WORD, DOT].iter().enumerate() {
         let y = down + 22.0 * k as f64;
         let _ = writeln!(text, "<rect x=\"8\" y=\"{y}\" width=\"20\" height=\"14\" rx=\"3\" fill=\"{colour}\" stroke=\"#333333\"/>");
         let _ = writeln!(text, "<text x=\"36\" y=\"{}\">{what}</text>", y + 12.0);
     }
 }
 
-/// The picture of a plan that was built of a job, or that a sheet has.
+/// The picture of a plan, by its cells. A job that it was made of gives names.
 pub fn draw(name: &str, job: Option<&Job>, built: &Built, out: &mut Out) -> Done<()> {
     let names = pin_names(job);
-    let gates = job.map_or(&[][..], |job| &job.gates);
     let mut text = String::new();
     let (mut wide, mut down) = (560.0f64, 70.0 + 22.0 * 5.0);
-    legend(60.0, job.is_some(), &mut text);
+    legend(60.0, &mut text);
     let mut word = 0usize;
     let mut body = Vec::new();
     for (at, cells) in built.stages().enumerate() {
@@ -277,7 +278,7 @@ pub fn draw(name: &str, job: Option<&Job>, built: &Built, out: &mut Out) -> Done
             down + 26.0,
             stage.number
         );
-        let (w, h) = if filled <= SMALL { trees(&stage, gates, &names, down + 44.0, &mut text)? } else { map(&stage, down + 44.0, &mut text) };
+        let (w, h) = if filled <= SMALL { trees(&stage, &names, down + 44.0, &mut text)? } else { map(&stage, down + 44.0, &mut text) };
         wide = wide.max(w);
         down += 44.0 + h + 26.0;
         memory::more(&mut body, text.len())?;

@@ -4,6 +4,7 @@ use crate::aag::{Header, Line};
 use crate::job::{Form, Job};
 use crate::memory::Graph;
 use crate::placer::{Aiger, Refusal, EMPTY};
+use std::collections::HashMap;
 
 fn line(name: &str, line: Option<usize>, number: u32, what: &str) -> String {
     match line {
@@ -180,10 +181,35 @@ pub fn job_file(name: &str, bytes: &[u8], number: u32) -> String {
     }
 }
 
-/// Why bytes are no plan sheet of number 1.
-fn sheet_cause(bytes: &[u8]) -> Result<(), String> {
+/// Where the first lower cell stands, which a copy copies: a row further.
+fn first_lower(position: u32) -> u32 {
+    position + (1 << (31 - position.leading_zeros()))
+}
+
+/// Which pin of a sheet 1's stage its graph says nothing of.
+fn uncoded(stage: u32, height: u32, pins: &HashMap<u32, u32>, graph: &Job) -> Result<(), String> {
+    let count = graph.gates.len() / 2;
+    for position in 1..2u32 << height {
+        let pin = match pins.get(&position) {
+            Some(&pin) => pin,
+            None => continue,
+        };
+        let what = || format!("position {position} of stage {stage} has pin {pin}");
+        if pin as usize >= count {
+            return Err(format!("{}; the graph, {}, has pins 1 to {}", what(), graph.name, count.saturating_sub(1)));
+        }
+        let copies = position >= 1 << height || pins.get(&first_lower(position)) == Some(&pin);
+        if !copies && graph.gates.get(2 * pin as usize) == Some(&EMPTY) {
+            return Err(format!("{}, which would AND and is a leaf of the graph, {}", what(), graph.name));
+        }
+    }
+    Ok(())
+}
+
+/// Why bytes are no plan sheet of their number, 1 or 2.
+fn sheet_cause(bytes: &[u8], graph: Option<&Job>) -> Result<(), String> {
     let mut bits = Bits { bytes, at: 0 };
-    bits.take(8, || "the sheet number".to_string())?;
+    let number = bits.take(8, || "the sheet number".to_string())?;
     let height = bits.take(4, || "the height".to_string())?;
     if height < 6 || height > 13 {
         return Err(format!("height {height}; a tree's is 6 to 13"));
@@ -198,11 +224,30 @@ fn sheet_cause(bytes: &[u8]) -> Result<(), String> {
                 return Err(format!("stage {stage} has word {word}; a tree's words are 0 to {}", limit - 1));
             }
         }
+        let mut pins = HashMap::new();
         for position in 1..2u32 << height {
             let what = || format!("position {position} of stage {stage} of {stages}");
-            if bits.take(1, what)? == 1 && bits.take(16, what)? == 0 {
+            if bits.take(1, what)? == 0 {
+                continue;
+            }
+            let pin = bits.take(16, what)?;
+            if pin == 0 {
                 return Err(format!("position {position} of stage {stage} has pin 0"));
             }
+            // AND, then its two inversions
+            let does = if number == 1 { 0 } else { bits.take(3, what)? };
+            if does > 0 && position >= 1 << height {
+                return Err(format!("position {position} of stage {stage} stands at level 0, where a cell loads, and has an AND or an inversion"));
+            }
+            if does > 0 && does < 4 {
+                return Err(format!("position {position} of stage {stage} copies, and has an inversion"));
+            }
+            if number == 1 {
+                pins.insert(position, pin);
+            }
+        }
+        if let Some(graph) = graph {
+            uncoded(stage, height, &pins, graph)?;
         }
     }
     let left = 8 * bytes.len() - bits.at;
@@ -215,14 +260,15 @@ fn sheet_cause(bytes: &[u8]) -> Result<(), String> {
     Ok(())
 }
 
-/// Of a plan sheet that is not read, of so many stages with so many rooms lent.
-pub fn sheet(name: &str, bytes: &[u8], number: u32, stages: usize, rooms: usize) -> String {
+/// Of a plan sheet that is not read, of so many stages with so many rooms lent, and a graph for one of number 1.
+pub fn sheet(name: &str, bytes: &[u8], graph: Option<&Job>, number: u32, stages: usize, rooms: usize) -> String {
     match (number, bytes) {
-        (15, _) => match sheet_cause(bytes) {
+        (15, _) => match sheet_cause(bytes, graph) {
             Err(what) => line(name, None, number, &what),
             Ok(()) => numbered(name, number),
         },
-        (16, &[first, ..]) => line(name, None, number, &format!("a plan sheet of number {first}; only sheet 1 is known")),
+        (16, &[1, ..]) => line(name, None, number, "a plan sheet of number 1 has no inversions: name the chip or job that it was made of with --graph"),
+        (16, &[first, ..]) => line(name, None, number, &format!("a plan sheet of number {first}; sheets 1 and 2 are known")),
         (17, _) => line(name, None, number, &format!("the sheet has {stages} stages, and {rooms} rooms are lent")),
         _ => numbered(name, number),
     }
