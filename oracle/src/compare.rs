@@ -1,7 +1,7 @@
 //! One case to both sides, and what must be the same.
 use crate::case::{Case, Sizes, EMPTY};
 use crate::check;
-use crate::placer::{self, Answer, Areas, WordRule};
+use crate::placer::{self, Answer, Areas, Cell, WordRule};
 use crate::published::{self, Outcome};
 use crate::random::Random;
 
@@ -19,7 +19,37 @@ pub struct Agreed {
     pub twice: bool,
 }
 
-/// The areas as the library must leave them, out of what they held.
+/// The pin of a cell, which is all that the Rust has of it; an empty one stays the empty mark.
+pub fn pin_of(cell: u32) -> u32 {
+    Cell(cell).pin().unwrap_or(EMPTY)
+}
+
+/// The cell of a filled position of a stage of pins: above level 0 it copies where its first lower cell holds its pin, else it ANDs, inverted as its
+/// gate says.
+fn cell_of(case: &Case, pins: &[u32], position: usize) -> Cell {
+    let (pin, row) = (pins[position], 1 << (usize::BITS - 1 - position.leading_zeros()));
+    if 2 * row == pins.len() || pins[position + row] == pin {
+        return Cell::plain(pin);
+    }
+    let gate = &case.gates[2 * pin as usize..][..2];
+    Cell::and(pin, gate[0] % 2 == 1, gate[1] % 2 == 1)
+}
+
+/// The first cell of a plan that does something else than the graph says of its pins.
+fn misdone(case: &Case, pins: &[u32], cells: &[u32]) -> Option<String> {
+    let size = case.stage_size();
+    for (stage, (pins, cells)) in pins.chunks(size).zip(cells.chunks(size)).enumerate() {
+        for position in (1..size).filter(|&position| pins[position] != EMPTY) {
+            let right = cell_of(case, pins, position);
+            if Cell(cells[position]) != right {
+                return Some(format!("cell {position} of stage {} is {}, not {}", stage + 1, cells[position], right.0));
+            }
+        }
+    }
+    None
+}
+
+/// The areas as the library must leave them, out of what they held; of a built plan the pins.
 fn left(case: &Case, number: u32, outcome: Option<&Outcome>, lent: Sizes, before: &[Vec<u32>; 4]) -> [Vec<u32>; 4] {
     let mut after = before.clone();
     if (1..=5).contains(&number) || number == 23 {
@@ -111,7 +141,7 @@ pub fn compare(rule: WordRule, case: &Case) -> Result<Agreed, (String, usize)> {
     let checked = check::number(case, lent);
     let wanted = expected(checked, check::pin_shown(checked, &case.gates), outcome.as_ref(), lent[0] / case.stage_size());
     let copy = case.clone();
-    let (answer, after) = library(rule, case, lent, &before);
+    let (answer, mut after) = library(rule, case, lent, &before);
     if answer != wanted {
         return fail(format!("the answer is {answer:?}, not {wanted:?}"));
     }
@@ -119,10 +149,20 @@ pub fn compare(rule: WordRule, case: &Case) -> Result<Agreed, (String, usize)> {
         return fail("an input was changed".into());
     }
     let right = left(case, wanted.number, outcome.as_ref(), lent, &before);
+    let lent_plan = AROUND..AROUND + lent[0];
+    let cells = after[0][lent_plan.clone()].to_vec();
+    if wanted.number == 0 {
+        after[0][lent_plan.clone()].iter_mut().for_each(|cell| *cell = pin_of(*cell));
+    }
     for area in 0..4 {
         if let Some(i) = (0..right[area].len()).find(|&i| right[area][i] != after[area][i]) {
             let at = i as i64 - AROUND as i64;
             return fail(format!("{} {at} is {}, not {}", NAMES[area], after[area][i], right[area][i]));
+        }
+    }
+    if wanted.number == 0 {
+        if let Some(what) = misdone(case, &right[0][lent_plan], &cells) {
+            return fail(what);
         }
     }
     let twice = match &outcome {

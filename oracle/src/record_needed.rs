@@ -133,7 +133,7 @@ fn build_text(name: &str, case: &Case, built: &Built) -> String {
     }
     let mut words = built.words.iter();
     for (stage, plan) in built.plan.chunks(case.stage_size()).take(built.answer.stages).enumerate() {
-        let filled = plan.iter().enumerate().filter(|(_, &pin)| pin != EMPTY);
+        let filled = plan.iter().map(|&cell| compare::pin_of(cell)).enumerate().filter(|&(_, pin)| pin != EMPTY);
         out += &format!("stage {}\n", stage + 1);
         out += &line("words", words.by_ref().take(built.counts[stage] as usize).map(u32::to_string).collect());
         out += &line("cells", filled.map(|(position, pin)| format!("{position}:{pin}")).collect());
