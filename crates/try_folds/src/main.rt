@@ -1,9 +1,10 @@
-// Folds the bench examples for all leaf bits (31 leaves: 64 patterns), and compares every filled cell with the graph's own value. Then plans that no placer
-// makes, and refusals. stdin has them, a line each; README.md says how.
+// Folds the bench examples' plans of cells for all leaf bits (31 leaves: 64 patterns), and compares every filled cell with its pin's own value in the graph.
+// Then plans that no placer makes, and refusals. stdin has them, a line each; README.md says how.
 mod bits;
 mod values;
 
 use bits::set_bits;
+use cell::Cell;
 use fold::fold;
 use graph::EMPTY;
 use libc::STDIN_FILENO;
@@ -112,7 +113,7 @@ fn tell_tally(text: &[u8], tally: &[usize; 8]) {
     tell(text, tally);
 }
 
-// How many cells are filled, then position and pin in turn.
+// How many cells are filled, then position and cell in turn.
 fn put_cells(cells: &[u8], plan: &mut [u32]) {
     let n = number(cells, 0);
     let mut at = 1;
@@ -139,33 +140,30 @@ fn fold_one(numbers: &[u8], graph: &[u32], plan: &[u32], pattern: usize, tally: 
     let mut values = [0u32; 32];
     set_bits(&mut bits, pattern, number(numbers, ALONE) == 1);
     set_values(gates(graph), given(graph), &bits, &mut values);
-    fold_bits(numbers, graph, plan, &bits, &values, tally);
+    fold_bits(numbers, plan, &bits, &values, tally);
 }
 
 fn fold_bits(
     numbers: &[u8],
-    graph: &[u32],
     plan: &[u32],
     bits: &[u32],
     values: &[u32],
     tally: &mut [usize; 8],
 ) {
     let mut area = [OLD; 16400];
-    let mut work = [OLD; 40];
+    let mut work = [OLD; 65540];
     let size = number(numbers, RESULT);
-    let pins = number(numbers, WORK);
+    let looks = number(numbers, WORK);
     let answer = fold(
         narrow(numbers, HEIGHT),
         plan,
-        gates(graph),
-        given(graph),
         part(bits, 0, number(numbers, BITS)),
         front(&mut area, size),
-        front(&mut work, pins),
+        front(&mut work, looks),
     );
     add(tally, REFUSAL, answer.number() as usize);
     look(numbers, plan, part(&area, 0, size), values, tally);
-    look_work(part(&work, 0, pins), tally);
+    look_work(part(&work, 0, looks), tally);
 }
 
 // The lengths of gates and given pins, then these.
@@ -202,11 +200,11 @@ fn look_work(work: &[u32], tally: &mut [usize; 8]) {
 }
 
 fn is_right(plan: &[u32], result: &[u32], values: &[u32], p: usize) -> bool {
-    let n = item(plan, p);
-    if n == EMPTY {
+    let cell = Cell(item(plan, p));
+    if cell.is_empty() {
         return false;
     }
-    item(result, p) == item(values, n as usize)
+    item(result, p) == item(values, cell.pin().0 as usize)
 }
 
 // The filled cells whose bit is their pin's value.
