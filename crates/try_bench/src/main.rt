@@ -1,4 +1,5 @@
-// The scope document's bench examples marked "run only", and the first one: the builds' answers and what stands in their areas.
+// The scope document's bench examples marked "run only", and the first one: the builds' answers and what stands in their areas, of a cell its pin.
+use cell::Cell;
 use graph::EMPTY;
 use libc::STDOUT_FILENO;
 use placer::Answer;
@@ -32,15 +33,20 @@ fn tell(a: Answer) {
     end();
 }
 
-// The positions that are filled, with what they hold.
+fn tell_cell(p: usize, cell: Cell) {
+    if cell.is_empty() {
+        return;
+    }
+    say(p as u64);
+    say(cell.pin().0 as u64);
+    end();
+}
+
+// The positions that are filled, with their pins.
 fn filled(plan: &[u32]) {
     let mut p = 0;
     while p < plan.len() {
-        if plan[p] != EMPTY {
-            say(p as u64);
-            say(plan[p] as u64);
-            end();
-        }
+        tell_cell(p, Cell(plan[p]));
         p += 1;
     }
 }

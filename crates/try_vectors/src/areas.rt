@@ -1,4 +1,5 @@
 // What is handed over and lent in a build and a merge alike.
+use cell::Cell;
 pub use graph::EMPTY;
 use try_cases::front;
 use try_cases::item;
@@ -119,13 +120,18 @@ pub fn holds(xs: &[u32], bytes: &[u8], n: usize, x: u32, size: usize, name: usiz
     true
 }
 
+// The pin of a cell, which is what the Rust has of it; an empty one stays the empty mark.
+fn pin_at(plan: &[u32], position: usize) -> u32 {
+    Cell(item(plan, position)).pin().0
+}
+
 // Whether the plan has n cells, each a position and a pin. Those are emptied.
 pub fn take_cells(cells: &[u8], n: usize, plan: &mut [u32]) -> bool {
     let mut at = 0;
     let mut i = 0;
     while i < n {
         let position = number(cells, at);
-        if item(plan, position) != narrow(cells, more(at, 1)) {
+        if pin_at(plan, position) != narrow(cells, more(at, 1)) {
             return false;
         }
         set(plan, position, EMPTY);

@@ -18,8 +18,8 @@ loop-holds c = search needs
 number-requires : tie.Need-number-requires Inv-loop μ-loop
 number-requires c κs = search needs
 
-item-requires : tie.Need-item-requires Inv-loop μ-loop
-item-requires c κs = search needs
+pin-at-requires : tie.Need-pin-at-requires Inv-loop μ-loop
+pin-at-requires c κs = search needs
 
 more-requires : tie.Need-more-requires Inv-loop μ-loop
 more-requires c κs = search needs
@@ -62,7 +62,7 @@ take-cells-spec =
     μ-loop
     loop-holds
     number-requires
-    item-requires
+    pin-at-requires
     more-requires
     narrow-requires
     same-length
