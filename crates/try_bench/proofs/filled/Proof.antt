@@ -1,5 +1,4 @@
 -- `try_bench::filled` is safe: it reads each position once. Assumes nothing.
-use native.Mathlib.Omega.{arith}
 use Prim.Native.Nat.{_-_}
 use lib.ListN.{length}
 use borrow.Author.Needs.{needs}
@@ -15,29 +14,14 @@ abbrev μ-loop : tie.MeasureT-loop
 loop-holds : tie.Need-loop-holds Inv-loop μ-loop
 loop-holds c = search needs
 
-mul-if1 : tie.Need-mul-if1 Inv-loop μ-loop
-mul-if1 c = search needs
+mul-t3 : tie.Need-mul-t3 Inv-loop μ-loop
+mul-t3 c = search needs
 
-shared-slice-read-if1 : tie.Need-shared-slice-read-if1 Inv-loop μ-loop
-shared-slice-read-if1 c = search needs
+shared-slice-read-t7 : tie.Need-shared-slice-read-t7 Inv-loop μ-loop
+shared-slice-read-t7 c = search needs
 
-say-requires : tie.Need-say-requires Inv-loop μ-loop
-say-requires c κs = search needs
-
-mul-say : tie.Need-mul-say Inv-loop μ-loop
-mul-say c = search needs
-
-shared-slice-read-say : tie.Need-shared-slice-read-say Inv-loop μ-loop
-shared-slice-read-say c = search needs
-
-cast-say : tie.Need-cast-say Inv-loop μ-loop
-cast-say c = omega (arith, c .shared-slice-known3 .given (c .before .before .before .before .before .loop .p))
-
-say-requires-2 : tie.Need-say-requires-2 Inv-loop μ-loop
-say-requires-2 c κs = search needs
-
-end-requires : tie.Need-end-requires Inv-loop μ-loop
-end-requires c κs = search needs
+tell-cell-requires : tie.Need-tell-cell-requires Inv-loop μ-loop
+tell-cell-requires c κs = search needs
 
 add-p : tie.Need-add-p Inv-loop μ-loop
 add-p c = search needs
@@ -58,14 +42,9 @@ filled-spec =
     Inv-loop
     μ-loop
     loop-holds
-    mul-if1
-    shared-slice-read-if1
-    say-requires
-    mul-say
-    shared-slice-read-say
-    cast-say
-    say-requires-2
-    end-requires
+    mul-t3
+    shared-slice-read-t7
+    tell-cell-requires
     add-p
     loop-less
     loop-again
