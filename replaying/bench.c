@@ -1,7 +1,7 @@
 /* A recording replayed by the library, beside a plain loop in C over the same tape, and beside folding the plan at every clock, in one run.
  *
  * usage: bench HEIGHT CLOCKS TURNS FILE.aag
- * The lines are drawn at random. The plain loop has the tape made beforehand, from the plan that the library builds: an entry a cell that ANDs, two
+ * The lines are drawn at random. The plain loop has the tape made beforehand, from the cells that the library builds: an entry a cell that ANDs, two
  * numbers of 2 * slot + inversion each. Its bits and the folded plan's must be the library's. Prints microseconds a clock, medians over the turns, and
  * the ratios. The library's time has the build and the making of its tape in it.
  * Exit status: 0, 1 where bits differ or a call is refused, 2 where it could not be tried. */
@@ -123,25 +123,24 @@ static void make_tape(void) {
             while (row > p)
                 row /= 2;
             slot[p] = 0;
-            if (cell[p] == E)
+            if (!placer_cell_filled(cell[p]))
                 continue;
             if (p >= width)
-                slot[p] = load[cell[p]];
-            else if (cell[p + row] == cell[p])
+                slot[p] = load[placer_cell_pin(cell[p])];
+            else if (!placer_cell_ands(cell[p]))
                 slot[p] = slot[p + row];
             else {
-                const uint32_t *gate = gates + 2 * cell[p];
-                tape[2 * entries] = 2 * slot[p + row] + gate[0] % 2;
-                tape[2 * entries + 1] = 2 * slot[p + 2 * row] + gate[1] % 2;
+                tape[2 * entries] = 2 * slot[p + row] + placer_cell_first_inversion(cell[p]);
+                tape[2 * entries + 1] = 2 * slot[p + 2 * row] + placer_cell_second_inversion(cell[p]);
                 slot[p] = (uint32_t)(pins + entries++);
             }
             if (p < width)
-                next[cell[p]] = slot[p];
+                next[placer_cell_pin(cell[p])] = slot[p];
         }
         for (uint32_t i = 0; i < counts[s]; i++, word++)
             for (size_t p = 32 * *word; p < 32 * *word + 32; p++)
-                if (p > 0 && cell[p] != E && read[cell[p]] == 0)
-                    read[cell[p]] = slot[p];
+                if (p > 0 && placer_cell_filled(cell[p]) && read[placer_cell_pin(cell[p])] == 0)
+                    read[placer_cell_pin(cell[p])] = slot[p];
         memcpy(load, next, pins * sizeof *load);
     }
     places = numbers(outs_len);
@@ -178,7 +177,7 @@ static void plain_run(size_t count, uint8_t *out, uint8_t *end) {
 
 static void fold_run(size_t count, uint8_t *out, uint8_t *end) {
     size_t answer[PLACER_FOLD_LEN];
-    uint32_t *bits = numbers(pins), *result = numbers(plan_len), *looks = numbers(pins), *at = numbers(outs_len);
+    uint32_t *bits = numbers(pins), *result = numbers(plan_len), *looks = numbers(PLACER_FOLD_WORK), *at = numbers(outs_len);
     const size_t size = placer_stage_size(height);
     for (size_t i = 0, r = 0; i < outs_len; r += records[r] == 2 ? 3 : 2)
         for (size_t j = 1; j <= (records[r] == 2 ? 2u : 1u); j++, i++) {
@@ -186,7 +185,7 @@ static void fold_run(size_t count, uint8_t *out, uint8_t *end) {
             for (size_t s = 0; s < stages && at[i] == 0; s++)
                 for (uint32_t w = 0; w < counts[s]; w++, word++)
                     for (size_t p = 32 * *word; p < 32 * *word + 32 && at[i] == 0; p++)
-                        if (p > 0 && plan[s * size + p] == records[r + j] / 2)
+                        if (p > 0 && placer_cell_pin(plan[s * size + p]) == records[r + j] / 2)
                             at[i] = (uint32_t)(s * size + p);
         }
     memcpy(end, start, flips);
@@ -195,7 +194,7 @@ static void fold_run(size_t count, uint8_t *out, uint8_t *end) {
             bits[leaves[i]] = recording[c * leaves_len + i];
         for (size_t i = 0; i < flips; i++)
             bits[driven[i]] = end[i];
-        uint32_t number = fold_plan(height, plan, stages * size, gates, gates_len, given, 0, bits, pins, result, stages * size, looks, pins, answer, PLACER_FOLD_LEN);
+        uint32_t number = fold_plan(height, plan, stages * size, bits, pins, result, stages * size, looks, PLACER_FOLD_WORK, answer, PLACER_FOLD_LEN);
         if (number != PLACER_DONE)
             refused("the fold", number);
         size_t i = 0;

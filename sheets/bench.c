@@ -1,7 +1,7 @@
 /* A plan of 20 stages at height 13 written as a sheet and read again by the library, beside a plain loop in C over the same bits, in one run.
  *
  * usage: bench TURNS
- * The cells are drawn at random: one of eight filled, half of them, all from position 1 on. The plain loop goes over the bits once and checks nothing; the
+ * The cells are drawn at random: one of eight filled, half of them, all from position 1 on; half of those above level 0 AND. The plain loop goes over the bits once and checks nothing; the
  * library goes over them to judge and measure, and again to store. The bytes and the areas must be the same. Prints milliseconds, medians over the turns, and
  * the ratios.
  * Exit status: 0, 1 where something differs, a call is refused or a ratio is above 3, 2 where it could not be tried. */
@@ -22,7 +22,9 @@ static void draw(uint32_t filled) {
     uint32_t seed = 2024;
     for (size_t i = 0; i < STAGES * SIZE; i++) {
         seed = seed * 1103515245u + 12345u;
-        plan[i] = i % SIZE > 0 && (seed >> 16 & 7) < filled ? 1 + (seed >> 8) % 65535 : PLACER_EMPTY;
+        uint32_t pin = 1 + (seed >> 8) % 65535, ands = i % SIZE < SIZE / 2 && seed >> 28 & 1;
+        uint32_t cell = ands ? placer_cell_and(pin, seed >> 29 & 1, seed >> 30 & 1) : placer_cell_plain(pin);
+        plan[i] = i % SIZE > 0 && (seed >> 16 & 7) < filled ? cell : PLACER_EMPTY;
     }
     for (size_t i = 0; i < STAGES * WORDS; i++)
         words[i] = (uint32_t)(i * 7 % 256);
@@ -52,7 +54,7 @@ static void plain_write(void) {
     size_t at = 0;
     const uint32_t *word = words;
     memset(bytes[1], 0, room);
-    put(bytes[1], &at, 8, 1), put(bytes[1], &at, 4, HEIGHT), put(bytes[1], &at, 16, STAGES);
+    put(bytes[1], &at, 8, 2), put(bytes[1], &at, 4, HEIGHT), put(bytes[1], &at, 16, STAGES);
     for (size_t s = 0; s < STAGES; s++) {
         put(bytes[1], &at, 16, counts[s]);
         for (uint32_t i = 0; i < counts[s]; i++)
@@ -60,8 +62,10 @@ static void plain_write(void) {
         for (size_t p = 1; p < SIZE; p++) {
             uint32_t cell = plan[s * SIZE + p];
             put(bytes[1], &at, 1, cell != PLACER_EMPTY);
-            if (cell != PLACER_EMPTY)
-                put(bytes[1], &at, 16, cell);
+            if (cell == PLACER_EMPTY)
+                continue;
+            put(bytes[1], &at, 16, cell & 65535);
+            put(bytes[1], &at, 1, cell >> 16 & 1), put(bytes[1], &at, 1, cell >> 17 & 1), put(bytes[1], &at, 1, cell >> 18 & 1);
         }
     }
     put(bytes[1], &at, (8 - at % 8) % 8, 0);
@@ -77,8 +81,14 @@ static void plain_read(void) {
         for (uint32_t i = 0; i < read_counts[1][s]; i++)
             read_words[1][total++] = take(bytes[1], &at, 8);
         read_plan[1][s * SIZE] = PLACER_EMPTY;
-        for (size_t p = 1; p < SIZE; p++)
-            read_plan[1][s * SIZE + p] = take(bytes[1], &at, 1) ? take(bytes[1], &at, 16) : PLACER_EMPTY;
+        for (size_t p = 1; p < SIZE; p++) {
+            uint32_t cell = PLACER_EMPTY;
+            if (take(bytes[1], &at, 1)) {
+                cell = take(bytes[1], &at, 16);
+                cell |= take(bytes[1], &at, 1) << 16, cell |= take(bytes[1], &at, 1) << 17, cell |= take(bytes[1], &at, 1) << 18;
+            }
+            read_plan[1][s * SIZE + p] = cell;
+        }
     }
 }
 
@@ -99,7 +109,7 @@ static void library_write(void) {
 
 static void library_read(void) {
     size_t answer[PLACER_SHEET_LEN];
-    uint32_t number = read_sheet(bytes[0], length[0], read_plan[0], STAGES * SIZE, read_words[0], STAGES * WORDS + 256, read_counts[0], STAGES, answer, PLACER_SHEET_LEN);
+    uint32_t number = read_sheet(plan, 0, bytes[0], length[0], read_plan[0], STAGES * SIZE, read_words[0], STAGES * WORDS + 256, read_counts[0], STAGES, answer, PLACER_SHEET_LEN);
     if (number != PLACER_DONE)
         refused("reading", number);
 }
