@@ -1,13 +1,13 @@
 -- The calls there and back, for any areas: what was written is read, and what was read is written to the same bytes. Assumes nothing.
 use Prim.Native.Nat.{ℕ, zero, suc, _+_, _-_, _*_, _≤_}
 use mathlib.Core.Path.{_≡_, refl, sym, ap, _∙_}
-use mathlib.Core.Bool.{Bool, true, false, _&&_}
+use mathlib.Core.Bool.{true, _&&_}
 use mathlib.Core.List.{List, [], _∷_, _++_, append-assoc}
 use native.Mathlib.Omega.{arith}
 use lib.Dec.{leb, eqb}
 use lib.ListN.{length, getD, take, drop, replicate, length-drop}
 use lib.Seq.{take-at, take-add, length-take-le}
-use borrow.Author.Tests.{le-leb, leb-true}
+use borrow.Author.Tests.{leb-true}
 use Rattle.rules.specs.Lists.{gather, sum, padded, laidOver}
 use Rattle.rules.specs.Cells.{empty, stageSize, wordLimit, rooms}
 use Rattle.rules.specs.Build.{Stage, cellsOf, wordsOf, countsOf}

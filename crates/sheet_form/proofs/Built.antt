@@ -1,24 +1,23 @@
 -- What the placer builds: sheet 1 holds its pins, the graph codes them, and so sheet 2 holds its cells. Assumes nothing.
 use Prim.Native.Nat.{ℕ, zero, suc, _+_, _-_, _^_, _≤_, _<_}
-use mathlib.Core.Path.{_≡_, refl, sym, ap, _∙_}
+use mathlib.Core.Path.{_≡_, refl}
 use mathlib.Core.Logic.{_⊎_, inl, inr}
-use mathlib.Core.Bool.{Bool, true, false, not, _&&_, _||_}
+use mathlib.Core.Bool.{Bool, true, false, not, _||_}
 use mathlib.Core.List.{List, [], _∷_}
 use native.Mathlib.Omega.{arith}
-use lib.Dec.{leb, ltb, eqb}
+use lib.Dec.{leb, eqb}
 use lib.ListN.{length, getD, drop}
 use lib.Pow.{pow-mono}
 use lib.Seq.{getD-drop}
-use borrow.Author.Tests.{lt-ltb, le-leb, leb-true, leb-false, eq-eqb}
+use borrow.Author.Tests.{lt-ltb, le-leb, leb-false, eq-eqb}
 use Rattle.rules.specs.Lists.{In}
 use Rattle.rules.specs.Cells.{empty, filled, isHeight, wordLimit, firstLower}
-use Rattle.rules.specs.Graph.{Node, leaf, gate}
+use Rattle.rules.specs.Graph.{Node, leaf}
 use Rattle.rules.specs.Loops.{Valid}
 use Rattle.rules.specs.Records.{Group, waitingOf, Ends}
 use Rattle.rules.specs.Reservation.{reserved}
 use Rattle.rules.specs.Traversal.{WordRule}
-use Rattle.rules.specs.Placing.{tree}
-use Rattle.rules.specs.Build.{Stage, whole, build, codedStages}
+use Rattle.rules.specs.Build.{Stage, whole, build}
 use Rattle.rules.specs.Fold.{isLeaf}
 use Rattle.rules.specs.Depth.{remaining}
 use Rattle.rules.specs.Inside.Walks.{rank, Graph, Ready}
@@ -31,7 +30,7 @@ use Rattle.rules.proofs.Build.Bounds.{depth-rank, stages-few}
 use Rattle.rules.proofs.Demand.{graph, ready, whole-stages}
 use Rattle.coded.proofs.Shapes.{Acts, copies, joins, Shape, Shapes, whole-shapes}
 use Rattle.sheet_form.specs.Forms.{sheetOne, sheetTwo}
-use Rattle.sheet_form.specs.Sheets.{Sheet, stageFits, stagesFit}
+use Rattle.sheet_form.specs.Sheets.{stageFits, stagesFit}
 use Rattle.sheet_form.specs.Lifting.{liftsAt, stageLifts, stagesLift}
 use Rattle.sheet_form.proofs.Cells.{cells-fit, fits-filled}
 use Rattle.sheet_form.proofs.Stages.{fits-stage}

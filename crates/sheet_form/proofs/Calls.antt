@@ -9,9 +9,9 @@ use lib.Dec.{leb}
 use lib.ListN.{length, getD, take, drop, replicate, length-append, drop-of-length-le}
 use lib.Pow.{pow-add, pow-pos}
 use lib.Seq.{take-at, drop-at}
-use borrow.Author.Tests.{le-leb, leb-true, eqb-true}
+use borrow.Author.Tests.{le-leb, eqb-true}
 use Rattle.rules.specs.Lists.{sum, padded, laidOver}
-use Rattle.rules.specs.Cells.{empty, isHeight, stageSize, wordLimit, rooms}
+use Rattle.rules.specs.Cells.{empty, stageSize, wordLimit, rooms}
 use Rattle.rules.specs.Graph.{Node, graphOf}
 use Rattle.rules.specs.Records.{groupsOf, Ends}
 use Rattle.rules.specs.Traversal.{WordRule}

@@ -1,13 +1,13 @@
 -- Reading either sheet. Assumes nothing.
 use Prim.Native.Nat.{ℕ, _^_, _<_, _≤_}
-use mathlib.Core.Path.{_≡_, refl, sym, _∙_}
-use mathlib.Core.Bool.{true, false, _&&_}
+use mathlib.Core.Path.{_≡_, refl, _∙_}
+use mathlib.Core.Bool.{true, _&&_}
 use mathlib.Core.List.{List, [], _∷_}
 use native.Mathlib.Omega.{arith}
 use lib.Dec.{ltb, eqb}
 use lib.ListN.{length, getD}
 use borrow.Author.Tests.{lt-ltb, eq-eqb, ne-eqb, eqb-true}
-use Rattle.rules.specs.Graph.{Node, graphOf}
+use Rattle.rules.specs.Graph.{graphOf}
 use Rattle.rules.proofs.Lists.Members.{split}
 use Rattle.rules.proofs.Job.Bits.{Bytes}
 use Rattle.sheet_form.specs.Forms.{sheetOne, sheetTwo}

@@ -1,16 +1,15 @@
 -- Both sheets satisfy what the round trip asks of a cell, proved once for any sheet number. Assumes nothing.
 use Prim.Native.Nat.{ℕ, _+_, _*_, _/_, _%_, _^_, _<_, _≤_}
-use mathlib.Core.Path.{_≡_, refl, sym, ap, _∙_}
-use mathlib.Core.Bool.{Bool, true, false, not, _&&_, _||_}
+use mathlib.Core.Path.{_≡_, sym, ap, _∙_}
+use mathlib.Core.Bool.{true, false, not, _&&_, _||_}
 use mathlib.Core.List.{List, _++_, append-assoc}
 use native.Mathlib.Nat.{div-div-eq-div-mul}
 use native.Mathlib.Omega.{arith}
 use lib.Dec.{ltb, eqb}
-use lib.ListN.{length, length-append}
-use borrow.Author.Tests.{lt-ltb, ltb-true, eqb-true, eqb-false}
+use lib.ListN.{length-append}
+use borrow.Author.Tests.{lt-ltb, ltb-true}
 use Rattle.rules.specs.Cells.{isHeight, width}
 use Rattle.rules.specs.Job.{bitsOf, got, next, field, file}
-use Rattle.rules.specs.Fold.{asNumber}
 use Rattle.rules.specs.Coded.{cellPin, ands, firstInversion, secondInversion}
 use Rattle.rules.proofs.Lists.Members.{split, and-true}
 use Rattle.rules.proofs.Job.Bits as bits

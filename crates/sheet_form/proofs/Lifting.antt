@@ -1,7 +1,7 @@
 -- What sheet 1 is read into with the graph: cells that sheet 2 holds. Assumes nothing.
-use Prim.Native.Nat.{ℕ, zero, suc, _+_, _*_, _%_, _^_, _≤_, _<_}
-use mathlib.Core.Path.{_≡_, refl, sym, ap, _∙_}
-use mathlib.Core.Bool.{Bool, true, false, not, _&&_, _||_}
+use Prim.Native.Nat.{ℕ, zero, suc, _+_, _^_, _≤_, _<_}
+use mathlib.Core.Path.{_≡_, refl}
+use mathlib.Core.Bool.{Bool, true, false, not, _||_}
 use mathlib.Core.List.{List, [], _∷_}
 use native.Mathlib.Omega.{arith}
 use lib.Dec.{leb, ltb, eqb}
@@ -10,15 +10,15 @@ use lib.Pow.{pow-pos}
 use lib.Seq.{getD-drop}
 use borrow.Author.Tests.{lt-ltb, le-ltb, leb-true, leb-false, eqb-true, not-true}
 use Rattle.rules.specs.Lists.{every, upTo}
-use Rattle.rules.specs.Cells.{empty, filled, stageSize, firstLower}
+use Rattle.rules.specs.Cells.{empty, filled, firstLower}
 use Rattle.rules.specs.Graph.{Node, leaf, gate, inversionOf}
 use Rattle.rules.specs.Fold.{isLeaf}
 use Rattle.rules.specs.Build.{Stage, codedStages}
-use Rattle.rules.specs.Coded.{cellPin, ands, andOf, andCell, codedAt, coded}
+use Rattle.rules.specs.Coded.{andOf, andCell, codedAt, coded}
 use Rattle.rules.proofs.Lists.Members.{split, and-true, true-false}
 use Rattle.rules.proofs.Job.Fields.{every-cons, every-parts}
 use Rattle.rules.proofs.Build.Coding.{length-coded, stages-coded}
-use Rattle.coded.proofs.Cells.{small-filled, pin-plain, ands-plain, pin-and, ands-and}
+use Rattle.coded.proofs.Cells.{pin-plain, ands-plain, pin-and, ands-and}
 use Rattle.coded.proofs.Coding.{coded-empty, coded-load, coded-copy, coded-and}
 use Rattle.coded.proofs.InPlace.{coded-cell}
 use Rattle.sheet_form.specs.Forms.{formFits, sheetOne, sheetTwo}

@@ -5,12 +5,12 @@ use mathlib.Core.List.{List, [], _∷_, _++_, append-assoc, append-nil}
 use Prim.Native.Nat.{ℕ, zero, suc, _+_, _-_, _*_, _^_, _<_, _≤_}
 use native.Mathlib.Numerals.{add-one}
 use native.Mathlib.Omega.{arith}
-use lib.Dec.{leb, ltb, eqb}
+use lib.Dec.{leb}
 use lib.ListN.{length, getD, set, take, drop, length-set, length-drop}
 use lib.Pow.{pow-mono, pow-pos}
 use lib.Seq.{take-all, take-suc-set, getD-set-same}
 use borrow.Author.Tests.{le-leb, lt-leb, leb-true, leb-false, lt-ltb, eq-eqb, ne-eqb}
-use Rattle.rules.specs.Cells.{empty, filled, isHeight, stageSize}
+use Rattle.rules.specs.Cells.{empty, filled, stageSize}
 use Rattle.rules.specs.Graph.{Node}
 use Rattle.rules.specs.Coded.{coded}
 use Rattle.rules.specs.Job.{numberOf, Read, cut, got, next, field}
@@ -27,7 +27,7 @@ use Rattle.sheet_form.specs.Sheets.{cellsFit, readCell, readCells}
 use Rattle.sheet_form.specs.Lifting.{stageLifts}
 use Rattle.sheet_form.proofs.Cells.{cells-only, fits-at, filled-fits}
 use Rattle.sheet_form.proofs.Stages.{tall}
-use Rattle.sheet_form.proofs.Forms.{behind-few, does-with, does-small, one, one-pin}
+use Rattle.sheet_form.proofs.Forms.{behind-few, does-with, one, one-pin}
 use Rattle.sheet_plan.specs.Plans.{planRead, turned, planWith, CellAt, CellTook, PlanAt, CellsAt, CellsTook, StageAt}
 
 -- ---- a filled cell

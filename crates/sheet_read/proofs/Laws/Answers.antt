@@ -2,16 +2,15 @@
 use mathlib.Core.Path.{_≡_, refl, sym, ap, _∙_}
 use mathlib.Core.Bool.{Bool, true, false, _&&_}
 use mathlib.Core.List.{List, [], _∷_}
-use Prim.Native.Nat.{ℕ, _+_, _<_, _≤_}
+use Prim.Native.Nat.{ℕ, _<_}
 use native.Mathlib.Omega.{arith}
-use lib.Dec.{leb, ltb, eqb}
+use lib.Dec.{ltb, eqb}
 use lib.ListN.{length, getD}
 use borrow.Author.Tests.{lt-ltb, le-ltb, eq-eqb, ne-eqb, eqb-true, eqb-false}
-use Rattle.rules.specs.Build.{wordsOf, countsOf}
 use Rattle.rules.proofs.Lists.Members.{split}
-use Rattle.sheet_form.specs.Sheets.{refused, sheet, readSheet}
+use Rattle.sheet_form.specs.Sheets.{sheet, readSheet}
 use Rattle.sheet_form.specs.Lifting.{readEither}
-use Rattle.sheet_form.specs.Calls.{Areas, areas, Loaded, loaded, unread, roomy, areasWith, from, reader}
+use Rattle.sheet_form.specs.Calls.{Areas, areas, loaded, unread, roomy, areasWith, from, reader}
 use Rattle.sheet_form.proofs.Calls.{counts-length}
 use Rattle.sheet_read.specs.declared.Answer.{Answer}
 use Rattle.sheet_read.specs.Walk.{knownNumber, sheetWith, Known, JudgedAs}

@@ -1,5 +1,5 @@
 -- Sheets read stage by stage, each stage's cells coded at once, are the sheets that are read whole and coded then. Assumes nothing.
-use mathlib.Core.Path.{_≡_, refl, sym, ap, _∙_}
+use mathlib.Core.Path.{_≡_, refl, ap, _∙_}
 use mathlib.Core.Bool.{Bool, true, false, _&&_}
 use mathlib.Core.List.{List, [], _∷_}
 use Prim.Native.Nat.{ℕ, zero, suc, _-_}
@@ -11,7 +11,7 @@ use Rattle.rules.specs.Coded.{coded}
 use Rattle.rules.specs.Job.{Read, cut, got, next, field, isPadding}
 use Rattle.rules.proofs.Lists.Members.{split}
 use Rattle.sheet_form.specs.Forms.{form, sheetOne, sheetTwo}
-use Rattle.sheet_form.specs.Sheets.{Sheet, readCells, readWords, readStage, readStages, readHeight, readBody, refused, sheet, accept}
+use Rattle.sheet_form.specs.Sheets.{Sheet, readCells, readWords, readStage, readStages, readHeight, readBody, sheet, accept}
 use Rattle.sheet_form.specs.Lifting.{stageLifts, stagesLift, lift}
 use Rattle.sheet_form.proofs.Lifting.{liftSheet}
 use Rattle.sheet_plan.specs.Plans.{planRead, turned, planWith}

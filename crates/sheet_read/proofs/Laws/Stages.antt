@@ -1,8 +1,7 @@
 -- A stage, and stages one behind the other. Assumes nothing.
 use mathlib.Core.Path.{_≡_, refl, sym, ap, _∙_}
-use mathlib.Core.Bool.{true}
 use mathlib.Core.List.{List, [], _∷_, _++_, append-assoc, append-nil}
-use Prim.Native.Nat.{ℕ, zero, suc, _+_, _-_, _*_, _^_, _<_, _≤_}
+use Prim.Native.Nat.{ℕ, suc, _+_, _-_, _*_, _^_, _<_, _≤_}
 use native.Mathlib.Nat.{mul-le-mul-right}
 use native.Mathlib.Numerals.{add-one}
 use native.Mathlib.Omega.{arith}
@@ -21,7 +20,7 @@ use Rattle.sheet_form.specs.Sheets.{readWords}
 use Rattle.sheet_form.proofs.Stages.{tall}
 use Rattle.sheet_plan.specs.Plans.{planWith, PlanAt, CellsTook}
 use Rattle.sheet_read.specs.Steps.{wordsRead, WordsAt}
-use Rattle.sheet_read.specs.Stages.{stageWith, stagesWith, CountedAt, CountedIs, CountedTook, StageAt, Kept, StageIs, StageTook, StagesAt, StagesAre, StagesTook}
+use Rattle.sheet_read.specs.Stages.{stageWith, stagesWith, CountedAt, CountedTook, StageAt, Kept, StageTook, StagesAt, StagesTook}
 use Rattle.sheet_read.proofs.Laws.Steps.{words-length}
 
 -- the areas as they are

@@ -13,7 +13,6 @@ use borrow.Author.Tests.{le-leb, lt-leb, leb-true, leb-false, ltb-true, eq-eqb, 
 use Rattle.rules.specs.Lists.{gather}
 use Rattle.rules.specs.Cells.{isHeight, stageSize}
 use Rattle.rules.specs.Graph.{Node, graphOf}
-use Rattle.rules.specs.Build.{Stage}
 use Rattle.rules.specs.Job.{bitsOf, numberOf, Read, cut, got, next, field, isPadding}
 use Rattle.rules.proofs.Lists.Members.{split, and-true, true-false}
 use Rattle.rules.proofs.Job.Bits.{width, Bytes}
@@ -27,8 +26,8 @@ use Rattle.sheet_form.specs.Sheets.{Sheet, readHeight, readBody, refused, sheet
 use Rattle.sheet_form.specs.Lifting.{lift, readEither}
 use Rattle.sheet_form.proofs.Stages.{tall}
 use Rattle.sheet_form.proofs.Either.{as-two, as-one, either-most}
-use Rattle.sheet_read.specs.Stages.{Kept, StagesAt, StagesTook}
-use Rattle.sheet_read.specs.Walk.{bodyWith, knownNumber, WalkAt, WalkTook, SheetAt, sheetWith, Measured, Walked, Judgement, Begins, Known, JudgedAs}
+use Rattle.sheet_read.specs.Stages.{StagesAt, StagesTook}
+use Rattle.sheet_read.specs.Walk.{bodyWith, knownNumber, WalkAt, WalkTook, SheetAt, Measured, Walked, Judgement, Begins, Known, JudgedAs}
 use Rattle.sheet_read.proofs.Laws.Stages.{kept-all}
 use Rattle.sheet_read.proofs.Laws.Either.{body-one, body-two}
 

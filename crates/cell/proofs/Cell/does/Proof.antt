@@ -1,5 +1,4 @@
 -- `cell::Cell::does` meets its contract. Assumes nothing.
-use mathlib.Core.Path.{sym, ap}
 use Rattle.rules.specs.Coded.{firstInversion, secondInversion}
 use Rattle.cell.proofs.Cells.{and-number}
 use borrow.Author.Needs.{needs}

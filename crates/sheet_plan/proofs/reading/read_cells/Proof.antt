@@ -1,6 +1,5 @@
 -- `sheet_plan::reading::read_cells` meets its contract. Assumes nothing.
 use Prim.Native.Nat.{_-_}
-use mathlib.Core.Path.{_∙_}
 use native.Mathlib.Omega.{arith}
 use lib.ListN.{length}
 use Rattle.sheet_plan.proofs.Laws.Cells.{Cells, cells-none, cell-asks, cells-lost, cells-more, cells-done}
