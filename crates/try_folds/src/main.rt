@@ -143,13 +143,7 @@ fn fold_one(numbers: &[u8], graph: &[u32], plan: &[u32], pattern: usize, tally: 
     fold_bits(numbers, plan, &bits, &values, tally);
 }
 
-fn fold_bits(
-    numbers: &[u8],
-    plan: &[u32],
-    bits: &[u32],
-    values: &[u32],
-    tally: &mut [usize; 8],
-) {
+fn fold_bits(numbers: &[u8], plan: &[u32], bits: &[u32], values: &[u32], tally: &mut [usize; 8]) {
     let mut area = [OLD; 16400];
     let mut work = [OLD; 65540];
     let size = number(numbers, RESULT);
