@@ -1,0 +1,5 @@
+pub mod Lists
+pub mod Sums
+pub mod Chains
+pub mod Walks
+pub mod Counts
