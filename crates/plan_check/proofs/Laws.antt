@@ -1,0 +1,4 @@
+pub mod Loads
+pub mod Stages
+pub mod Ends
+pub mod Answers

@@ -1,0 +1,4 @@
+pub mod Room
+pub mod Ends
+pub mod Stages
+pub mod Answers
