@@ -4,3 +4,7 @@ pub mod Listed
 pub mod Settled
 pub mod Fixed
 pub mod Exact
+pub mod Sound
+pub mod Built
+pub mod Tops
+pub mod Accepted
