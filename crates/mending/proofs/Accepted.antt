@@ -1,4 +1,4 @@
--- in a plan that the check accepts no pin is deeper than its cell, so no filled cell would be kept whole; and the rebuild leaves it
+-- In a plan that the check accepts no pin is deeper than its cell, so no filled cell would be kept whole; and the rebuild leaves it
 -- as it is if every cell that ANDs stands at its pin's level. (proofs/Table.antt has an accepted plan where one doesn't.) Assumes nothing.
 use Prim.Native.Nat.{ℕ, zero, suc, _+_, _-_, _^_, _≤_, _<_}
 use mathlib.Core.Path.{_≡_, refl, sym, _∙_, ap}

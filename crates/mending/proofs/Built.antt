@@ -1,4 +1,4 @@
--- the rebuild leaves what the placer built as it is, and gives it back from the tops of its trees alone. Assumes nothing.
+-- The rebuild leaves what the placer built as it is, and gives it back from the tops of its trees alone. Assumes nothing.
 use Prim.Native.Nat.{ℕ, zero, suc, _+_, _-_, _*_, _^_, _≤_, _<_}
 use mathlib.Core.Path.{_≡_, refl, sym, _∙_, ap}
 use mathlib.Core.Logic.{inl, inr}

@@ -1,4 +1,4 @@
--- a pin that a cell above fixes always fits its cell, so what stood there doesn't matter. Assumes nothing.
+-- A pin that a cell above fixes always fits its cell, so what stood there doesn't matter. Assumes nothing.
 use Prim.Native.Nat.{ℕ, zero, suc, _+_, _*_, _^_, _≤_, _<_}
 use mathlib.Core.Path.{_≡_, refl, sym, _∙_}
 use mathlib.Core.Logic.{inl, inr}

@@ -8,3 +8,7 @@ pub mod Sound
 pub mod Built
 pub mod Tops
 pub mod Accepted
+pub mod Rebuilt
+pub mod Answers
+pub mod Reading
+pub mod Recovered

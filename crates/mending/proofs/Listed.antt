@@ -1,4 +1,4 @@
--- the list has exactly the places that differ, in order, and turns the old plan into the new one. Assumes nothing.
+-- The list has exactly the places that differ, in order, and turns the old plan into the new one. Assumes nothing.
 use Prim.Native.Nat.{ℕ, zero, suc, _+_, _-_, _*_, _/_, _%_, _≤_, _<_}
 use mathlib.Core.Path.{_≡_, refl, sym, _∙_, ap}
 use mathlib.Core.Logic.{_⊎_, inl, inr, _≢_}
@@ -12,22 +12,10 @@ use lib.ListN.{length, getD, set, length-append}
 use borrow.Author.Tests.{ltb-true, ltb-false}
 use Rattle.rules.specs.Cells.{stageSize}
 use Rattle.rules.proofs.Lists.Members.{split, eqb-true, eqb-false, eqb-same}
-use Rattle.mending.specs.Changes.{Change, changeAt, changesFrom, changes, numbersOf, placeOf, apply}
-
--- a change of the list
-pub data In (c : Change) : List Change → Type 0 where
-  here : {cs : List Change} → In c (c ∷ cs)
-  there : {d : Change} {cs : List Change} → In c cs → In c (d ∷ cs)
+use Rattle.mending.specs.Changes.{Change, changeAt, changesFrom, changes, numbersOf, changesOf, placeOf, apply, undo, In, here, there, Differs, Rising, ends, goes}
 
 none-in : {P : Type 0} {c : Change} → In c [] → P
 none-in m = elim m [ ]
-
--- the number at place i differs: its stage, its position, old and new
-pub record Differs (K : ℕ) (old new : List ℕ) (c : Change) : Type 0 where
-  pub i : ℕ
-  pub inside : i < length old
-  pub is : c ≡ changeAt K i (getD old i 0) (getD new i 0)
-  pub differ : getD old i 0 ≢ getD new i 0
 
 -- the place of a change
 pub place-at : (K i x y : ℕ) → placeOf K (changeAt K i x y) ≡ i
@@ -51,11 +39,6 @@ place-order K c d a b e f h = split (ltb (c .stage) (d .stage)) (λ t. inl (ltb-
     let y : suc (d .stage - 1) * stageSize K ≤ (c .stage - 1) * stageSize K = mul-le-mul-right (stageSize K) x in omega (arith, suc-mul (d .stage - 1) (stageSize K))))
     (λ q. let x : c .stage ≡ d .stage = omega (arith, ltb-false (d .stage) (c .stage) q) in
     let y : (c .stage - 1) * stageSize K ≡ (d .stage - 1) * stageSize K = ap (λ (z : ℕ). (z - 1) * stageSize K) x in inr (x, omega arith)))
-
--- places rise
-pub data Rising (K : ℕ) : ℕ → List Change → Type 0 where
-  ends : {i : ℕ} → Rising K i []
-  goes : {i : ℕ} {c : Change} {cs : List Change} → i ≤ placeOf K c → Rising K (suc (placeOf K c)) cs → Rising K i (c ∷ cs)
 
 weaker : (K i j : ℕ) → i ≤ j → {cs : List Change} → Rising K j cs → Rising K i cs
 weaker K i j h ends = ends
@@ -127,8 +110,23 @@ module _ (K : ℕ) where
       (λ e. rw (e, changesFrom) ((λ i. apply K (changesFrom K (suc (length zs)) xs ys) (set (zs ++ (x ∷ xs)) (place-at K (length zs) x y i) y))
       ∙ ap (apply K (changesFrom K (suc (length zs)) xs ys)) (set-behind zs x y xs) ∙ step))
 
+  undo-from : (zs xs ys : List ℕ) → length ys ≡ length xs → undo K (changesFrom K (length zs) xs ys) (zs ++ ys) ≡ zs ++ xs
+  unfolding changesFrom undo changeAt
+  undo-from zs [] [] l = refl
+  undo-from zs [] (y ∷ ys) l = absurd (omega arith)
+  undo-from zs (x ∷ xs) [] l = absurd (omega arith)
+  undo-from zs (x ∷ xs) (y ∷ ys) l =
+      let n : length (zs ++ (x ∷ [])) ≡ suc (length zs) = length-append zs (x ∷ []) ∙ omega arith in
+      let step : undo K (changesFrom K (suc (length zs)) xs ys) (zs ++ (x ∷ ys)) ≡ zs ++ (x ∷ xs) =
+      (λ i. undo K (changesFrom K (sym n i) xs ys) (sym (append-assoc zs (x ∷ []) ys) i)) ∙ undo-from (zs ++ (x ∷ [])) xs ys (omega arith) ∙ append-assoc zs (x ∷ []) xs in
+      split (eqb x y)
+      (λ e. let z : y ≡ x = sym (eqb-true x y e) in rw (e, changesFrom) (ap (λ (v : ℕ). undo K (changesFrom K (suc (length zs)) xs ys) (zs ++ (v ∷ ys))) z ∙ step))
+      (λ e. rw (e, changesFrom) ((λ i. undo K (changesFrom K (suc (length zs)) xs ys) (set (zs ++ (y ∷ ys)) (place-at K (length zs) x y i) x))
+      ∙ ap (undo K (changesFrom K (suc (length zs)) xs ys)) (set-behind zs y x ys) ∙ step))
+
   -- ---- the list of two plans of one length
   module _ (old new : List ℕ) (l : length new ≡ length old) where
+    -- what is listed differs
     pub listed-differs : {c : Change} → In c (changes K old new) → Differs K old new c
     unfolding changes
     listed-differs m =
@@ -136,27 +134,42 @@ module _ (K : ℕ) where
         let z : 0 + t .k ≡ t .k = omega arith in
         record { i = t .k; inside = t .inside; is = t .is ∙ ap (λ (j : ℕ). changeAt K j (getD old (t .k) 0) (getD new (t .k) 0)) z; differ = t .differ }
 
+    -- and what differs is listed
     pub differs-listed : {c : Change} → Differs K old new c → In c (changes K old new)
     unfolding changes
     differs-listed d =
         let z : 0 + d .i ≡ d .i = omega arith in
         rw (d .is) (rw z at (differs-from 0 old new l (d .i) (d .inside) (d .differ)))
 
+    -- in order
     pub in-order : Rising K 0 (changes K old new)
     unfolding changes
     in-order = rising-from 0 old new
 
+    -- the old plan and the list tell the new plan
     pub applied : apply K (changes K old new) old ≡ new
     unfolding changes
     applied = apply-from [] old new l
 
--- none where nothing differs, and four numbers each
+    -- and the new plan and the list tell the old one
+    pub undone : undo K (changes K old new) new ≡ old
+    unfolding changes
+    undone = undo-from [] old new l
+
+-- none where nothing differs
 pub none-same : (K i : ℕ) (xs : List ℕ) → changesFrom K i xs xs ≡ []
 unfolding changesFrom
 none-same K i [] = refl
 none-same K i (x ∷ xs) = rw (eqb-same x, changesFrom) (none-same K (suc i) xs)
 
+-- four numbers each
 pub four-each : (cs : List Change) → length (numbersOf cs) ≡ 4 * length cs
 unfolding numbersOf
 four-each [] = refl
 four-each (c ∷ cs) = omega (arith, four-each cs)
+
+-- and they tell the changes
+pub numbers-back : (cs : List Change) → changesOf (numbersOf cs) ≡ cs
+unfolding numbersOf changesOf
+numbers-back [] = refl
+numbers-back (c ∷ cs) = ap (λ (ds : List Change). c ∷ ds) (numbers-back cs)

@@ -1,4 +1,4 @@
--- a stage whose cells do what their levels say is left as it is. Assumes nothing.
+-- A stage whose cells do what their levels say is left as it is. Assumes nothing.
 use Prim.Native.Nat.{ℕ, suc, _+_, _^_, _≤_, _<_}
 use mathlib.Core.Path.{_≡_, refl, sym, _∙_, ap}
 use mathlib.Core.Logic.{inl, inr}

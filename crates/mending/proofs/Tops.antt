@@ -1,4 +1,4 @@
--- in a stage whose cells do what their levels say, everything under a filled cell is fixed: the first lower cell, and of an AND both. So only
+-- In a stage whose cells do what their levels say, everything under a filled cell is fixed: the first lower cell, and of an AND both. So only
 -- the tops of trees must have come back right. Assumes nothing.
 use Prim.Native.Nat.{ℕ, zero, suc, _+_, _-_, _^_, _≤_, _<_}
 use mathlib.Core.Path.{_≡_, refl, sym, _∙_, ap}

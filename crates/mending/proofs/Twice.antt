@@ -1,4 +1,4 @@
--- mending twice changes nothing more. Assumes nothing.
+-- Mending twice changes nothing more. Assumes nothing.
 use Prim.Native.Nat.{ℕ, suc, _≤_}
 use mathlib.Core.Path.{_≡_, refl, _∙_, ap}
 use mathlib.Core.List.{List, [], _∷_}
