@@ -12,3 +12,4 @@ pub mod Rebuilt
 pub mod Answers
 pub mod Reading
 pub mod Recovered
+pub mod Table
