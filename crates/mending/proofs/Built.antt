@@ -1,4 +1,4 @@
--- The rebuild leaves what the placer built as it is, and gives it back from the tops of its trees alone. Assumes nothing.
+-- The stages that the placer built are sound, so the rebuild leaves them as they are. Assumes nothing.
 use Prim.Native.Nat.{ℕ, zero, suc, _+_, _-_, _*_, _^_, _≤_, _<_}
 use mathlib.Core.Path.{_≡_, refl, sym, _∙_, ap}
 use mathlib.Core.Logic.{inl, inr}
@@ -44,13 +44,12 @@ use Rattle.coded.proofs.Shapes.{Shape, Shapes}
 use Rattle.coded.proofs.Coding.{pins-coded, pin-is, filled-same, fits}
 use Rattle.coded.proofs.Complete.{built-shapes}
 use Rattle.mending.specs.Mend.{levelIn, Deed, stands, copies, joins, inGraph, pinDeed, mended, heldPins, stopAfter, mendStages}
-use Rattle.mending.specs.Damage.{AllDamaged}
 use Rattle.mending.proofs.Exact.{Exact, Exacts, exact-kept, exact-first}
 use Rattle.mending.proofs.Exact as exact
 use Rattle.mending.proofs.Deeds.{graph-in, deed-copies, deed-stands, deed-joins}
 use Rattle.mending.proofs.Fixed.{Fits}
 use Rattle.mending.proofs.Settled.{Under, Settled, empty-settled}
-use Rattle.mending.proofs.Sound.{Sound1, AllSound, recovered, undamaged}
+use Rattle.mending.proofs.Sound.{SoundStage, AllSound, kept}
 
 pub level-0 : (K p : ℕ) → 2 ^ K ≤ p → p < 2 ^ (K + 1) → levelOf K p ≡ 0
 unfolding rowAt
@@ -173,7 +172,7 @@ module _ (rule : WordRule) (K : ℕ) (g : List Node) (ok : Valid g) (A : Above g
           higher (L .h) (L .level) i (exacts (L .h) (rowStart p) p z (P .row) (P .end) (λ x. x) k2) (F .does))
           (λ t. at-zero (ltb-false p (2 ^ K) t) (F .does))
 
-    one-sound : Sound1 K g ok A done cl
+    one-sound : SoundStage K g ok A done cl
     one-sound = record {
       size = length-coded K g plan2;
       settled = λ q a b. split (filled (getD cl q empty)) (λ k. filled-good q a b k .0) (λ k. empty-settled K g done cl few q k);
@@ -217,10 +216,6 @@ module _ (rule : WordRule) (I : Input) where
       (ready rule (I .K) g (valid I) (tall I) (small I) (I .given) [] (inputs.groups I) (named I)) _ _ ss
       (whole-stages rule (I .K) g (valid I) (tall I) (small I) (I .given) [] (inputs.groups I) (named I) rooms ss e) _ (built-shapes rule I rooms ss e)
 
-  -- A damaged plan that has the pins of a plan that the placer built wherever no cell above fixes one mends to that plan.
-  pub built-recovered : (rooms : ℕ) (ss ts : List Stage) → built rule I rooms ≡ whole ss → AllDamaged (I .K) g (I .given) (codedStages (I .K) g ss) ts → mendStages (I .K) g (I .given) ts ≡ codedStages (I .K) g ss
-  built-recovered rooms ss ts e D = recovered (I .K) g (valid I) (above I) (I .given) (codedStages (I .K) g ss) ts (built-sound rooms ss e) D
-
-  -- And the placer's plan itself is left as it is.
+  -- The placer's plan is left as it is by the rebuild.
   pub built-kept : (rooms : ℕ) (ss : List Stage) → built rule I rooms ≡ whole ss → mendStages (I .K) g (I .given) (codedStages (I .K) g ss) ≡ codedStages (I .K) g ss
-  built-kept rooms ss e = built-recovered rooms ss (codedStages (I .K) g ss) e (undamaged (I .K) g (valid I) (above I) (I .given) (codedStages (I .K) g ss))
+  built-kept rooms ss e = kept (I .K) g (valid I) (above I) (I .given) (codedStages (I .K) g ss) (built-sound rooms ss e)
