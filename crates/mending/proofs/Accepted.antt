@@ -10,12 +10,11 @@ use lib.Dec.{ltb}
 use lib.ListN.{length, getD, take, drop, length-take, length-drop, List·getD-eq-default}
 use lib.Seq.{getD-take, getD-drop}
 use borrow.Author.Tests.{ltb-true, ltb-false}
-use Rattle.rules.specs.Lists.{mem, keep, distinct, In}
-use Rattle.rules.specs.Cells.{empty, filled, wordLimit, levelOf, firstLower, secondLower}
+use Rattle.rules.specs.Lists.{mem, keep, In}
+use Rattle.rules.specs.Cells.{empty, filled, levelOf, firstLower, secondLower}
 use Rattle.rules.specs.Graph.{Node, leaf, gate, pinOf, operands, below}
 use Rattle.rules.specs.Loops.{Valid}
 use Rattle.rules.specs.Inside.Walks.{rank}
-use Rattle.rules.specs.Reservation.{reserved}
 use Rattle.rules.specs.Traversal.{over}
 use Rattle.rules.specs.Build.{Stage}
 use Rattle.rules.specs.Depth.{depth}
@@ -32,7 +31,7 @@ use Rattle.coded.specs.Inputs.{Input}
 use Rattle.coded.specs.Inputs as inputs
 use Rattle.coded.proofs.Passing.{few, valid, above}
 use Rattle.rules.specs.Coded.{cellPin, ands, pins}
-use Rattle.rules.specs.Faults.{Fault, faultless, faultAt, firstMay, heldIn, faultFrom, faultOf}
+use Rattle.rules.specs.Faults.{faultless, firstMay, heldIn, faultFrom, faultOf}
 use Rattle.coded.proofs.Cells.{filled-pin, small-filled, ands-and}
 use Rattle.coded.proofs.Tests.{Does, Fit, Passes, right-fits, is-found}
 use Rattle.coded.proofs.Tests as tests

@@ -1,25 +1,20 @@
 -- The whole call: each answer, what comes back with 0, and that the list tells it. Assumes nothing.
-use Prim.Native.Nat.{ℕ, zero, suc, _+_, _*_, _/_, _≤_, _<_}
+use Prim.Native.Nat.{ℕ, zero, suc, _+_, _*_, _≤_, _<_}
 use mathlib.Core.Path.{_≡_, refl, sym, _∙_, ap}
 use mathlib.Core.Logic.{_≢_}
 use mathlib.Core.Bool.{Bool, true, false}
-use mathlib.Core.List.{List, [], _∷_, _++_}
+use mathlib.Core.List.{List, _++_}
 use native.Mathlib.Omega.{arith}
 use lib.Dec.{leb, le→leb}
-use lib.ListN.{length, getD, take, drop, replicate}
+use lib.ListN.{length, take, drop, replicate}
 use lib.Seq.{take-append-seam}
 use borrow.Author.Tests.{leb-true, leb-false}
 use Rattle.rules.specs.Lists.{laidOver}
-use Rattle.rules.specs.Cells.{empty, filled, stageSize, rooms}
-use Rattle.rules.specs.Records.{Ends}
+use Rattle.rules.specs.Cells.{stageSize}
 use Rattle.rules.specs.Checks.{pinShown, refusalOf}
-use Rattle.rules.specs.Fold.{asNumber}
-use Rattle.rules.specs.Coded.{cellPin, foldCells}
 use Rattle.rules.specs.Faults.{Fault, faultless, faultAt, fault}
 use Rattle.rules.proofs.Lists.Members.{split, T→true}
-use Rattle.coded.specs.Inputs.{Input, graph, groups, graphValue}
-use Rattle.coded.specs.Reading.{Read}
-use Rattle.coded.proofs.Reading.{fault-cases, accepted-folds, accepted-read}
+use Rattle.coded.proofs.Reading.{fault-cases}
 use Rattle.mending.specs.Changes.{Change, changes, numbersOf, changesOf, apply, undo, In, Differs, Rising}
 use Rattle.mending.specs.Call.{Reply, Outcome, answer, rebuilt, listed, tested, mending, mender}
 use Rattle.mending.proofs.Listed.{none-same, four-each, numbers-back, listed-differs, differs-listed, in-order, applied, undone}
@@ -91,18 +86,18 @@ module _ (K need : ℕ) (sized : Bool) (gates given records plan words counts li
             listing ∙ rw (z, listed)
 
   -- how a call ends: refused, with plan and list as they were; accepted as it is; or mended
-  pub data Ends? : Type 0 where
-    refuses : call .reply .number ≢ 0 → call .plan ≡ plan → call .list ≡ list → call .reply .count ≡ 0 → Ends?
-    keeps : refusalOf K sized gates given records ≡ 0 → faultIn plan ≡ faultless → call ≡ unchanged (answer 0 0 0 0) → Ends?
+  pub data Ending : Type 0 where
+    refuses : call .reply .number ≢ 0 → call .plan ≡ plan → call .list ≡ list → call .reply .count ≡ 0 → Ending
+    keeps : refusalOf K sized gates given records ≡ 0 → faultIn plan ≡ faultless → call ≡ unchanged (answer 0 0 0 0) → Ending
     mends : refusalOf K sized gates given records ≡ 0 → faultIn made ≡ faultless →
-        call ≡ record { reply = answer 0 0 0 (length (changes K plan made)); plan = made; list = laidOver (numbersOf (changes K plan made)) list; work = cleared } → Ends?
+        call ≡ record { reply = answer 0 0 0 (length (changes K plan made)); plan = made; list = laidOver (numbersOf (changes K plan made)) list; work = cleared } → Ending
 
   number-cases : {P : Type 0} (x : ℕ) → (x ≡ 0 → P) → ((m : ℕ) → x ≡ suc m → P) → P
   number-cases zero a b = a refl
   number-cases (suc m) a b = b m refl
 
   -- A refused call changes neither plan nor list, and no call ends in another way than these.
-  pub call-ends : Ends?
+  pub call-ends : Ending
   unfolding answer
   call-ends = number-cases (refusalOf K sized gates given records)
       (λ c. fault-cases (faultIn plan) (λ e. keeps c e (accepted-unchanged c e))
@@ -114,7 +109,7 @@ module _ (K need : ℕ) (sized : Bool) (gates given records plan words counts li
       (λ m c. let z = answer-checks m c in
       refuses (λ y. absurd (let x = sym (ap (λ (o : Outcome). o .reply .number) z) ∙ y in omega arith)) (ap (λ (o : Outcome). o .plan) z) (ap (λ (o : Outcome). o .list) z) (ap (λ (o : Outcome). o .reply .count) z))
     where
-      stays : (m j q : ℕ) → call ≡ unchanged (answer m j q 0) → m ≢ 0 → Ends?
+      stays : (m j q : ℕ) → call ≡ unchanged (answer m j q 0) → m ≢ 0 → Ending
       stays m j q z f = refuses (λ y. f (sym (ap (λ (o : Outcome). o .reply .number) z) ∙ y)) (ap (λ (o : Outcome). o .plan) z) (ap (λ (o : Outcome). o .list) z) (ap (λ (o : Outcome). o .reply .count) z)
 
   -- ---- an answer of 0
@@ -124,7 +119,7 @@ module _ (K need : ℕ) (sized : Bool) (gates given records plan words counts li
     pub zero-passes : (refusalOf K sized gates given records ≡ 0) × (faultIn (call .plan) ≡ faultless)
     zero-passes = go call-ends
       where
-        go : Ends? → (refusalOf K sized gates given records ≡ 0) × (faultIn (call .plan) ≡ faultless)
+        go : Ending → (refusalOf K sized gates given records ≡ 0) × (faultIn (call .plan) ≡ faultless)
         go (refuses a b c d) = absurd (a zeroed)
         go (keeps c e z) = (c, ap (λ (o : Outcome). faultIn (o .plan)) z ∙ e)
         go (mends c d z) = (c, ap (λ (o : Outcome). faultIn (o .plan)) z ∙ d)
@@ -134,7 +129,7 @@ module _ (K need : ℕ) (sized : Bool) (gates given records plan words counts li
       pub zero-size : length (call .plan) ≡ length plan
       zero-size = go call-ends
         where
-          go : Ends? → length (call .plan) ≡ length plan
+          go : Ending → length (call .plan) ≡ length plan
           go (refuses a b c d) = ap length b
           go (keeps c e z) = ap (λ (o : Outcome). length (o .plan)) z
           go (mends c d z) = ap (λ (o : Outcome). length (o .plan)) z ∙ rebuilt-size K gates given plan words counts n area
@@ -144,7 +139,7 @@ module _ (K need : ℕ) (sized : Bool) (gates given records plan words counts li
       unfolding answer laidOver changes changesOf
       list-tells = go call-ends
         where
-          go : Ends? → changesOf (take (4 * call .reply .count) (call .list)) ≡ changes K plan (call .plan)
+          go : Ending → changesOf (take (4 * call .reply .count) (call .list)) ≡ changes K plan (call .plan)
           go (refuses a b c d) = absurd (a zeroed)
           go (keeps c e z) = ap (λ (o : Outcome). changesOf (take (4 * o .reply .count) (o .list))) z ∙ sym (ap (λ (o : Outcome). changes K plan (o .plan)) z ∙ none-same K 0 plan)
           go (mends c d z) =

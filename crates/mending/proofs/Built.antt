@@ -1,7 +1,6 @@
 -- The stages that the placer built are sound, so the rebuild leaves them as they are. Assumes nothing.
 use Prim.Native.Nat.{ℕ, zero, suc, _+_, _-_, _*_, _^_, _≤_, _<_}
 use mathlib.Core.Path.{_≡_, refl, sym, _∙_, ap}
-use mathlib.Core.Logic.{inl, inr}
 use mathlib.Core.Bool.{true, false}
 use mathlib.Core.List.{List, [], _∷_, _++_}
 use native.Mathlib.Omega.{arith}
@@ -10,7 +9,7 @@ use lib.Pow.{pow-pos}
 use lib.ListN.{length, getD, take, drop}
 use borrow.Author.Tests.{ltb-true, ltb-false}
 use Rattle.rules.specs.Lists.{keep, distinct, In}
-use Rattle.rules.specs.Cells.{empty, filled, width, rowAt, rowStart, levelOf, firstLower, secondLower}
+use Rattle.rules.specs.Cells.{empty, filled, rowAt, rowStart, levelOf, firstLower, secondLower}
 use Rattle.rules.specs.Graph.{Node, leaf, gate, pinOf}
 use Rattle.rules.specs.Records.{waitingOf}
 use Rattle.rules.specs.Loops.{Valid}
