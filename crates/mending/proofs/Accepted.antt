@@ -47,6 +47,7 @@ use Rattle.mending.proofs.Built.{level-0}
 abbrev pub Tight : ℕ → List Node → List ℕ → List ℕ → Type 0
 Tight K g stop cl = (p : ℕ) → 1 ≤ p → p < 2 ^ K → filled (getD cl p empty) ≡ true → ands (getD cl p empty) ≡ true → levelOf K p ≤ levelIn g stop (cellPin (getD cl p empty))
 
+-- and so in every stage in turn, with no more cells than a stage has
 abbrev pub AllTight : ℕ → List Node → List ℕ → List Stage → Type 0
 AllTight K g stop [] = Unit {0}
 AllTight K g stop (s ∷ ss) = (length (s .plan) ≤ 2 ^ (K + 1)) × Tight K g stop (s .plan) × AllTight K g (stopAfter K (s .plan) stop) ss
@@ -134,6 +135,7 @@ module _ (K : ℕ) (g : List Node) (ok : Valid g) (A : Above g) (few : length g 
 
   -- ---- all stages
 
+  -- every filled cell's pin fits it, in every stage in turn
   abbrev pub AllFit : List ℕ → List Stage → Type 0
   AllFit stop [] = Unit {0}
   AllFit stop (s ∷ ss) = ((p : ℕ) → 1 ≤ p → p < 2 ^ (K + 1) → filled (getD (s .plan) p empty) ≡ true → Fits K g ok A stop p (cellPin (getD (s .plan) p empty))) × AllFit (stopAfter K (s .plan) stop) ss

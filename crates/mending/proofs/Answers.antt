@@ -21,12 +21,15 @@ use Rattle.mending.proofs.Listed.{none-same, four-each, numbers-back, l
 use Rattle.mending.proofs.Rebuilt.{rebuilt-size}
 
 module _ (K need : ℕ) (sized : Bool) (gates given records plan words counts list work : List ℕ) (n : ℕ) where
+  -- the call
   abbrev pub call : Outcome
   call = mender K need sized gates given records plan words counts list work n
 
+  -- what the check says of a plan in its place
   abbrev pub faultIn : List ℕ → Fault
   faultIn xs = fault K gates given records xs words counts n
 
+  -- the mended plan
   abbrev pub made : List ℕ
   made = rebuilt K gates given plan words counts n
 

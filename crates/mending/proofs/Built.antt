@@ -50,6 +50,7 @@ use Rattle.mending.proofs.Fixed.{Fits}
 use Rattle.mending.proofs.Settled.{Under, Settled, empty-settled}
 use Rattle.mending.proofs.Sound.{SoundStage, AllSound, kept}
 
+-- positions from the width on are of level 0
 pub level-0 : (K p : ℕ) → 2 ^ K ≤ p → p < 2 ^ (K + 1) → levelOf K p ≡ 0
 unfolding rowAt
 level-0 K p a b = let r : rowAt K 0 ≡ 2 ^ K = ap (λ (n : ℕ). 2 ^ n) (omega arith) in level-one K p (omega (arith, pow-pos K)) b 0 (omega arith) (omega arith) (omega (arith, two-step K)) .0

@@ -19,10 +19,12 @@ use Rattle.coded.proofs.Cells.{pin-plain, pin-and}
 use Rattle.coded.proofs.Tests.{and-both, lt-true, lt-false}
 use Rattle.mending.specs.Mend.{levelIn, Deed, kept, stands, copies, joins, same, fitting, pinFor, inGraph, pinDeed, deed, mended}
 
+-- a pin from 1 to N, as a test
 pub in-graph : (g : List Node) (n : ℕ) → inGraph g n ≡ true → (0 < n) × (n < length g)
 unfolding inGraph
 in-graph g n e = let h = and-true (ltb 0 n) (ltb n (length g)) e in (ltb-true 0 n (h .0), ltb-true n (length g) (h .1))
 
+-- and back
 pub graph-in : (g : List Node) (n : ℕ) → 0 < n → n < length g → inGraph g n ≡ true
 unfolding inGraph
 graph-in g n a b = and-both (lt-true 0 n a) (lt-true n (length g) b)
@@ -83,6 +85,7 @@ module _ (K : ℕ) (g : List Node) (stop : List ℕ) (p n : ℕ) where
   unfolding pinDeed
   in-deed i = rw (i, pinDeed)
 
+  -- each deed is one of them
   pub which : Case K g stop p n (pinDeed K g stop p n)
   which =
       let h : ℕ = levelOf K p in
@@ -96,13 +99,16 @@ module _ (K : ℕ) (g : List Node) (stop : List ℕ) (p n : ℕ) where
       (λ b. rw (in-deed i, fit-over h l n x a b) (is-kept (inr (over-it h l a b))))))
       (λ i. rw (deed-kept i) (is-kept (inl i)))
 
+  -- a pin of a lower level copies
   pub deed-copies : inGraph g n ≡ true → levelIn g stop n < levelOf K p → pinDeed K g stop p n ≡ copies n
   deed-copies i a = in-deed i ∙ fit-less (levelOf K p) (levelIn g stop n) n (getD g n leaf) a
 
+  -- at level 0 a pin of level 0 stands
   pub deed-stands : inGraph g n ≡ true → levelOf K p ≡ 0 → levelIn g stop n ≡ 0 → pinDeed K g stop p n ≡ stands n
   unfolding same
   deed-stands i a b = in-deed i ∙ fit-same (levelOf K p) (levelIn g stop n) n (getD g n leaf) (b ∙ sym a) ∙ ap (λ (h : ℕ). same h (getD g n leaf) n) a
 
+  -- above it a gate's pin of the same level ANDs
   pub deed-joins : (h a b : ℕ) → inGraph g n ≡ true → levelOf K p ≡ suc h → levelIn g stop n ≡ suc h → getD g n leaf ≡ gate a b → pinDeed K g stop p n ≡ joins n a b
   unfolding same
   deed-joins h a b i c d e = in-deed i ∙ fit-same (levelOf K p) (levelIn g stop n) n (getD g n leaf) (d ∙ sym c) ∙ (λ j. same (c j) (e j) n)
@@ -130,14 +136,17 @@ module _ (K : ℕ) (g : List Node) (stop : List ℕ) (p n : ℕ) where
       go x (is-copies j k) = pin-plain n (omega (arith, in-graph g n j .1))
       go x (is-joins {a} {b} j k l m) = pin-and n a b (omega (arith, in-graph g n j .1))
 
+-- what is fixed is the pin
 pub for-fixed : (c f : ℕ) → filled f ≡ true → pinFor c f ≡ f
 unfolding pinFor
 for-fixed c f e = rw (e, pinFor)
 
+-- else the cell's own is
 pub for-free : (c f : ℕ) → filled f ≡ false → pinFor c f ≡ cellPin c
 unfolding pinFor
 for-free c f e = rw (e, pinFor)
 
+-- the same deed twice
 pub mended-twice : (x : Deed) (c : ℕ) → mended x (mended x c) ≡ mended x c
 unfolding mended
 mended-twice kept c = refl

@@ -112,11 +112,14 @@ module _ (X : Setting) (r : ℕ → ℕ) (f : ℕ) (S : Sound X r f) (M : Marked
       let same : levelAt X n ≡ suc h = omega arith in
       rw (d, c, place) (mend E pl2 h w p e a b k2 (splits {a = x} {b = y} (rw top same) (rw top c) one two))))
 
+  -- every filled cell above level 0, none exempt
   abbrev pub AllExact : List ℕ → Type 0
   AllExact pl = Exacts X (λ q. ⊥) pl
 
+  -- placing keeps every filled cell so
   pub exact-kept : (pl : List ℕ) (h p n : ℕ) → length pl ≡ 2 ^ (X .K + 1) → AllExact pl → Placeable X pl h p n → AllExact (place X h (rowAt (X .K) h) p n pl)
   exact-kept pl h p n l k a = place-exact h (rowAt (X .K) h) p n pl (λ q. ⊥) (rows (X .K) h (a .high)) (a .row) (a .end) l (a .listed) (a .level) k (inl (a .free))
 
+  -- and the empty plan is so
   pub exact-first : (m : ℕ) → AllExact (replicate m empty)
   exact-first m h w q e a b x g = true-false g (blank-replicate m q)

@@ -33,6 +33,7 @@ above-from : (K p w h : ℕ) → w * 2 ^ h ≡ 2 ^ K → p < w + w → 0 < h →
 above-from K p w zero e b a = absurd (omega arith)
 above-from K p w (suc h) e b a = let d : w * (2 * 2 ^ h) ≡ 2 ^ K = rw (pow-succ' 2 h) at e in omega (arith, wide w h)
 
+-- so it has lower cells
 pub above-low : (K p : ℕ) → 1 ≤ p → p < 2 ^ (K + 1) → 0 < levelOf K p → p < 2 ^ K
 above-low K p a b h = let t = position-placed K p a b in above-from K p (rowStart p) (levelOf K p) (t .rows) (t .end) h
 
@@ -63,6 +64,7 @@ module _ (K : ℕ) (g : List Node) (ok : Valid g) (A : Above g) (stop : List ℕ
     | inr e ↦ rw e (R q a (rw e at k))
   ]
 
+  -- whatever becomes of the cell at p, what it fixes fits
   pub fixing-right : (p : ℕ) → 1 ≤ p → p < 2 ^ (K + 1) → (n : ℕ) (d : Deed) → Case K g stop p n d → (fx : List ℕ) → Right p fx → Right (suc p) (fixing p d fx)
   unfolding fixing
   fixing-right p a b n d (is-kept j) fx R = λ q h k. R q (omega arith) k

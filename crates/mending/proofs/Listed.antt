@@ -22,6 +22,7 @@ pub place-at : (K i x y : ℕ) → placeOf K (changeAt K i x y) ≡ i
 unfolding placeOf changeAt
 place-at K i x y = let z : suc (i / stageSize K) - 1 ≡ i / stageSize K = omega arith in ap (λ (u : ℕ). u * stageSize K + i % stageSize K) z ∙ div-add-mod' i (stageSize K)
 
+-- a change stands in a stage, at a position of it
 pub position-inside : (K i x y : ℕ) → (changeAt K i x y .position < stageSize K) × (1 ≤ changeAt K i x y .stage)
 unfolding changeAt
 position-inside K i x y = (mod-lt i (pow-pos (K + 1)), omega arith)

@@ -47,6 +47,7 @@ module _ (K : ℕ) (g : List Node) (stop cl : List ℕ) where
     | inr d ↦ d ∙ A q a (rw d at k)
   ]
 
+  -- what a settled cell fixes is what stands there
   pub fixing-agrees : (p : ℕ) (fx : List ℕ) (d : Deed) → Under cl p d → Agrees p fx → Agrees (suc p) (fixing p d fx)
   unfolding fixing
   fixing-agrees p fx kept u A = λ q h k. A q (omega arith) k
@@ -72,6 +73,7 @@ module _ (K : ℕ) (g : List Node) (stop cl : List ℕ) where
         ∙ (λ i. (ap (mended (pinDeed K g stop p n)) z ∙ t .same ∙ sym z) i
         ∷ settled-from (suc p) (fixing p (pinDeed K g stop p n) fx) cs (omega arith) (omega arith) (λ j q h. C (suc j) q (omega arith)) (fixing-agrees p fx (pinDeed K g stop p n) (t .under) A) i)
 
+-- a stage of settled cells is left as it is
 pub settled-stage : (K : ℕ) (g : List Node) (stop cl : List ℕ) → length cl ≤ 2 ^ (K + 1) → ((q : ℕ) → 1 ≤ q → q < 2 ^ (K + 1) → Settled K g stop cl q) → mendStage K g stop cl ≡ cl
 unfolding mendStage nothingFixed
 settled-stage K g stop [] l S = refl

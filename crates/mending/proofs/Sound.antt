@@ -29,11 +29,13 @@ unfolding fixedFrom
 length-fixing K g stop p fx [] = refl
 length-fixing K g stop p fx (c ∷ cs) = ap suc (length-fixing K g stop (suc p) (fixing p (deed K g stop p c (getD fx p empty)) fx) cs)
 
+-- and so in a stage
 pub length-fixed : (K : ℕ) (g : List Node) (stop cl : List ℕ) → length (fixedStage K g stop cl) ≡ length cl
 unfolding fixedStage
 length-fixed K g stop [] = refl
 length-fixed K g stop (c ∷ cs) = ap suc (length-fixing K g stop 1 (nothingFixed K) cs)
 
+-- and in a plan
 pub length-pins : (K : ℕ) (g : List Node) (stop : List ℕ) (ss : List Stage) → length (fixedPins K g stop ss) ≡ length (cellsOf ss)
 unfolding fixedPins cellsOf
 length-pins K g stop [] = refl

@@ -94,6 +94,7 @@ looped = empty ∷ empty ∷ 4 ∷ 4 ∷ 2 ∷ 2 ∷ []
 abbrev refused : Outcome → List ℕ → Bool
 refused o answered = sameList (o .plan) cells && sameList (ended o) answered && sameList (o .work) work
 
+-- what the definitions give of them, computed
 pub examples : T (
     -- 1, 2 and 23
     refused (mender 5 2 true gates [] records cells (1 ∷ 0 ∷ []) (2 ∷ []) one work 1) (1 ∷ 0 ∷ 0 ∷ 0 ∷ 0 ∷ one)

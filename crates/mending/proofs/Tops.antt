@@ -140,6 +140,7 @@ module _ (K : ℕ) (g : List Node) (ok : Valid g) (few : length g ≤ 65536) (st
 
 -- ---- what the placer built
 
+-- under every filled cell, in every stage in turn
 abbrev pub AllUnder : ℕ → List Node → List ℕ → List Stage → Type 0
 AllUnder K g stop [] = Unit {0}
 AllUnder K g stop (s ∷ ss) = ((q : ℕ) → 1 ≤ q → q < 2 ^ K → filled (getD (s .plan) q empty) ≡ true →

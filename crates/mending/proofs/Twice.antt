@@ -20,11 +20,13 @@ module _ (K : ℕ) (g : List Node) (few : length g ≤ 65536) where
       (λ i. mended (e i) (mended d c) ∷ mendFrom K g stop (suc p) (fixing p (e i) fx) rest)
       ∙ (λ i. mended-twice d c i ∷ again stop (suc p) (fixing p d fx) cs i)
 
+  -- a mended stage mends to itself
   pub stage-twice : (stop cl : List ℕ) → mendStage K g stop (mendStage K g stop cl) ≡ mendStage K g stop cl
   unfolding mendStage
   stage-twice stop [] = refl
   stage-twice stop (c ∷ cs) = ap (λ (xs : List ℕ). c ∷ xs) (again stop 1 (nothingFixed K) cs)
 
+  -- and so do mended stages: the pins to stop at are those of the mended ones both times
   pub mending-twice : (stop : List ℕ) (ss : List Stage) → mendStages K g stop (mendStages K g stop ss) ≡ mendStages K g stop ss
   unfolding mendStages
   mending-twice stop [] = refl

@@ -25,6 +25,7 @@ changesFrom K i [] ys = []
 changesFrom K i (x ∷ xs) [] = []
 changesFrom K i (x ∷ xs) (y ∷ ys) = elim (eqb x y) [ true ↦ changesFrom K (suc i) xs ys | false ↦ changeAt K i x y ∷ changesFrom K (suc i) xs ys ]
 
+-- of two plans
 unfoldable pub changes : ℕ → (old new : List ℕ) → List Change
 changes K old new = changesFrom K 0 old new
 

@@ -42,6 +42,7 @@ pinFor c f = elim (filled f) [ true ↦ f | false ↦ cellPin c ]
 unfoldable pub inGraph : List Node → ℕ → Bool
 inGraph g n = ltb 0 n && ltb n (length g)
 
+-- pin n at position p
 unfoldable pub pinDeed : ℕ → List Node → List ℕ → ℕ → ℕ → Deed
 pinDeed K g stop p n = elim (inGraph g n) [ true ↦ fitting (levelOf K p) (levelIn g stop n) (getD g n leaf) n | false ↦ kept ]
 
@@ -49,6 +50,7 @@ pinDeed K g stop p n = elim (inGraph g n) [ true ↦ fitting (levelOf K p) (leve
 unfoldable pub deed : ℕ → List Node → List ℕ → ℕ → ℕ → ℕ → Deed
 deed K g stop p c f = pinDeed K g stop p (pinFor c f)
 
+-- the cell that comes of it
 unfoldable pub mended : Deed → ℕ → ℕ
 mended kept c = c
 mended (stands n) c = n
@@ -75,6 +77,7 @@ unfoldable pub fixedFrom : ℕ → List Node → List ℕ → ℕ → List ℕ �
 fixedFrom K g stop p fx [] = []
 fixedFrom K g stop p fx (c ∷ cs) = getD fx p empty ∷ fixedFrom K g stop (suc p) (fixing p (deed K g stop p c (getD fx p empty)) fx) cs
 
+-- before the first cell
 unfoldable pub nothingFixed : ℕ → List ℕ
 nothingFixed K = replicate (stageSize K) empty
 
@@ -83,6 +86,7 @@ unfoldable pub mendStage : ℕ → List Node → List ℕ → List ℕ → List 
 mendStage K g stop [] = []
 mendStage K g stop (c ∷ cs) = c ∷ mendFrom K g stop 1 (nothingFixed K) cs
 
+-- what is fixed in it, by position
 unfoldable pub fixedStage : ℕ → List Node → List ℕ → List ℕ → List ℕ
 fixedStage K g stop [] = []
 fixedStage K g stop (c ∷ cs) = empty ∷ fixedFrom K g stop 1 (nothingFixed K) cs
@@ -97,6 +101,7 @@ heldPins K cl = distinct (keep filled (take (width K - 1) (drop 1 (pins cl))))
 unfoldable pub stopAfter : ℕ → List ℕ → List ℕ → List ℕ
 stopAfter K cl stop = heldPins K cl ++ stop
 
+-- the words stay as they are
 unfoldable pub mendStages : ℕ → List Node → List ℕ → List Stage → List Stage
 mendStages K g stop [] = []
 mendStages K g stop (s ∷ ss) =
