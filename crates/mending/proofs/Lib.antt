@@ -1,6 +1,5 @@
 pub mod Deeds
 pub mod Twice
-pub mod Listed
 pub mod Settled
 pub mod Fixed
 pub mod Exact
@@ -8,8 +7,10 @@ pub mod Sound
 pub mod Built
 pub mod Tops
 pub mod Accepted
+pub mod Listed
 pub mod Rebuilt
 pub mod Answers
 pub mod Reading
 pub mod Recovered
+pub mod Inversions
 pub mod Table

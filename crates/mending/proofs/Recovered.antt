@@ -1,6 +1,7 @@
 -- What a crew relies on: damage of cells that a cell above fixes, and of kinds and inversions anywhere, comes back as the placer's plan. Assumes nothing.
 use Prim.Native.Nat.{ℕ, _+_, _-_, _*_, _≤_, _<_}
 use mathlib.Core.Path.{_≡_, sym, _∙_, ap}
+use mathlib.Core.Logic.{_⊎_, inl, inr}
 use mathlib.Core.Bool.{false}
 use mathlib.Core.List.{List, _++_}
 use native.Mathlib.Omega.{arith}
@@ -17,6 +18,7 @@ use Rattle.rules.proofs.Build.Coding.{stages-coded}
 use Rattle.coded.proofs.Passing.{valid, above}
 use Rattle.coded.proofs.Cells.{filled-pin}
 use Rattle.coded.proofs.Coding.{not-filled}
+use Rattle.coded.proofs.Reading.{fault-cases}
 use Rattle.coded.proofs.Complete.{built-accepted}
 use Rattle.mending.specs.Mend.{mendStages}
 use Rattle.mending.specs.Damage.{fixedPins, Damaged}
@@ -24,7 +26,7 @@ use Rattle.mending.specs.Changes.{changes, numbersOf}
 use Rattle.mending.specs.Call.{answer, rebuilt, mender}
 use Rattle.mending.proofs.Sound.{recovered, length-pins}
 use Rattle.mending.proofs.Built.{built-sound}
-use Rattle.mending.proofs.Answers.{answer-0}
+use Rattle.mending.proofs.Answers.{accepted-unchanged, answer-0}
 
 -- a plan that the placer built into an area of L numbers, whatever follows its words and counts in their areas, and the area that came back
 module _ (rule : WordRule) (I : Input) (L : ℕ) (ss : List Stage) (b : built rule I (rooms (I .K) L) ≡ whole ss) (more more′ bad : List ℕ) where
@@ -56,7 +58,7 @@ module _ (rule : WordRule) (I : Input) (L : ℕ) (ss : List Stage) (b : built ru
         (λ i h f. D .tops i (omega (arith, long, D .size)) f ∙ ap cellPin (List·getD-append cells (replicate (L - length cells) empty) empty i h))
 
     -- nothing stands behind the stages
-    behind : drop (length cells) bad ≡ replicate (L - length cells) empty
+    pub behind : drop (length cells) bad ≡ replicate (L - length cells) empty
     unfolding padded filled empty
     behind = ext-getD empty (drop (length cells) bad) (replicate (L - length cells) empty) (length-drop (length cells) bad ∙ omega (arith, long, length-replicate (L - length cells) empty))
         (λ j h.
@@ -84,3 +86,13 @@ module _ (rule : WordRule) (I : Input) (L : ℕ) (ss : List Stage) (b : built ru
     call-recovered need list work k p f h =
         answer-0 (I .K) need (I .sized) (I .gates) (I .given) (I .records) bad words counts list work (length ss) (I .passes) k p f recovered-passes (rw sheet-recovered h)
         ∙ (λ i. record { reply = answer 0 0 0 (length (changes (I .K) bad (sheet-recovered i))); plan = sheet-recovered i; list = laidOver (numbersOf (changes (I .K) bad (sheet-recovered i))) list; work = laidOver (replicate need 0) work })
+
+    -- Whatever the check says of it: it comes back as it is, accepted, or as the placer's plan.
+    pub call-damaged : (need : ℕ) (list work : List ℕ) → 4 * length (changes (I .K) bad good) ≤ length list →
+        ((fault (I .K) (I .gates) (I .given) (I .records) bad words counts (length ss) ≡ faultless)
+        × (mender (I .K) need (I .sized) (I .gates) (I .given) (I .records) bad words counts list work (length ss) ≡ record { reply = answer 0 0 0 0; plan = bad; list = list; work = laidOver (replicate need 0) work }))
+        ⊎ (mender (I .K) need (I .sized) (I .gates) (I .given) (I .records) bad words counts list work (length ss)
+        ≡ record { reply = answer 0 0 0 (length (changes (I .K) bad good)); plan = good; list = laidOver (numbersOf (changes (I .K) bad good)) list; work = laidOver (replicate need 0) work })
+    call-damaged need list work h = fault-cases (fault (I .K) (I .gates) (I .given) (I .records) bad words counts (length ss))
+        (λ e. inl (e, accepted-unchanged (I .K) need (I .sized) (I .gates) (I .given) (I .records) bad words counts list work (length ss) (I .passes) e))
+        (λ k p e. inr (call-recovered need list work k p e h))
