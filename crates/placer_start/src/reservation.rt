@@ -57,7 +57,7 @@ fn flip_flop(enable: Literal, input: Literal) -> Added
 }
 
 // What the whole record at an index adds.
-fn adds(records: &[u32], at: usize) -> Added
+pub fn adds(records: &[u32], at: usize) -> Added
     requires { ⌜ WholeAt at (now records) ⌝ }
     ensures { λ r. ⌜ AddsGroup (groupAt (drop at (now (records .entry)))) r ⌝ }
 {

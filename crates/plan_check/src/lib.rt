@@ -7,6 +7,7 @@ mod stages;
 use cells::Height;
 use checks::refusal;
 use graph::Pin;
+use refusals::WRONG_PLAN;
 use room::counted;
 use sizes::plan_sized;
 use stages::Place;
@@ -24,9 +25,6 @@ pub struct Answer {
     pub position: usize,
     pub pin: Pin,
 }
-
-// The plan has a fault.
-const WRONG_PLAN: u32 = 22;
 
 // Is the plan a whole multiple of a stage, and are so many stages and counts there?
 pub fn plan_fits(height: u32, plan: usize, counts: usize, stages: usize) -> bool

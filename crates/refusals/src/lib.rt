@@ -60,5 +60,8 @@ pub const NOT_DRIVEN: u32 = 19;
 // Driven pins, starting bits or recording are not of the length stated.
 pub const WRONG_LENGTH: u32 = 20;
 
+// A plan made elsewhere has a fault.
+pub const WRONG_PLAN: u32 = 22;
+
 // A loop of gates.
 pub const LOOP: u32 = 23;

@@ -1,53 +1,10 @@
 // Each pin's activations in a chain, the newest first.
-use graph::Literal;
-use graph::Pin;
-use graph::inversion_of;
-use graph::pin_of;
-use graph::wide;
 use placer_start::reservation::Added;
-use records::Kind;
-use records::kind_of;
+use placer_start::reservation::adds;
 use records::size_at;
 ghost use mathlib.Core.Path.{_≡_};
-ghost use lib.ListN.{drop};
-ghost use Rattle.rules.specs.Records as rules;
-ghost use Rattle.rules.specs.Records.{flipFlop, groupAt};
-ghost use Rattle.placer_start.specs.Reservation.{WholeAt, AddsGroup};
+ghost use Rattle.placer_start.specs.Reservation.{WholeAt};
 ghost use Rattle.reservation_count.specs.Chains.{codeAt, LinkAt, Linked, ChainsAt, Chained};
-
-// An output's activation: 2 + inversion.
-fn output(l: Literal) -> Added
-    ensures { λ r. ⌜ AddsGroup (rules.output (l .0)) r ⌝ }
-{
-    Added::Code(pin_of(l), 2 + wide(inversion_of(l)))
-}
-
-// A flip-flop's, at its data pin: 2 × enable literal + data inversion.
-fn flip_flop(enable: Literal, input: Literal) -> Added
-    ensures { λ r. ⌜ AddsGroup (flipFlop (enable .0) (input .0)) r ⌝ }
-{
-    Added::Code(
-        pin_of(input),
-        2 * wide(enable.0) + wide(inversion_of(input)),
-    )
-}
-
-// What the whole record at an index adds.
-fn adds(records: &[u32], at: usize) -> Added
-    requires { ⌜ WholeAt at (now records) ⌝ }
-    ensures { λ r. ⌜ AddsGroup (groupAt (drop at (now (records .entry)))) r ⌝ }
-{
-    let kind = kind_of(records[at]);
-    let first = records[at + 1];
-    match kind {
-        Kind::Memory => Added::Memory,
-        Kind::Output => output(Literal(first)),
-        Kind::FlipFlop => flip_flop(Literal(first), Literal(records[at + 2])),
-        Kind::StagedPin => Added::Code(Pin(first), 2),
-        // A whole record has a known kind.
-        Kind::Unknown => Added::Memory,
-    }
-}
 
 // The activation of the whole record at an index; 0 for a memory, which has none.
 pub fn code_at(records: &[u32], at: usize) -> usize

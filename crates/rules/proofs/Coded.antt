@@ -63,6 +63,11 @@ pub examples : T (
     && sameList (faultWith 96 empty both 2) (1 ∷ 32 ∷ [])
     && sameList (faultWith 33 65537 both 2) (1 ∷ 33 ∷ [])
     && sameList (faultWith 0 1 both 2) (1 ∷ 0 ∷ [])
+    -- operands in the other order; of two faults the first; what the stage before last holds, and what the stage before does
+    && sameList (shown (fault 6 gates [] records (set (set cells 64 2) 96 1) both (2 ∷ []) 1)) (1 ∷ 32 ∷ [])
+    && sameList (shown (fault 6 gates [] records (set (set cells 48 65542) 80 65539) both (2 ∷ []) 1)) (1 ∷ 48 ∷ [])
+    && sameList (shown (fault 6 gates [] records (cells ++ (replicate 128 empty ++ set (replicate 128 empty) 64 5)) both (2 ∷ 0 ∷ 0 ∷ []) 3)) (3 ∷ 64 ∷ [])
+    && sameList (shown (fault 6 gates [] records (cells ++ set (replicate 128 empty) 64 5) both (2 ∷ 0 ∷ []) 2)) []
     -- word 0, which holds the output, left out; a word that isn't one; a word too many
     && sameList (faultWith 0 empty (1 ∷ []) 1) (0 ∷ 0 ∷ [])
     && sameList (faultWith 0 empty (1 ∷ 2 ∷ []) 2) (1 ∷ 0 ∷ [])
