@@ -1,8 +1,8 @@
 // Checks a plan made elsewhere against its graph: the first fault by stage and position. It takes any numbers and slices, and changes none:
 // marks stand in arrays of its own.
 mod ends;
-mod room;
-mod stages;
+pub mod room;
+pub mod stages;
 
 use cells::Height;
 use checks::refusal;
@@ -29,7 +29,7 @@ pub struct Answer {
 const WRONG_PLAN: u32 = 22;
 
 // Is the plan a whole multiple of a stage, and are so many stages and counts there?
-fn sized(height: u32, plan: usize, counts: usize, stages: usize) -> bool
+pub fn sized(height: u32, plan: usize, counts: usize, stages: usize) -> bool
     ensures { λ r. ⌜ r ≡ isHeight height && planFits height plan counts stages ⌝ }
 {
     if !plan_sized(height, plan) {
