@@ -23,10 +23,10 @@ pub fn count_changes(old: &[u32], new: &[u32]) -> usize
     let mut n = 0;
     let mut i = 0;
     while i < old.len() {
-        let x = old[i];
-        let y = new[i];
+        let a = old[i];
+        let b = new[i];
         i += 1;
-        if x != y {
+        if a != b {
             n += 1;
         }
     }
