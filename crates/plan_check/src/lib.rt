@@ -1,8 +1,8 @@
 // Checks a plan made elsewhere against its graph: the first fault by stage and position. It takes any numbers and slices, and changes none:
 // marks stand in arrays of its own.
 mod ends;
-mod room;
-mod stages;
+pub mod room;
+pub mod stages;
 
 use cells::Height;
 use checks::refusal;

@@ -65,3 +65,6 @@ pub const WRONG_PLAN: u32 = 22;
 
 // A loop of gates.
 pub const LOOP: u32 = 23;
+
+// The list of changes is too short.
+pub const SHORT_LIST: u32 = 24;

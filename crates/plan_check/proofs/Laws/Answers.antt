@@ -200,7 +200,7 @@ room-at K s gates given records v S e =
     record { right = record { short = P .short; readable = P .readable; named = P .named }; few = P .few }
 
 -- the height is looked at first
-height-first : (K : ℕ) (b : Bool) (gates given records : List ℕ) → refusalOf K (isHeight K && b) gates given records ≡ refusalOf K b gates given records
+pub height-first : (K : ℕ) (b : Bool) (gates given records : List ℕ) → refusalOf K (isHeight K && b) gates given records ≡ refusalOf K b gates given records
 unfolding refusalOf
 height-first K b gates given records = split (isHeight K) (λ h. let z : (isHeight K && b) ≡ b = rw h in rw z) (λ h. rw (h, refusalOf))
 
