@@ -1,9 +1,12 @@
 -- What the entries of plans made elsewhere return and leave. Assumes nothing.
 use mathlib.Core.List.{List, [], _∷_}
 use Prim.Native.Nat.{ℕ}
+use lib.ListN.{length}
 use Rattle.plan_check.specs.Answers.{Checked, planChecker}
 use Rattle.replay_form.specs.Calls.{Job}
 use Rattle.replay_finished.specs.Calls.{Plan, Lent, finishedReplay}
+use Rattle.mending.specs.Call.{mender}
+use Rattle.mend.specs.Calls.{mendFits}
 use Rattle.entries.specs.Entry.{Entry, entered}
 
 -- what follows the number: where a fault is, and the pin on a loop
@@ -21,3 +24,18 @@ unfoldable pub planReplayed : Job → Plan → Lent → List ℕ → Entry Lent
 planReplayed J p l xs =
     let o = finishedReplay J p l in
     entered l (o .lent) (o .reply .number) (place (o .reply)) xs
+
+-- the areas that mending writes
+pub record Mend : Type 0 where
+  pub plan : List ℕ
+  pub list : List ℕ
+  pub work : List ℕ
+
+unfoldable pub mendTo : (plan list work : List ℕ) → Mend
+mendTo plan list work = record { plan = plan; list = list; work = work }
+
+-- the mending: its place, the pin on a loop and the changes, and all areas
+unfoldable pub planMended : ℕ → (gates given records words counts : List ℕ) → ℕ → Mend → List ℕ → Entry Mend
+planMended K gates given records words counts n l xs =
+    let o = mender K (length (l .plan)) (mendFits K (length (l .plan)) (length counts) (length (l .work)) n) gates given records (l .plan) words counts (l .list) (l .work) n in
+    entered l (mendTo (o .plan) (o .list) (o .work)) (o .reply .number) (o .reply .stage ∷ o .reply .position ∷ o .reply .pin ∷ o .reply .count ∷ []) xs

@@ -1,4 +1,4 @@
-// The entries of plans made elsewhere: the check, and a replay over one that is handed in.
+// The entries of plans made elsewhere: the check, a replay over one that is handed in, and the mending of a damaged one.
 use crate::answers::tell;
 use columns::wide;
 use refusals::WRONG_SIZE;
@@ -6,7 +6,7 @@ ghost use mathlib.Core.Path.{_≡_};
 ghost use Rattle.replay.specs.Answers.{job};
 ghost use Rattle.replay_finished.specs.Answers.{handed, lent};
 ghost use Rattle.entries.specs.Entry.{entry};
-ghost use Rattle.entries.specs.Plans.{planChecked, planReplayed};
+ghost use Rattle.entries.specs.Plans.{mendTo, planChecked, planReplayed, planMended};
 
 // As `plan_check::check_plan`, with number, stage, position and pin in the first four numbers of `answer`. Returns the number. Where `answer` is
 // shorter that is 2, and nothing is changed.
@@ -86,6 +86,46 @@ pub extern "C" fn replay_plan(
     let pin = a.pin;
     let shown = pin.index();
     let numbers = [wide(a.number), a.stage, a.position, shown];
+    tell(&numbers, answer);
+    a.number
+}
+
+// As `mend::mend`, with number, stage, position, pin and count in the first five numbers of `answer`. Returns the number. Where `answer` is shorter that
+// is 2, and nothing is changed.
+#[no_mangle]
+pub extern "C" fn mend_plan(
+    height: u32,
+    gates: &[u32],
+    given: &[u32],
+    records: &[u32],
+    plan: &mut [u32],
+    words: &[u32],
+    counts: &[u32],
+    stages: usize,
+    list: &mut [u32],
+    work: &mut [u32],
+    answer: &mut [usize],
+) -> u32
+    ensures { λ r. ⌜ entry r (mendTo (now (plan .exit)) (now (list .exit)) (now (work .exit))) (now (answer .exit)) ≡ planMended height (now (gates .entry)) (now (given .entry)) (now (records .entry)) (now (words .entry)) (now (counts .entry)) stages (mendTo (now (plan .entry)) (now (list .entry)) (now (work .entry))) (now (answer .entry)) ⌝ }
+{
+    if answer.len() < 5 {
+        return WRONG_SIZE;
+    }
+    let a = mend::mend(
+        height,
+        gates,
+        given,
+        records,
+        plan,
+        words,
+        counts,
+        stages,
+        list,
+        work,
+    );
+    let pin = a.pin;
+    let shown = pin.index();
+    let numbers = [wide(a.number), a.stage, a.position, shown, a.count];
     tell(&numbers, answer);
     a.number
 }

@@ -10,7 +10,11 @@ use Rattle.replay_form.specs.Calls.{Job}
 use Rattle.replay_finished.specs.Calls.{Plan, Lent, finishedReplay}
 use Rattle.replay_finished.specs.Answers.{lent, outcome}
 use Rattle.entries.specs.Entry.{entry, written}
-use Rattle.entries.specs.Plans.{place, planChecked, planReplayed}
+use Rattle.mending.specs.Call.{mender}
+use Rattle.mend.specs.declared.Answer as declared
+use Rattle.mend.specs.Calls as mend
+use Rattle.mend.specs.Calls.{mendFits}
+use Rattle.entries.specs.Plans.{place, mendTo, planChecked, planReplayed, planMended}
 use Rattle.entries.proofs.Laws.Entry.{entry-told}
 
 -- a plan checked, the answer written
@@ -24,3 +28,10 @@ pub entry-finished : (J : Job) (p : Plan) (l : Lent) (xs : List ℕ) → 4 ≤ l
     ys ≡ written (m ∷ a .stage ∷ a .position ∷ k ∷ []) xs → entry (a .number) (lent work tape slots bits out end) ys ≡ planReplayed J p l xs
 unfolding planReplayed place outcome check.outcome
 entry-finished J p l xs h a work tape slots bits out end ys m k e x q d = rw (← e) (entry-told l (lent work tape slots bits out end) (a .number) (a .stage ∷ a .position ∷ a .pin .0 ∷ []) xs h (rw (x, q) at d))
+
+-- a plan mended
+pub entry-mended : (K : ℕ) (gates given records plan words counts : List ℕ) (n : ℕ) (list work xs : List ℕ) → 5 ≤ length xs → (a : declared.Answer) (plan2 list2 work2 ys : List ℕ) (m k : ℕ) →
+    mend.outcome a plan2 list2 work2 ≡ mender K (length plan) (mendFits K (length plan) (length counts) (length work) n) gates given records plan words counts list work n → m ≡ a .number → k ≡ a .pin .0 →
+    ys ≡ written (m ∷ a .stage ∷ a .position ∷ k ∷ a .count ∷ []) xs → entry (a .number) (mendTo plan2 list2 work2) ys ≡ planMended K gates given records words counts n (mendTo plan list work) xs
+unfolding planMended mendTo mend.outcome
+entry-mended K gates given records plan words counts n list work xs h a plan2 list2 work2 ys m k e p q d = rw (← e) (entry-told (mendTo plan list work) (mendTo plan2 list2 work2) (a .number) (a .stage ∷ a .position ∷ a .pin .0 ∷ a .count ∷ []) xs h (rw (p, q) at d))

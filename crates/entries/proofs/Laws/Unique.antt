@@ -11,6 +11,7 @@ use Rattle.sheet_form.specs.Calls as sheet
 use Rattle.entries.specs.Entry.{Entry, entry}
 use Rattle.entries.specs.Merge.{Lent, lent}
 use Rattle.entries.specs.Fold as fold
+use Rattle.entries.specs.Plans as plans
 use Rattle.entries.specs.Jobs.{Lists, lists}
 
 -- of any entry, its areas as one value: `placer_depth`, `list_answer`, `write_job`, `write_aiger` and `write_sheet` lend one area
@@ -56,3 +57,8 @@ one-netlist g r l g′ r′ l′ s = (ap (λ (x : Netlist). x .gates) s, ap (λ 
 -- the areas of `read_sheet`
 pub one-sheet : (p w c p′ w′ c′ : List ℕ) → sheet.areas p w c ≡ sheet.areas p′ w′ c′ → (p ≡ p′) × (w ≡ w′) × (c ≡ c′)
 one-sheet p w c p′ w′ c′ s = (ap (λ (x : sheet.Areas). x .plan) s, ap (λ (x : sheet.Areas). x .words) s, ap (λ (x : sheet.Areas). x .counts) s)
+
+-- the areas of `mend_plan`
+pub one-mend : (p l w p′ l′ w′ : List ℕ) → plans.mendTo p l w ≡ plans.mendTo p′ l′ w′ → (p ≡ p′) × (l ≡ l′) × (w ≡ w′)
+unfolding plans.mendTo
+one-mend p l w p′ l′ w′ s = (ap (λ (x : plans.Mend). x .plan) s, ap (λ (x : plans.Mend). x .list) s, ap (λ (x : plans.Mend). x .work) s)
