@@ -1,4 +1,5 @@
-//! What is wrong with a plan that the library refuses with 22, in words. The library has told the place of the first fault; this only looks there.
+//! What is wrong with a plan that the library refuses with 22, in words. The library has told the place of the first fault; this only looks there. Some faults
+//! no sheet has, since reading it refuses them with 15: a filled position 0, a word that is none, a number that is no cell.
 
 use crate::job::{Form, Job};
 use crate::placer::{build_work_size, reserved, stage_size, words_size, Cell, EMPTY};
@@ -107,10 +108,8 @@ impl Look<'_> {
         let (first, second) = lower(position);
         Some(if pin == 0 || pin as usize > pins {
             format!("it holds pin {pin}; the graph, {}, has pins 1 to {pins}", self.job.name)
-        } else if cell.0 >> 19 > 0 || (!cell.ands() && cell.0 != pin) {
-            format!("it holds the number {}, which is no cell", cell.0)
-        } else if self.level(position) == 0 && cell.ands() {
-            format!("it ANDs pin {pin}, and stands at level 0, where a cell loads")
+        } else if cell.0 >> 19 > 0 || (cell.0 != pin && (!cell.ands() || self.level(position) == 0)) {
+            format!("it holds the number {}, which is no cell of its level", cell.0)
         } else if self.level(position) == 0 {
             self.load(stage, pin)
         } else if !cell.ands() {
@@ -172,10 +171,10 @@ impl Look<'_> {
                 None => format!("record {}", at + 1),
             },
             Form::Text(text) => {
-                let line = text.record_lines.get(at).map_or(String::new(), |line| format!(" of line {line}"));
-                format!("record {}, {word}{line}", at + 1)
+                let line = text.record_lines.get(at).map_or(String::new(), |line| format!(" in line {line}"));
+                format!("record {} ({word}{line})", at + 1)
             }
-            Form::File => format!("record {}, {word}", at + 1),
+            Form::File => format!("record {} ({word})", at + 1),
         }
     }
 
@@ -227,7 +226,7 @@ impl Look<'_> {
         let cost = memories.saturating_mul(4).saturating_add(duplicates);
         if aside >= limit || cost > limit {
             found.push(format!(
-                "more is reserved than may be: {memories} memories and {duplicates} duplicate activations take {aside} words, which must be below {limit}, and {cost} cells, which must be at most {limit}"
+                "more is reserved than may be: {memories} memories and {duplicates} duplicate activations take {aside} words, which must be below {limit}; four times the memories and the duplicates are {cost}, which must be at most {limit}"
             ));
         }
         let missing = self.missing();
