@@ -45,7 +45,7 @@ enum Command {
     Merge(merge::Args),
 }
 
-/// A call may need 3 MiB of stack.
+/// A call may need 2 MiB of stack.
 const STACK: usize = 16 << 20;
 
 fn run(command: &Command) -> Done<()> {
