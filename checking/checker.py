@@ -181,6 +181,39 @@ def read_back(height, stages, bits):
     return found
 
 
+def not_played(gates, given, records, driven, start, lines, recording, out):
+    """The first of 18, 19, 20, 17 that applies to a replay, or 0; as many bytes are lent for the end bits as start has."""
+    found = record_list(records)
+    leaves = [pin for pin in range(1, len(gates) // 2) if is_leaf(gates, pin)]
+    flops = sum(kind == 2 for kind, _ in found)
+    if given or any(kind == 3 for kind, _ in found):
+        return 18
+    if len(set(driven)) < len(driven) or not set(driven) <= set(leaves):
+        return 19
+    if len(driven) != flops or len(start) != flops or len(recording) != lines * (len(leaves) - flops):
+        return 20
+    return 17 if out < lines * sum(len(numbers) for _, numbers in found) else 0
+
+
+def played(gates, records, driven, start, lines, recording):
+    """What comes out of the plain graph, clock after clock, and the end bits."""
+    found = record_list(records)
+    free = [pin for pin in range(1, len(gates) // 2) if is_leaf(gates, pin) and pin not in driven]
+    state, out = [int(bit != 0) for bit in start], []
+    for line in range(lines):
+        bits = dict(zip(driven, state))
+        bits.update((pin, int(recording[line * len(free) + at] != 0)) for at, pin in enumerate(free))
+        value = values(gates, (), bits)
+        taken = []
+        for kind, numbers in found:
+            handed = [value[number] if kind == 4 else value[number // 2] ^ number % 2 for number in numbers]
+            out += handed
+            if kind == 2:
+                taken.append(handed)
+        state = [data if enable else bit for bit, (enable, data) in zip(state, taken)]
+    return out, state
+
+
 def checked(height, gates, given, records, stages, plan_length, counts_length):
     """Number, stage, position and pin, as the library answers them."""
     number, pin = early(height, gates, given, records, plan_length, counts_length, len(stages))
