@@ -47,7 +47,7 @@ pub fn run(args: &Args) -> Done<()> {
         }
         22 => {
             out.put(format!("refused 22 stage {} position {}\n", answer.stage, answer.position))?;
-            fault::said(&name, &job, &built, answer.stage, answer.position)
+            fault::said(&name, &job, &built, answer.stage, answer.position)?
         }
         number => {
             out.put(refusal_line(number, 0, answer.pin))?;

@@ -1,7 +1,9 @@
 //! What is wrong with a plan that the library refuses with 22, in words. The library has told the place of the first fault; this only looks there. Some faults
 //! no sheet has, since reading it refuses them with 15: a filled position 0, a word that is none, a number that is no cell.
 
+use crate::end::Done;
 use crate::job::{Form, Job};
+use crate::memory;
 use crate::placer::{build_work_size, reserved, stage_size, words_size, Cell, EMPTY};
 use crate::plan::Built;
 use crate::why;
@@ -39,13 +41,15 @@ impl Look<'_> {
         self.stage(stage).get(position).map_or(Cell::NONE, |&cell| Cell(cell))
     }
 
-    /// The words of a stage, and how many are written before it; words that aren't there are left out.
-    fn words(&self, stage: usize) -> (&[u32], usize) {
-        let lent = &self.built.lent;
-        let count = |at: usize| lent.counts.get(at).map_or(0, |&count| count as usize);
-        let before = (0..stage - 1).map(count).sum::<usize>().min(lent.words.len());
-        let rest = &lent.words[before..];
-        (&rest[..count(stage - 1).min(rest.len())], before)
+    /// How many words a stage is to write.
+    fn count(&self, stage: usize) -> usize {
+        self.built.lent.counts.get(stage - 1).map_or(0, |&count| count as usize)
+    }
+
+    /// The words of a stage behind so many of the stages before; words that aren't there are left out.
+    fn words(&self, stage: usize, before: usize) -> &[u32] {
+        let rest = self.built.lent.words.get(before..).unwrap_or(&[]);
+        &rest[..self.count(stage).min(rest.len())]
     }
 
     fn level(&self, position: usize) -> u32 {
@@ -125,15 +129,15 @@ impl Look<'_> {
     }
 
     /// Memories, duplicates and the words set aside for them.
-    fn aside(&self) -> (usize, usize, usize) {
+    fn aside(&self) -> Done<(usize, usize, usize)> {
         let Job { gates, given, records, .. } = self.job;
-        let mut work = vec![0; build_work_size(gates.len(), records.len())];
+        let mut work = memory::area(0, build_work_size(gates.len(), records.len()))?;
         let told = reserved(gates, given, records, &mut work);
-        (told.memories, told.duplicates, told.words)
+        Ok((told.memories, told.duplicates, told.words))
     }
 
     /// The faults of a stage that belong to no cell.
-    fn at_end(&self, stage: usize) -> Vec<String> {
+    fn at_end(&self, stage: usize) -> Done<Vec<String>> {
         let mut found = Vec::new();
         let height = self.built.height;
         if !self.cell(stage, 0).is_empty() {
@@ -144,21 +148,22 @@ impl Look<'_> {
             found.push(format!("level 1 has no empty cell: all {row} are filled"));
         }
         let limit = words_size(height);
-        let (words, before) = self.words(stage);
+        let before = (1..stage).map(|earlier| self.count(earlier)).sum();
+        let words = self.words(stage, before);
         if let Some(word) = words.iter().find(|&&word| word as usize >= limit) {
             found.push(format!("word {word} is none; a tree's words are 0 to {}", limit - 1));
         }
-        let wants = self.built.lent.counts.get(stage - 1).map_or(0, |&count| count as usize);
+        let wants = self.count(stage);
         if wants > words.len() {
             found.push(format!("it is to write {wants} words, and {} are there", words.len()));
         }
-        let (_, _, aside) = self.aside();
+        let (_, _, aside) = self.aside()?;
         let left = limit.saturating_sub(aside).saturating_sub(before);
         if wants > left {
             let written = if before > 0 { format!(" and {before} written by the stages before") } else { String::new() };
             found.push(format!("it writes {wants} words, and {left} are left: of {limit} words {aside} are reserved{written}"));
         }
-        found
+        Ok(found)
     }
 
     /// A record as people find it, by its index.
@@ -179,31 +184,34 @@ impl Look<'_> {
     }
 
     /// Each endpoint pin that no written word holds, once, with the first record that names it.
-    fn missing(&self) -> Vec<(usize, u32, u32)> {
-        let mut done = vec![false; self.job.gates.len() / 2];
+    fn missing(&self) -> Done<Vec<(usize, u32, u32)>> {
+        let mut done = memory::area(false, self.job.gates.len() / 2)?;
         let mut mark = |pin: u32| match done.get_mut(pin as usize) {
             Some(mark) => std::mem::replace(mark, true),
             None => true,
         };
         mark(0);
+        let mut before = 0;
         for stage in 1..=self.built.answer.stages {
-            for &word in self.words(stage).0 {
+            for &word in self.words(stage, before) {
                 let from = 32 * word as usize;
                 for position in from..from + 32 {
                     self.cell(stage, position).pin().map(&mut mark);
                 }
             }
+            before += self.count(stage);
         }
         let mut found = Vec::new();
         for (at, (kind, numbers)) in self.job.records().enumerate() {
             for &number in numbers {
                 let pin = if kind == 4 { number } else { number / 2 };
                 if !mark(pin) {
+                    memory::more(&mut found, 1)?;
                     found.push((at, kind, pin));
                 }
             }
         }
-        found
+        Ok(found)
     }
 
     /// Where a pin stands whose endpoint isn't written.
@@ -219,35 +227,35 @@ impl Look<'_> {
     }
 
     /// The faults that belong to no stage.
-    fn at_last(&self) -> Vec<String> {
+    fn at_last(&self) -> Done<Vec<String>> {
         let mut found = Vec::new();
         let limit = words_size(self.built.height);
-        let (memories, duplicates, aside) = self.aside();
+        let (memories, duplicates, aside) = self.aside()?;
         let cost = memories.saturating_mul(4).saturating_add(duplicates);
         if aside >= limit || cost > limit {
             found.push(format!(
                 "more is reserved than may be: {memories} memories and {duplicates} duplicate activations take {aside} words, which must be below {limit}; four times the memories and the duplicates are {cost}, which must be at most {limit}"
             ));
         }
-        let missing = self.missing();
+        let missing = self.missing()?;
         if let Some(&(at, kind, pin)) = missing.first() {
             let more = if missing.len() > 1 { format!("; {} more pins of records are written by none", missing.len() - 1) } else { String::new() };
             found.push(format!("{}: pin {pin} stands in no written word; {}{more}", self.record(at, kind), self.stands(pin)));
         }
-        found
+        Ok(found)
     }
 }
 
 /// Of a plan that a sheet has, with the place of its first fault as the library answered it.
-pub fn said(name: &str, job: &Job, built: &Built, stage: usize, position: usize) -> String {
+pub fn said(name: &str, job: &Job, built: &Built, stage: usize, position: usize) -> Done<String> {
     let look = Look { job, built };
     let (place, what) = match (stage, position) {
-        (0, _) => ("all stages".to_string(), look.at_last()),
-        (_, 0) => (format!("stage {stage}"), look.at_end(stage)),
+        (0, _) => ("all stages".to_string(), look.at_last()?),
+        (_, 0) => (format!("stage {stage}"), look.at_end(stage)?),
         _ => (format!("stage {stage}, {}", look.place(position)), look.at_cell(stage, position).into_iter().collect()),
     };
-    match what.is_empty() {
+    Ok(match what.is_empty() {
         false => format!("{name}: refused with 22: {place}: {}", what.join("; ")),
         true => why::numbered(name, 22),
-    }
+    })
 }

@@ -255,12 +255,13 @@ impl<'a> Runner<'a> {
     fn refused(&self, answer: &Checked, start: &[u8]) -> End {
         let Checked { number, stage, position, pin } = *answer;
         let (name, latches) = (&self.job.name, self.aag.latches.len());
-        End::Refused(match &self.over {
-            _ if number == 20 && start.len() != latches => format!("{name}: refused with 20: --start has {} bits; there are {latches} latches", start.len()),
-            Over::Built { height, lent } => why::lists(self.job, *height, number, stage, pin, lent.rooms),
+        let said = match &self.over {
+            _ if number == 20 && start.len() != latches => Ok(format!("{name}: refused with 20: --start has {} bits; there are {latches} latches", start.len())),
+            Over::Built { height, lent } => Ok(why::lists(self.job, *height, number, stage, pin, lent.rooms)),
             Over::Sheet { name, built, .. } if number == 22 => fault::said(name, self.job, built, stage, position),
-            Over::Sheet { built, .. } => why::lists(self.job, built.height, number, 0, pin, built.lent.rooms),
-        })
+            Over::Sheet { built, .. } => Ok(why::lists(self.job, built.height, number, 0, pin, built.lent.rooms)),
+        };
+        said.map_or_else(|end| end, End::Refused)
     }
 }
 
