@@ -6,5 +6,6 @@ pub mod Fold
 pub mod Files
 pub mod Aiger
 pub mod Replay
+pub mod Plans
 pub mod Sheets
 pub mod Unique

@@ -7,4 +7,5 @@ pub mod Listing
 pub mod Jobs
 pub mod Aiger
 pub mod Replay
+pub mod Plans
 pub mod Sheets

@@ -6,6 +6,7 @@ mod depth_entry;
 mod fold_entry;
 mod list_entry;
 mod merge_entry;
+mod plan_entry;
 mod read_entry;
 mod replay_entry;
 mod sheet_entry;

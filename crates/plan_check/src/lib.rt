@@ -29,7 +29,7 @@ pub struct Answer {
 const WRONG_PLAN: u32 = 22;
 
 // Is the plan a whole multiple of a stage, and are so many stages and counts there?
-fn sized(height: u32, plan: usize, counts: usize, stages: usize) -> bool
+pub fn plan_fits(height: u32, plan: usize, counts: usize, stages: usize) -> bool
     ensures { λ r. ⌜ r ≡ isHeight height && planFits height plan counts stages ⌝ }
 {
     if !plan_sized(height, plan) {
@@ -56,7 +56,7 @@ pub fn check_plan(
 {
     let verdict = refusal(
         height,
-        sized(height, plan.len(), counts.len(), stages),
+        plan_fits(height, plan.len(), counts.len(), stages),
         gates,
         given,
         records,

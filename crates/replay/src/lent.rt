@@ -8,7 +8,7 @@ ghost use Rattle.replay_form.specs.Calls.{replaySized};
 ghost use Rattle.replay.specs.Sizes.{listsSized};
 
 // Have tape, slots and bits a right size?
-fn lists_sized(
+pub fn lists_sized(
     gates: &[u32],
     records: &[u32],
     plan: usize,

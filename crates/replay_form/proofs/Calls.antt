@@ -116,6 +116,24 @@ lengths-are flips leaves driven starting lines recording e =
     let u = and-true (eqb driven flips) (eqb starting flips) (t .0) in
     (eqb-true _ _ (u .0), eqb-true _ _ (u .1), eqb-true _ _ (t .1))
 
+-- a plain run's bits laid over the areas for them, of a job whose lengths are as stated
+pub record Hands (J : Job) (o e o2 e2 : List ℕ) : Type 0 where
+  pub out : o2 ≡ laidOver (plainOf J .out) o
+  pub end : e2 ≡ laidOver (plainOf J .end) e
+  pub starts : length (J .starting) ≡ flipFlops (groupsOf (J .records))
+  pub recorded : length (J .recording) ≡ J .lines * lineSize (circuitOf J)
+
+module _ {J : Job} {o e o2 e2 : List ℕ} (H : Hands J o e o2 e2) where
+  -- the bits of all the clocks
+  pub out-bits : take (J .lines * bitsOut (groupsOf (J .records))) o2 ≡ plainOf J .out
+  unfolding laidOver plainRun circuitOf
+  out-bits = rw (H .out) (take-at (plainOf J .out) _ _ (length-out (circuitOf J) (plainBits (graphOf (J .gates))) (J .lines) (J .recording) (ones (J .starting))))
+
+  -- and the end bits, as many as there are flip-flops
+  pub end-bits : take (flipFlops (groupsOf (J .records))) e2 ≡ plainOf J .end
+  unfolding laidOver plainRun circuitOf
+  end-bits = rw (H .end) (take-at (plainOf J .end) _ _ (length-end (circuitOf J) (plainBits (graphOf (J .gates))) (J .lines) (J .recording) (ones (J .starting)) (length-ones (J .starting) ∙ H .starts)))
+
 module _ (J : Job) (a : Lent) where
   abbrev checked : ℕ
   checked = refusalOf (J .height) (areasRight J a) (J .gates) (J .given) (J .records)
@@ -174,19 +192,10 @@ module _ (rule : WordRule) (J : Job) (a : Lent) (z : replay rule J a .reply .num
   unfolding builtLent
   replay-end = ap (λ (l : Lent). l .end) lent-built ∙ ap (λ (r : Ran). laidOver (r .end) (a .end)) ran-plain
 
-  stated : (length (J .starting) ≡ flipFlops (groupsOf (J .records))) × (length (J .recording) ≡ J .lines * lineSize (circuitOf J))
+  -- so a call hands out what a plain run does
+  pub replay-hands : Hands J (a .out) (a .end) (replay rule J a .lent .out) (replay rule J a .lent .end)
   unfolding circuitOf lineSize
-  stated = let t = lengths-are _ _ _ _ _ _ (passed J a (answered rule J a z .passes) .1 .lengths) in (t .1, t .2)
-
-  -- the bits of all the clocks, and the end bits
-  pub out-bits : take (J .lines * bitsOut (groupsOf (J .records))) (replay rule J a .lent .out) ≡ plainOf J .out
-  unfolding laidOver plainRun circuitOf
-  out-bits = rw replay-out (take-at (plainOf J .out) _ _ (length-out (circuitOf J) (plainBits (graphOf (J .gates))) (J .lines) (J .recording) (ones (J .starting))))
-
-  -- the end bits, as many as there are flip-flops
-  pub end-bits : take (flipFlops (groupsOf (J .records))) (replay rule J a .lent .end) ≡ plainOf J .end
-  unfolding laidOver plainRun circuitOf
-  end-bits = rw replay-end (take-at (plainOf J .end) _ _ (length-end (circuitOf J) (plainBits (graphOf (J .gates))) (J .lines) (J .recording) (ones (J .starting)) (length-ones (J .starting) ∙ stated .0)))
+  replay-hands = let t = lengths-are _ _ _ _ _ _ (passed J a (answered rule J a z .passes) .1 .lengths) in record { out = replay-out; end = replay-end; starts = t .1; recorded = t .2 }
 
 -- No bit is written by any refusal.
 pub replay-refused : (rule : WordRule) (J : Job) (a : Lent) → replay rule J a .reply .number ≢ 0 → (replay rule J a .lent .out ≡ a .out) × (replay rule J a .lent .end ≡ a .end)
@@ -215,14 +224,29 @@ plain-cut C n m first second starting e =
     let B = plainBits (C .graph) in
     rw (ones-run C B n first (ones starting) (ones-ones starting)) (run-cut C B n m first second (ones starting) e)
 
--- The same of calls, whatever is lent to each.
-module _ (rule : WordRule) (J : Job) (n m : ℕ) (first second starting : List ℕ) (a a1 a2 : Lent) where
+-- The same of calls that hand out a plain run's bits, whatever is lent to each: the bits of both, one after the other, are those of the one run, and
+-- the end bits are the second's.
+module _ (J : Job) (n m : ℕ) (first second starting : List ℕ) where
   abbrev bits : ℕ
   bits = bitsOut (groupsOf (J .records))
 
   abbrev flops : ℕ
   flops = flipFlops (groupsOf (J .records))
 
+  pub hands-cut : {o e o2 e2 p d p2 d2 q c q2 c2 : List ℕ} → Hands (over J (n + m) (first ++ second) starting) o e o2 e2 → Hands (over J n first starting) p d p2 d2 → Hands (over J m second (take flops d2)) q c q2 c2 →
+      (take ((n + m) * bits) o2 ≡ take (n * bits) p2 ++ take (m * bits) q2) × (take flops e2 ≡ take flops c2)
+  unfolding circuitOf andThen
+  hands-cut {d2} H H1 H2 =
+      let J1 = over J n first starting in
+      let J2 = over J m second (take flops d2) in
+      let k = plain-cut (circuitOf J) n m first second starting (H1 .recorded) in
+      let s : plainOf J2 ≡ plainRun (circuitOf J) m second (plainOf J1 .end) = ap (λ (u : List ℕ). plainRun (circuitOf J) m second u) (end-bits H1) in (
+        out-bits H ∙ ap (λ (r : Ran). r .out) (k ∙ ap (andThen (plainOf J1)) (sym s)) ∙ sym (rw (out-bits H1, out-bits H2)),
+        end-bits H ∙ ap (λ (r : Ran). r .end) (k ∙ ap (andThen (plainOf J1)) (sym s)) ∙ sym (end-bits H2),
+      )
+
+-- So of calls of `replay`.
+module _ (rule : WordRule) (J : Job) (n m : ℕ) (first second starting : List ℕ) (a a1 a2 : Lent) where
   abbrev o : Outcome
   o = replay rule (over J (n + m) (first ++ second) starting) a
 
@@ -230,17 +254,9 @@ module _ (rule : WordRule) (J : Job) (n m : ℕ) (first second starting : List �
   o1 = replay rule (over J n first starting) a1
 
   abbrev o2 : Outcome
-  o2 = replay rule (over J m second (take flops (o1 .lent .end))) a2
+  o2 = replay rule (over J m second (take (flipFlops (groupsOf (J .records))) (o1 .lent .end))) a2
 
-  -- the bits handed out by both runs, one after the other, are those of the one run, and the end bits are the second's
   pub replay-cut : o .reply .number ≡ 0 → o1 .reply .number ≡ 0 → o2 .reply .number ≡ 0 →
-      (take ((n + m) * bits) (o .lent .out) ≡ take (n * bits) (o1 .lent .out) ++ take (m * bits) (o2 .lent .out)) × (take flops (o .lent .end) ≡ take flops (o2 .lent .end))
-  unfolding circuitOf andThen
-  replay-cut z z1 z2 =
-      let J1 = over J n first starting in
-      let J2 = over J m second (take flops (o1 .lent .end)) in
-      let c = plain-cut (circuitOf J) n m first second starting (stated rule J1 a1 z1 .1) in
-      let s : plainOf J2 ≡ plainRun (circuitOf J) m second (plainOf J1 .end) = ap (λ (u : List ℕ). plainRun (circuitOf J) m second u) (end-bits rule J1 a1 z1) in (
-        out-bits rule (over J (n + m) (first ++ second) starting) a z ∙ ap (λ (r : Ran). r .out) (c ∙ ap (andThen (plainOf J1)) (sym s)) ∙ sym (rw (out-bits rule J1 a1 z1, out-bits rule J2 a2 z2)),
-        end-bits rule (over J (n + m) (first ++ second) starting) a z ∙ ap (λ (r : Ran). r .end) (c ∙ ap (andThen (plainOf J1)) (sym s)) ∙ sym (end-bits rule J2 a2 z2),
-      )
+      (take ((n + m) * bitsOut (groupsOf (J .records))) (o .lent .out) ≡ take (n * bitsOut (groupsOf (J .records))) (o1 .lent .out) ++ take (m * bitsOut (groupsOf (J .records))) (o2 .lent .out))
+      × (take (flipFlops (groupsOf (J .records))) (o .lent .end) ≡ take (flipFlops (groupsOf (J .records))) (o2 .lent .end))
+  replay-cut z z1 z2 = hands-cut J n m first second starting (replay-hands rule _ a z) (replay-hands rule _ a1 z1) (replay-hands rule _ a2 z2)

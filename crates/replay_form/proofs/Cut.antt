@@ -6,19 +6,19 @@ use mathlib.Core.List.{List, [], _∷_, _++_, map}
 use native.Mathlib.Omega.{arith}
 use native.Mathlib.Nat.{suc-mul}
 use lib.Dec.{leb}
-use lib.ListN.{length, getD, take, drop, length-append, length-drop, length-map, List·getD-map}
+use lib.ListN.{length, getD, take, drop, length-append, length-drop, length-map, List·getD-map, List·getD-eq-default}
 use lib.Seq.{ext-getD, getD-take, length-take-le, take-add}
-use borrow.Author.Tests.{leb-true}
-use Rattle.rules.specs.Lists.{sum, every, upTo}
-use Rattle.rules.specs.Cells.{empty, filled, wordFits, row, firstEmpty}
+use borrow.Author.Tests.{leb-true, leb-false}
+use Rattle.rules.specs.Lists.{sum, every, upTo, In}
+use Rattle.rules.specs.Cells.{empty, filled, wordLimit, wordFits, row, firstEmpty}
 use Rattle.rules.specs.Graph.{Node}
 use Rattle.rules.specs.Build.{Stage, cellsOf, wordsOf, countsOf}
 use Rattle.rules.specs.Faults.{faultless, isFound, endRight, heldIn, faultFrom, cut}
-use Rattle.rules.proofs.Lists.Members.{and-true}
+use Rattle.rules.proofs.Lists.Members.{split, and-true, in-getD}
 use Rattle.rules.proofs.Lists.Lengths.{length-upTo}
 use Rattle.rules.proofs.Fold.Bits.{getD-upTo}
 use Rattle.coded.proofs.InPlace.{default-same}
-use Rattle.coded.proofs.Stages.{passed}
+use Rattle.coded.proofs.Stages.{passed, end-says}
 
 -- ---- no more words than may be written
 
@@ -46,14 +46,24 @@ module _ (words : List ℕ) (c : ℕ) where
   looked-many : length looked ≡ c
   looked-many = length-map (upTo c 0) (λ i. getD words i empty) ∙ length-upTo c 0
 
+  looked-at : (i : ℕ) → i < c → getD looked i empty ≡ getD words i empty
+  looked-at i k =
+      let z : 0 + i ≡ i = omega arith in
+      default-same looked i empty (getD words 0 empty) (omega (arith, looked-many)) ∙ List·getD-map (λ (j : ℕ). getD words j empty) (upTo c 0) i 0 ∙ ap (λ (j : ℕ). getD words j empty) (getD-upTo c 0 i 0 k ∙ z)
+
   looked-front : c ≤ length words → looked ≡ take c words
   looked-front h =
       let l : length (take c words) ≡ c = length-take-le c words h in
       ext-getD empty looked (take c words) (looked-many ∙ sym l)
-      (λ i b.
-      let k : i < c = omega (arith, looked-many) in
-      default-same looked i empty (getD words 0 empty) (omega arith) ∙ List·getD-map (λ (j : ℕ). getD words j empty) (upTo c 0) i 0
-      ∙ ap (λ (j : ℕ). getD words j empty) (getD-upTo c 0 i 0 k ∙ omega arith) ∙ sym (getD-take c words i empty k))
+      (λ i b. let k : i < c = omega (arith, looked-many) in looked-at i k ∙ sym (getD-take c words i empty k))
+
+  -- a word that isn't there is no word
+  looked-there : (limit : ℕ) → limit ≤ empty → ((w : ℕ) → In w looked → w < limit) → c ≤ length words
+  looked-there limit h f = split (leb c (length words)) (λ t. leb-true c (length words) t)
+      (λ t.
+      let k : length words < c = leb-false c (length words) t in
+      let e : getD looked (length words) empty ≡ empty = looked-at (length words) k ∙ List·getD-eq-default words empty (omega arith) in
+      absurd (omega (arith, f (getD looked (length words) empty) (in-getD looked (length words) empty (omega (arith, looked-many))))))
 
 module _ (K : ℕ) where
   -- the cells of n stages are the plan's front
@@ -88,3 +98,15 @@ module _ (K : ℕ) where
   cut-words (suc n) plan words (c ∷ counts) h l =
       ap₂ (λ (xs ys : List ℕ). xs ++ ys) (looked-front words c (omega arith)) (cut-words n (drop (2 ^ (K + 1)) plan) (drop c words) counts (omega arith) (rw length-drop (omega arith)))
       ∙ sym (take-add c (sum (take n counts)) words)
+
+  -- which it has where there is no fault
+  pub words-there : wordLimit K ≤ empty → (g : List Node) (given : List ℕ) (may : ℕ → Bool) (room k n : ℕ) (plan words counts : List ℕ) → n ≤ length counts →
+      faultFrom K g given may room k (cut n K plan words counts) ≡ faultless → sum (take n counts) ≤ length words
+  unfolding cut sum
+  words-there b g given may room k zero plan words counts h e = omega arith
+  words-there b g given may room k (suc n) plan words [] h e = absurd (omega arith)
+  words-there b g given may room k (suc n) plan words (c ∷ counts) h e =
+      let t = passed K g given may room k _ _ e in
+      let l : c ≤ length words = looked-there words c (wordLimit K) b (end-says K room _ (t .0 .end) .words) in
+      let d = words-there b g given _ _ (suc k) n (drop (2 ^ (K + 1)) plan) (drop c words) counts (omega arith) (t .1) in
+      omega (arith, length-drop c words, d)

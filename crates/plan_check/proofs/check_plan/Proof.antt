@@ -6,32 +6,32 @@ use borrow.Author.Needs.{needs}
 use Rattle.plan_check.proofs.check_plan.Statement.{statement}
 use Rattle.plan_check.proofs.check_plan.Tie as tie
 
-sized-requires : tie.Need-sized-requires
-sized-requires c κs = search needs
+plan-fits-requires : tie.Need-plan-fits-requires
+plan-fits-requires c κs = search needs
 
 refusal-requires : tie.Need-refusal-requires
 refusal-requires c κs = search needs
 
 returns : tie.Need-returns
-returns c = answer-refused _ _ _ _ _ _ _ _ _ (c .before .before .before .before .sized .ensures) _ (c .before .before .before .refusal .ensures) (c .before .if1 .taken)
+returns c = answer-refused _ _ _ _ _ _ _ _ _ (c .before .before .before .before .plan-fits .ensures) _ (c .before .before .before .refusal .ensures) (c .before .if1 .taken)
 
 counted-requires : tie.Need-counted-requires
 counted-requires c κs = room-at _ _ _ _ _ _ (c .before .before .refusal .ensures) (c .if1 .left)
 
 plan-place-requires : tie.Need-plan-place-requires
-plan-place-requires c κs = plan-at _ _ _ _ _ [] _ _ _ (c .before .before .before .before .sized .ensures) _ (c .before .before .before .refusal .ensures) (c .before .if1 .left) _ (c .counted .ensures)
+plan-place-requires c κs = plan-at _ _ _ _ _ [] _ _ _ (c .before .before .before .before .plan-fits .ensures) _ (c .before .before .before .refusal .ensures) (c .before .if1 .left) _ (c .counted .ensures)
 
 returns-2 : tie.Need-returns-2
-returns-2 c = answer-fault _ _ _ _ _ _ _ _ _ (c .before .before .before .before .before .before .sized .ensures) _ (c .before .before .before .before .before .refusal .ensures) (c .before .before .before .if1 .left) _ (c .before .plan-place .ensures) (c .if2 .taken) _ refl
+returns-2 c = answer-fault _ _ _ _ _ _ _ _ _ (c .before .before .before .before .before .before .plan-fits .ensures) _ (c .before .before .before .before .before .refusal .ensures) (c .before .before .before .if1 .left) _ (c .before .plan-place .ensures) (c .if2 .taken) _ refl
 
 returns-3 : tie.Need-returns-3
-returns-3 c = answer-none _ _ _ _ _ _ _ _ _ (c .before .before .before .before .before .before .sized .ensures) _ (c .before .before .before .before .before .refusal .ensures) (c .before .before .before .if1 .left) _ (c .before .plan-place .ensures) (c .if2 .left) _ refl
+returns-3 c = answer-none _ _ _ _ _ _ _ _ _ (c .before .before .before .before .before .before .plan-fits .ensures) _ (c .before .before .before .before .before .refusal .ensures) (c .before .before .before .if1 .left) _ (c .before .plan-place .ensures) (c .if2 .left) _ refl
 
 pub check-plan-spec : {M : Type 1} → statement M
 check-plan-spec =
     tie.close
     (tie.spec
-    sized-requires
+    plan-fits-requires
     refusal-requires
     returns
     counted-requires

@@ -43,12 +43,14 @@ use Rattle.replay_form.specs.Calls.{replaySized, slotsSize, bitsSize, outRight}
 use Rattle.replay_form.proofs.Calls as calls
 use Rattle.replay_plan.specs.Runs.{RunIn, circuit}
 use Rattle.replay.specs.Answers.{job, lent, outcome, FinishIn, Finished, BuiltIn}
+use Rattle.replay.proofs.Laws.Finish.{cleared}
 
 high-at : (K : ℕ) → isHeight K ≡ true → 2 ^ K ≤ 8192
 unfolding isHeight
 high-at K e = pow-mono {i = K} {j = 13} (leb-true K 13 (and-true (leb 6 K) (leb K 13) e .1))
 
-free : (K : ℕ) (gates given records : List ℕ) (ss : List rules.Stage) → given ≡ [] → Accepted K gates given records ss → Accepted K gates [] records ss
+-- with no given pin
+pub free : (K : ℕ) (gates given records : List ℕ) (ss : List rules.Stage) → given ≡ [] → Accepted K gates given records ss → Accepted K gates [] records ss
 free K gates given records ss e A = rw e at A
 
 module _ (K : ℕ) (gates given records driven starting : List ℕ) (lines : ℕ) (recording plan words counts work tape slots bits out end : List ℕ)
@@ -318,10 +320,6 @@ module _ (K : ℕ) (gates given records driven starting : List ℕ) (lines : ℕ
         work-is =
             let k : take (n - 0) work1 ≡ replicate (length (take (n - 0) work1)) 0 = rw front (ap (λ (i : ℕ). replicate i 0) (sym (length-replicate {A = ℕ} n 0))) in
             ap (λ (x : List ℕ). x ++ drop (n - 0) work1) (F .work-cleared ∙ sym k) ∙ take-append-drop (n - 0) work1 ∙ work-after
-
-        -- a part of an area that is cleared
-        cleared : (k i : ℕ) (xs ys : List ℕ) → k ≤ length xs → length (take k xs) ≡ i → ys ≡ replicate (length (take k xs)) 0 → ys ++ drop k xs ≡ laidOver (replicate i 0) xs
-        cleared k i xs ys b0 e0 c0 = part-laid k xs ys b0 (ap length c0 ∙ length-replicate {A = ℕ} (length (take k xs)) 0) ∙ ap (λ (y : List ℕ). laidOver y xs) (c0 ∙ ap (λ (j : ℕ). replicate j 0) e0)
 
         tape-is : t ++ drop (z - 0) tape ≡ laidOver (replicate (length plan) 0) tape
         tape-is = cleared (z - 0) (length plan) tape t (omega (arith, plan-length, sizes .tape-room)) tape-length (F .tape-cleared)

@@ -27,7 +27,7 @@ use Rattle.replay_checks.specs.Values.{Checked, Readable}
 use Rattle.replay.specs.Answers.{job, lent, outcome, BuiltIn}
 
 -- with 17 to 20 no pin is shown
-later-pin : (gates given records driven : List ℕ) (starting lines recording out end : ℕ) → pinShown (laterRefusal gates given records driven starting lines recording out end) gates ≡ 0
+pub later-pin : (gates given records driven : List ℕ) (starting lines recording out end : ℕ) → pinShown (laterRefusal gates given records driven starting lines recording out end) gates ≡ 0
 unfolding laterRefusal pinShown
 later-pin gates given records driven starting lines recording out end =
     split (plain given records)

@@ -1,11 +1,17 @@
 -- What follows a build. Assumes nothing.
-use Prim.Native.Nat.{ℕ}
+use Prim.Native.Nat.{ℕ, _≤_}
 use mathlib.Core.Path.{_≡_, refl, _∙_, ap}
 use mathlib.Core.Logic.{_≢_}
-use mathlib.Core.List.{List}
-use lib.ListN.{length, replicate}
+use mathlib.Core.List.{List, _++_}
+use lib.ListN.{length, take, drop, replicate, length-replicate}
+use Rattle.rules.specs.Lists.{laidOver}
+use Rattle.rules.proofs.Lists.Parts.{part-laid}
 use Rattle.replay_plan.specs.Runs.{RunOut}
 use Rattle.replay.specs.Answers.{Finished}
+
+-- a part of an area that is cleared
+pub cleared : (k i : ℕ) (xs ys : List ℕ) → k ≤ length xs → length (take k xs) ≡ i → ys ≡ replicate (length (take k xs)) 0 → ys ++ drop k xs ≡ laidOver (replicate i 0) xs
+cleared k i xs ys b e c = part-laid k xs ys b (ap length c ∙ length-replicate {A = ℕ} (length (take k xs)) 0) ∙ ap (λ (y : List ℕ). laidOver y xs) (c ∙ ap (λ (j : ℕ). replicate j 0) e)
 
 module _ (number : ℕ) (gates records driven starting : List ℕ) (lines : ℕ) (recording work tape slots bits out end : List ℕ) where
   -- a refused build: the lists are cleared
