@@ -391,7 +391,8 @@ uint32_t check_plan(uint32_t height, const uint32_t *gates, size_t gates_len, co
  * height, gates, given, records, driven, start, lines, recording, out, end: as for replay_recording, the height the plan's
  * plan, words, counts, stages: as for check_plan
  * work:    at least placer_replay_plan_work_size(gates_len, records_len) numbers; scratch, 0 afterwards
- * tape, slots, bits: as for replay_recording, at the size of the plan's stages; scratch, 0 afterwards
+ * tape, slots, bits: as for replay_recording, at the size of the plan's stages; scratch, 0 afterwards. That size and twice the pins, pin 0 among them, are
+ *          at most 2^32 together, else the number is 2; no sheet has as many stages
  * answer:  at least PLACER_CHECK_LEN numbers, as of check_plan
  *
  * Returns the number. No refusal changes anything lent but the answer. Where that is too short the number is 2, and nothing is changed. */
