@@ -2,7 +2,8 @@
  * file, which is read back, built in D + 1 rooms, listed, with what each cell does, and folded; and built under the rule that writes idle runs too, with
  * too few counts, and under a number that names no rule. D of a chain of 60 gates, and with a given pin near its end. A merge: the leaf outputs 2 and 4, a
  * partition each, no extra stages. The first example's plan as a sheet, which is read back and listed again, into too few words, cut, and of an unknown
- * number; and its sheet 1, as earlier versions wrote it, with its graph and without. And the AIGER document's half adder, read whole and cut, and written
+ * number; and its sheet 1, as earlier versions wrote it, with its graph and without. The same plan checked, whole, with a cell damaged and with its word not
+ * written, and replayed, with a flip-flop from pin 7 to leaf 4. And the AIGER document's half adder, read whole and cut, and written
  * again, with its two unused variables as inputs. */
 #include "placer.h"
 #include <stdio.h>
@@ -162,6 +163,53 @@ static uint32_t sheet(void) {
     return number;
 }
 
+/* What a plan that was handed in is answered. */
+static uint32_t judged(const char *what, uint32_t number, const size_t *answer) {
+    if (number == PLACER_WRONG_PLAN)
+        printf("%s: refused %u at stage %zu, position %zu: %s\n", what, number, answer[PLACER_CHECK_STAGE], answer[PLACER_CHECK_POSITION], placer_describe(number));
+    else
+        printf("%s: %s\n", what, number == PLACER_DONE ? "accepted" : placer_describe(number));
+    return number;
+}
+
+/* Pin 7 as an output, and as what a flip-flop takes that drives leaf 4: at each clock its bit, the flip-flop's enable and data. */
+static const uint32_t machine[5] = {1, 14, 2, 1, 14};
+
+static uint32_t replaying(const char *what, const uint32_t *plan, const uint32_t *words, const uint32_t *counts) {
+    const uint32_t driven[1] = {4};
+    const uint8_t start[1] = {0}, recording[12] = {1, 1, 1, 1, 1, 1, 0, 1, 1, 1, 1, 1}; /* leaves 1, 2 and 3, four clocks */
+    uint8_t out[12], end[1], bits[8 + 64];
+    uint32_t work[8 + 5], tape[128], slots[128 + 5];
+    size_t answer[PLACER_CHECK_LEN];
+    uint32_t number = replay_plan(6, gates, 16, given, 0, machine, 5, driven, 1, start, 1, 4, recording, 12, out, 12, end, 1, plan, 128, words, 1, counts, 1, 1,
+                                  work, placer_replay_plan_work_size(16, 5), tape, placer_replay_tape_size(128), slots, placer_replay_slots_size(5, 128), bits,
+                                  placer_replay_bits_size(16, 128), answer, PLACER_CHECK_LEN);
+    judged(what, number, answer);
+    if (number == PLACER_DONE)
+        printf("pin 7 at four clocks: %u %u %u %u, and leaf 4 at the end: %u\n", out[0], out[3], out[6], out[9], end[0]);
+    return number;
+}
+
+/* The plan that stands in the sheet, as one that was made elsewhere. */
+static uint32_t checking(void) {
+    uint32_t plan[128], words[2], counts[1], none[1] = {0};
+    size_t read[PLACER_SHEET_LEN], answer[PLACER_CHECK_LEN];
+    uint32_t number = read_sheet(gates, 16, sheet_one, sizeof sheet_one, plan, 128, words, 2, counts, 1, read, PLACER_SHEET_LEN);
+    if (number != PLACER_DONE)
+        return number;
+    number = check_plan(6, gates, 16, given, 0, machine, 5, plan, 128, words, 1, counts, 1, 1, answer, PLACER_CHECK_LEN);
+    if (judged("plan", number, answer) != PLACER_DONE)
+        return number;
+    number = replaying("replay", plan, words, counts);
+    uint32_t unwritten = check_plan(6, gates, 16, given, 0, machine, 5, plan, 128, words, 1, none, 1, 1, answer, PLACER_CHECK_LEN);
+    judged("plan without its word", unwritten, answer);
+    plan[48] = placer_cell_and(6, 0, 0); /* the gate takes leaf 4 inverted */
+    uint32_t damaged = check_plan(6, gates, 16, given, 0, machine, 5, plan, 128, words, 1, counts, 1, 1, answer, PLACER_CHECK_LEN);
+    judged("damaged plan", damaged, answer);
+    replaying("replay of it", plan, words, counts);
+    return number;
+}
+
 /* The chain of examples/split.txt: pins 1 and 2 are leaves, 3 = (2, 4), and each pin p after it (2 * (p - 1), 2). */
 static uint32_t splitting(void) {
     uint32_t chain[126] = {E, E, E, E, E, E, 2, 4}, work[16 * 63 + 8 * 2 + 512];
@@ -216,7 +264,7 @@ int main(void) {
     size_t answer[PLACER_BUILD_LEN];
     uint32_t whole = job(), every = show(PLACER_EVERY_RUN, 1), small = show(PLACER_NEEDED_RUNS, 0), none = first(2, 1, answer), deep = splitting();
     merging();
-    if (sheet() != PLACER_DONE || aiger() != PLACER_DONE)
+    if (sheet() != PLACER_DONE || checking() != PLACER_DONE || aiger() != PLACER_DONE)
         return 1;
     return whole != PLACER_DONE || deep != PLACER_DONE || every != PLACER_DONE || small != PLACER_WRONG_SIZE || none != PLACER_WRONG_SIZE;
 }

@@ -1,4 +1,4 @@
-/* The placer, for C: builds, merges, folds, replays, listings, plan sheets, job files and AIGER files. Link libentries.a, which ffi/library writes (x86-64, Linux).
+/* The placer, for C: builds, merges, folds, replays, plans checked, listings, plan sheets, job files and AIGER files. Link libentries.a, which ffi/library writes (x86-64, Linux).
  *
  * Every call returns, whatever numbers it is handed: it answers, or refuses with a number, and each contract says for all of them what is
  * returned and left. The caller checks nothing beforehand. What the caller owes is the memory:
@@ -10,8 +10,8 @@
  *          reads those that it writes.
  * Stack.   Where the gates are not in order (a gate has an operand above it), a build or a merge takes up to 1 MiB of stack, and so does
  *          placer_depth: the search for a loop has its marks there, since what is lent must stay unchanged. Else a call takes a few
- *          kilobytes; for the same reason reading an AIGER file takes 600 kB more, writing one 70 kB, a replay 330 kB, and reading a plan
- *          sheet 64 kB.
+ *          kilobytes; for the same reason reading an AIGER file takes 600 kB more, writing one 70 kB, a replay 330 kB, reading a plan
+ *          sheet 64 kB, and checking a plan 1 MiB, a replay over one too.
  * Rooms.   A room is the memory of one stage: 2^(height + 1) numbers of the plan and one of counts. A build fills as many as it has stages.
  *          Lend D + 1 rooms, and a refusal is about capacity (6, 7 or 8), never about rooms (9). D is the most gates on a way from an
  *          endpoint down to a leaf or a given pin, and placer_depth tells it. */
@@ -26,7 +26,7 @@ extern "C" {
 #endif
 
 /* The version of this header and of the library that it is for: CHANGELOG.md. */
-#define PLACER_VERSION "0.7.0"
+#define PLACER_VERSION "0.8.0"
 
 /* An empty cell of a plan, an unused word, and each literal of a leaf. */
 #define PLACER_EMPTY 4294967295u
@@ -34,7 +34,7 @@ extern "C" {
 /* What a call returns. 6 to 9 leave plan and words as empty marks, counts and work 0; every other refusal leaves everything lent as it was, but
  * for the answer. The first that applies is given, in the order 1, 2, 3, 23, 4, 5, 10, 6, then for each stage 9, 7, 8; of a job file 11, then 2; of
  * an AIGER file read 12, 13, 2, 3, 23, 4, and of one written 14, then 2; of a plan sheet read 16, 15, 17, and of one written 15, then 17; a replay has
- * 18, 19, 20, 17 between 5 and 6. */
+ * 18, 19, 20, 17 between 5 and 6; a plan checked has 22 after 5, and a replay over a plan has it after 17. */
 enum placer_refusal {
     PLACER_DONE = 0,          /* not refused */
     PLACER_NO_HEIGHT = 1,     /* the height is not 6 to 13 */
@@ -57,6 +57,7 @@ enum placer_refusal {
     PLACER_NOT_PLAIN = 18,    /* a replay has a memory or a given pin */
     PLACER_NOT_DRIVEN = 19,   /* a driven pin is no leaf, or is driven twice */
     PLACER_WRONG_LENGTH = 20, /* driven pins, starting bits or recording have not the length that records and lines state */
+    PLACER_WRONG_PLAN = 22,   /* a plan made elsewhere has a fault; the answer has the place of the first */
     PLACER_LOOP = 23          /* a loop of gates, given or not; the answer shows the smallest pin on any */
 };
 
@@ -84,6 +85,7 @@ static inline const char *placer_describe(uint32_t number) {
     case PLACER_NOT_PLAIN: return "a memory or a given pin, which no recording replays";
     case PLACER_NOT_DRIVEN: return "a driven pin is no leaf, or is driven twice";
     case PLACER_WRONG_LENGTH: return "driven pins, starting bits or recording have another length than stated";
+    case PLACER_WRONG_PLAN: return "the plan has a fault";
     case PLACER_LOOP: return "a loop of gates";
     default: return "no number of the placer";
     }
@@ -155,12 +157,16 @@ enum { PLACER_FOLD_WORK = 65536 };
 /* result of a fold: at least this, a number a position. */
 static inline size_t placer_fold_result_size(size_t plan_len) { return plan_len; }
 
-/* tape, slots and bits of a replay: at least this each, in numbers, numbers and bytes. */
+/* tape, slots and bits of a replay: at least this each, in numbers, numbers and bytes. Of a replay over a plan the plan's length is that of its stages,
+ * placer_plan_size(height, stages). */
 static inline size_t placer_replay_tape_size(size_t plan_len) { return plan_len; }
 
 static inline size_t placer_replay_slots_size(size_t records_len, size_t plan_len) { return placer_sum(plan_len, records_len); }
 
 static inline size_t placer_replay_bits_size(size_t gates_len, size_t plan_len) { return placer_sum(gates_len / 2, plan_len / 2); }
+
+/* work of a replay over a plan: at least this. */
+static inline size_t placer_replay_plan_work_size(size_t gates_len, size_t records_len) { return placer_sum(gates_len / 2, records_len); }
 
 /* The bytes that hold any listing of so many stages and words, and any refusal's line: 17 a position, 11 a word, and what stands around them. */
 static inline size_t placer_listing_size(uint32_t height, size_t stages, size_t words) {
@@ -351,6 +357,51 @@ uint32_t replay_recording(uint32_t height, const uint32_t *gates, size_t gates_l
                           uint8_t *end, size_t end_len, uint32_t *plan, size_t plan_len, uint32_t *words, size_t words_len,
                           uint32_t *counts, size_t counts_len, uint32_t *work, size_t work_len, uint32_t *tape, size_t tape_len,
                           uint32_t *slots, size_t slots_len, uint8_t *bits, size_t bits_len, size_t *answer, size_t answer_len);
+
+/* ---- Plans made elsewhere: checked, and replayed */
+
+/* The answer of a plan checked, and of a replay over one: what is returned; with 22 the stage of the first fault, from 1, and its position; with 23 the
+ * pin. What does not apply is 0. */
+enum placer_check_answer { PLACER_CHECK_NUMBER, PLACER_CHECK_STAGE, PLACER_CHECK_POSITION, PLACER_CHECK_PIN, PLACER_CHECK_LEN };
+
+/* Checks a plan that may be anyone's: one that was loaded from a sheet, a colleague's, one that was changed. It is accepted where
+ * - each filled cell has a pin of the graph, from 1 on, and above level 0 copies its first lower cell, which holds the same pin, or ANDs as the pin's gate
+ *   says: the gate's operands in its lower cells, in order, with the gate's inversions. A leaf or a given pin may only copy;
+ * - level 0 of stage 1 loads leaves and given pins, that of a later stage pins that the stage before holds above level 0;
+ * - position 0 is empty, level 1 keeps an empty cell, and the words of each stage are below placer_words_size(height), no more in all than are left
+ *   beside those that are reserved, which is none where as many or more are reserved;
+ * - the reservation is not over, and each endpoint pin but the constant stands in a written word.
+ * Then each filled cell folds to its pin's value in the graph, for any bits of leaves and given pins, and so reading the written words gives that of each
+ * endpoint. Whatever a build leaves is accepted, by either word rule.
+ * gates, given, records: as for a build
+ * plan, words, counts: as a build leaves them or a sheet is read: the cells stage after stage, the words of all stages, how many each has. The plan is a
+ *          multiple of a stage, and plan and counts have at least so many stages; cells and counts past them are not looked at. The words may have any
+ *          length: one that isn't there is no word
+ * stages:  how many stages the plan has
+ * answer:  at least PLACER_CHECK_LEN numbers
+ *
+ * Returns the number. With 22 the place is that of the first fault, by stage and position; a filled position 0, a full level 1 or a word that is none or too
+ * many stands at its stage's position 0, after that stage's cells, and a reservation that is over or an endpoint that is missing, last of all, at stage 0,
+ * position 0. Nothing lent is changed but the answer. Where that is too short the number is 2, and nothing is changed. */
+uint32_t check_plan(uint32_t height, const uint32_t *gates, size_t gates_len, const uint32_t *given, size_t given_len, const uint32_t *records,
+                    size_t records_len, const uint32_t *plan, size_t plan_len, const uint32_t *words, size_t words_len, const uint32_t *counts,
+                    size_t counts_len, size_t stages, size_t *answer, size_t answer_len);
+
+/* Runs a recording over such a plan, which is checked first: as replay_recording, without a build. At every clock the bits are those of the plain graph.
+ * height, gates, given, records, driven, start, lines, recording, out, end: as for replay_recording, the height the plan's
+ * plan, words, counts, stages: as for check_plan
+ * work:    at least placer_replay_plan_work_size(gates_len, records_len) numbers; scratch, 0 afterwards
+ * tape, slots, bits: as for replay_recording, at the size of the plan's stages; scratch, 0 afterwards. That size and twice the pins, pin 0 among them, are
+ *          at most 2^32 together, else the number is 2; no sheet has as many stages
+ * answer:  at least PLACER_CHECK_LEN numbers, as of check_plan
+ *
+ * Returns the number. No refusal changes anything lent but the answer. Where that is too short the number is 2, and nothing is changed. */
+uint32_t replay_plan(uint32_t height, const uint32_t *gates, size_t gates_len, const uint32_t *given, size_t given_len, const uint32_t *records,
+                     size_t records_len, const uint32_t *driven, size_t driven_len, const uint8_t *start, size_t start_len, size_t lines,
+                     const uint8_t *recording, size_t recording_len, uint8_t *out, size_t out_len, uint8_t *end, size_t end_len,
+                     const uint32_t *plan, size_t plan_len, const uint32_t *words, size_t words_len, const uint32_t *counts, size_t counts_len,
+                     size_t stages, uint32_t *work, size_t work_len, uint32_t *tape, size_t tape_len, uint32_t *slots, size_t slots_len,
+                     uint8_t *bits, size_t bits_len, size_t *answer, size_t answer_len);
 
 /* ---- A listing */
 

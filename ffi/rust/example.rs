@@ -2,13 +2,14 @@
 //! file, which is read back, built in D + 1 rooms, listed, with what each cell does, and folded; and built under the rule that writes idle runs too, and
 //! with too few counts. D of a chain of 60 gates, and with a given pin near its end. A merge: the leaf outputs 2 and 4, a partition each, no extra stages.
 //! The first example's plan as a sheet, which is read back and listed again, into too few words, cut, and of an unknown number; and its sheet 1, as earlier
-//! versions wrote it, with its graph and without. And the AIGER document's half adder, read whole and cut, and written again, with its two unused variables
-//! as inputs.
+//! versions wrote it, with its graph and without. The same plan checked, whole, with a cell damaged and with its word not written, and replayed, with a
+//! flip-flop from pin 7 to leaf 4. And the AIGER document's half adder, read whole and cut, and written again, with its two unused variables as inputs.
 #[allow(dead_code)] // not all of it is shown
 #[path = "placer.rs"]
 mod placer;
 
-use placer::{build, build_by, depth, fold, list_answer, merge, read_aiger, read_job, read_sheet, reserved, write_aiger, write_job, write_sheet, Answer, Areas, Cell, Groups, Refusal, WordRule, EMPTY as E};
+use placer::{build, build_by, check_plan, depth, fold, list_answer, merge, read_aiger, read_job, read_sheet, replay_plan, reserved, write_aiger, write_job, write_sheet};
+use placer::{Answer, Areas, Cell, Checked, Groups, Plan, Recording, Refusal, Run, Tape, WordRule, EMPTY as E};
 
 const GATES: [u32; 16] = [E, E, E, E, E, E, E, E, E, E, 2, 4, 6, 9, 10, 12];
 const RECORDS: [u32; 2] = [1, 14];
@@ -113,6 +114,50 @@ fn sheet() {
     println!("sheet 1 with its graph: {}", if read.number == 0 && plan == whole { "the same cells" } else { "other cells" });
 }
 
+/// What a plan that was handed in is answered.
+fn judged(what: &str, answer: &Checked) {
+    match Refusal::of(answer.number) {
+        None => println!("{what}: accepted"),
+        Some(Refusal::WrongPlan) => println!("{what}: refused 22 at stage {}, position {}: {}", answer.stage, answer.position, Refusal::WrongPlan.describe()),
+        Some(refusal) => println!("{what}: {}", refusal.describe()),
+    }
+}
+
+/// Pin 7 as an output, and as what a flip-flop takes that drives leaf 4: at each clock its bit, the flip-flop's enable and data.
+const MACHINE: [u32; 5] = [1, 14, 2, 1, 14];
+
+fn replaying(what: &str, plan: Plan<'_>) {
+    // leaves 1, 2 and 3, four clocks
+    let recording = Recording { driven: &[4], start: &[0], lines: 4, bits: &[1, 1, 1, 1, 1, 1, 0, 1, 1, 1, 1, 1] };
+    let (mut out, mut end) = ([0; 12], [0; 1]);
+    let size = placer::plan_size(6, plan.stages);
+    let mut work = vec![0; placer::replay_plan_work_size(GATES.len(), MACHINE.len())];
+    let mut tape = vec![0; placer::replay_tape_size(size)];
+    let mut slots = vec![0; placer::replay_slots_size(MACHINE.len(), size)];
+    let mut bits = vec![0; placer::replay_bits_size(GATES.len(), size)];
+    let tape = Tape { tape: &mut tape, slots: &mut slots, bits: &mut bits };
+    let answer = replay_plan(6, &GATES, &[], &MACHINE, recording, Run { out: &mut out, end: &mut end }, plan, &mut work, tape);
+    judged(what, &answer);
+    if answer.number == 0 {
+        println!("pin 7 at four clocks: {} {} {} {}, and leaf 4 at the end: {}", out[0], out[3], out[6], out[9], end[0]);
+    }
+}
+
+/// The plan that stands in the sheet, as one that was made elsewhere.
+fn checking() {
+    let (mut cells, mut words, mut counts) = ([0; 128], [0; 2], [0; 1]);
+    read_sheet(&GATES, &SHEET_ONE, &mut cells, &mut words, &mut counts);
+    let plan = Plan { cells: &cells, words: &words[..1], counts: &counts, stages: 1 };
+    judged("plan", &check_plan(6, &GATES, &[], &MACHINE, plan));
+    replaying("replay", plan);
+    judged("plan without its word", &check_plan(6, &GATES, &[], &MACHINE, Plan { counts: &[0], ..plan }));
+    let mut damaged = cells;
+    damaged[48] = Cell::and(6, false, false).0; // the gate takes leaf 4 inverted
+    let plan = Plan { cells: &damaged, ..plan };
+    judged("damaged plan", &check_plan(6, &GATES, &[], &MACHINE, plan));
+    replaying("replay of it", plan);
+}
+
 /// The chain of examples/split.txt: pins 1 and 2 are leaves, 3 = (2, 4), and each pin p after it (2 * (p - 1), 2).
 fn splitting() {
     let mut chain = vec![E, E, E, E, E, E, 2, 4];
@@ -156,5 +201,6 @@ fn main() {
     splitting();
     merging();
     sheet();
+    checking();
     aiger();
 }

@@ -1,4 +1,4 @@
-//! The placer, for Rust: builds, merges, folds, replays, listings, plan sheets, job files and AIGER files. Link `libentries.a`, which `ffi/library` writes (x86-64, Linux).
+//! The placer, for Rust: builds, merges, folds, replays, plans checked, listings, plan sheets, job files and AIGER files. Link `libentries.a`, which `ffi/library` writes (x86-64, Linux).
 //! No crate beyond `core` is needed. Every function takes any numbers and slices, and answers or refuses; none panics.
 //!
 //! A room is the memory of one stage: `stage_size(height)` numbers of the plan and one of the counts. A build fills as many as it has stages.
@@ -7,12 +7,12 @@
 //!
 //! The library keeps nothing between calls, so threads may call it at once. Where the gates are not in order (a gate has an operand above it) a
 //! build, depth or merge takes up to 1 MiB of its thread's stack, else a few kilobytes; reading an AIGER file takes 600 kB more, writing one 70 kB, a
-//! replay 330 kB, reading a plan sheet 64 kB.
+//! replay 330 kB, reading a plan sheet 64 kB, checking a plan 1 MiB, a replay over one too.
 
 use core::fmt;
 
 /// The version of this file and of the library that it is for: CHANGELOG.md.
-pub const VERSION: &str = "0.7.0";
+pub const VERSION: &str = "0.8.0";
 
 /// An empty cell of a plan, an unused word, and each literal of a leaf.
 pub const EMPTY: u32 = u32::MAX;
@@ -62,6 +62,8 @@ pub enum Refusal {
     NotDriven = 19,
     /// Driven pins, starting bits or recording have not the length that records and lines state.
     WrongLength = 20,
+    /// A plan made elsewhere has a fault; the answer has the place of the first.
+    WrongPlan = 22,
     /// A loop of gates, given or not; the answer shows the smallest pin on any.
     Loop = 23,
 }
@@ -90,6 +92,7 @@ impl Refusal {
             18 => Refusal::NotPlain,
             19 => Refusal::NotDriven,
             20 => Refusal::WrongLength,
+            22 => Refusal::WrongPlan,
             23 => Refusal::Loop,
             _ => return None,
         })
@@ -118,6 +121,7 @@ impl Refusal {
             Refusal::NotPlain => "a memory or a given pin, which no recording replays",
             Refusal::NotDriven => "a driven pin is no leaf, or is driven twice",
             Refusal::WrongLength => "driven pins, starting bits or recording have another length than stated",
+            Refusal::WrongPlan => "the plan has a fault",
             Refusal::Loop => "a loop of gates",
         }
     }
@@ -205,7 +209,7 @@ pub const fn merge_work_size(gates: usize, records: usize, indices: usize, lengt
 /// The least size of a fold's work, a number for each pin that a cell may hold. Its result has at least the plan's, and its bits may have any.
 pub const FOLD_WORK: usize = 65_536;
 
-/// The least size of a replay's tape, by the length of the plan.
+/// The least size of a replay's tape, by the length of the plan; over a plan that is handed in, of its stages.
 pub const fn replay_tape_size(plan: usize) -> usize {
     plan
 }
@@ -218,6 +222,11 @@ pub const fn replay_slots_size(records: usize, plan: usize) -> usize {
 /// The least size of a replay's bits, in bytes, by the lengths of gates and plan.
 pub const fn replay_bits_size(gates: usize, plan: usize) -> usize {
     (gates / 2).saturating_add(plan / 2)
+}
+
+/// The least size of the work of a replay over a plan that is handed in, by the lengths of gates and records.
+pub const fn replay_plan_work_size(gates: usize, records: usize) -> usize {
+    (gates / 2).saturating_add(records)
 }
 
 /// Bytes that hold any listing of so many stages and words, and any refusal's line: 17 a position, 11 a word, and what stands around them.
@@ -349,6 +358,26 @@ pub struct Tape<'a> {
     pub bits: &'a mut [u8],
 }
 
+/// A plan that is handed in: so many stages of cells, the words of all stages, and how many each has. Cells and counts past the stages are not looked at;
+/// the words may have any length, and one that isn't there is no word.
+#[derive(Clone, Copy)]
+pub struct Plan<'a> {
+    pub cells: &'a [u32],
+    pub words: &'a [u32],
+    pub counts: &'a [u32],
+    pub stages: usize,
+}
+
+/// The numbers that checking a plan answers, and a replay over one: 0, or what refuses it; with 22 the first fault's stage, from 1, and its position, both 0
+/// for a reservation that is over or an endpoint that is missing; with 23 the smallest pin on any loop. What does not apply is 0.
+#[derive(Clone, Copy, Debug, PartialEq, Eq)]
+pub struct Checked {
+    pub number: u32,
+    pub stage: usize,
+    pub position: usize,
+    pub pin: usize,
+}
+
 /// The number that a fold answers: 0, or what refuses it, `NoHeight` or `WrongSize`.
 #[derive(Clone, Copy, Debug, PartialEq, Eq)]
 pub struct Folded {
@@ -464,6 +493,42 @@ extern "C" {
         plan: *mut u32, plan_len: usize,
         words: *mut u32, words_len: usize,
         counts: *mut u32, counts_len: usize,
+        work: *mut u32, work_len: usize,
+        tape: *mut u32, tape_len: usize,
+        slots: *mut u32, slots_len: usize,
+        bits: *mut u8, bits_len: usize,
+        answer: *mut usize, answer_len: usize,
+    ) -> u32;
+
+    #[link_name = "check_plan"]
+    fn check_plan_entry(
+        height: u32,
+        gates: *const u32, gates_len: usize,
+        given: *const u32, given_len: usize,
+        records: *const u32, records_len: usize,
+        plan: *const u32, plan_len: usize,
+        words: *const u32, words_len: usize,
+        counts: *const u32, counts_len: usize,
+        stages: usize,
+        answer: *mut usize, answer_len: usize,
+    ) -> u32;
+
+    #[link_name = "replay_plan"]
+    fn replay_plan_entry(
+        height: u32,
+        gates: *const u32, gates_len: usize,
+        given: *const u32, given_len: usize,
+        records: *const u32, records_len: usize,
+        driven: *const u32, driven_len: usize,
+        start: *const u8, start_len: usize,
+        lines: usize,
+        recording: *const u8, recording_len: usize,
+        out: *mut u8, out_len: usize,
+        end: *mut u8, end_len: usize,
+        plan: *const u32, plan_len: usize,
+        words: *const u32, words_len: usize,
+        counts: *const u32, counts_len: usize,
+        stages: usize,
         work: *mut u32, work_len: usize,
         tape: *mut u32, tape_len: usize,
         slots: *mut u32, slots_len: usize,
@@ -690,6 +755,62 @@ pub fn replay(height: u32, gates: &[u32], given: &[u32], records: &[u32], record
         )
     };
     Answer { number, stages: answer[1], words: answer[2], stage: answer[3], pin: answer[4], cells: answer[5] }
+}
+
+/// Checks a plan that may be anyone's: one that was loaded from a sheet, a colleague's, one that was changed. Accepted (0), each filled cell folds to its
+/// pin's value in the graph, for any bits of leaves and given pins, and each endpoint pin but the constant stands in a written word. With `WrongPlan` the
+/// place is that of the first fault by stage and position. Whatever a build leaves is accepted.
+pub fn check_plan(height: u32, gates: &[u32], given: &[u32], records: &[u32], plan: Plan<'_>) -> Checked {
+    let mut answer = [0usize; 4];
+    // SAFETY: as for `build_by`.
+    let number = unsafe {
+        check_plan_entry(
+            height,
+            gates.as_ptr(), gates.len(),
+            given.as_ptr(), given.len(),
+            records.as_ptr(), records.len(),
+            plan.cells.as_ptr(), plan.cells.len(),
+            plan.words.as_ptr(), plan.words.len(),
+            plan.counts.as_ptr(), plan.counts.len(),
+            plan.stages,
+            answer.as_mut_ptr(), answer.len(),
+        )
+    };
+    Checked { number, stage: answer[1], position: answer[2], pin: answer[3] }
+}
+
+/// Runs a recording over such a plan, which is checked first: as `replay`, without a build. The work has `replay_plan_work_size` numbers, 0 afterwards, as
+/// the tape's areas. No refusal changes a slice.
+#[allow(clippy::too_many_arguments)]
+pub fn replay_plan(height: u32, gates: &[u32], given: &[u32], records: &[u32], recording: Recording<'_>, run: Run<'_>, plan: Plan<'_>, work: &mut [u32], tape: Tape<'_>) -> Checked {
+    let mut answer = [0usize; 4];
+    let Run { out, end } = run;
+    let Tape { tape, slots, bits } = tape;
+    // SAFETY: as for `build_by`.
+    let number = unsafe {
+        replay_plan_entry(
+            height,
+            gates.as_ptr(), gates.len(),
+            given.as_ptr(), given.len(),
+            records.as_ptr(), records.len(),
+            recording.driven.as_ptr(), recording.driven.len(),
+            recording.start.as_ptr(), recording.start.len(),
+            recording.lines,
+            recording.bits.as_ptr(), recording.bits.len(),
+            out.as_mut_ptr(), out.len(),
+            end.as_mut_ptr(), end.len(),
+            plan.cells.as_ptr(), plan.cells.len(),
+            plan.words.as_ptr(), plan.words.len(),
+            plan.counts.as_ptr(), plan.counts.len(),
+            plan.stages,
+            work.as_mut_ptr(), work.len(),
+            tape.as_mut_ptr(), tape.len(),
+            slots.as_mut_ptr(), slots.len(),
+            bits.as_mut_ptr(), bits.len(),
+            answer.as_mut_ptr(), answer.len(),
+        )
+    };
+    Checked { number, stage: answer[1], position: answer[2], pin: answer[3] }
 }
 
 /// The text of what a build answered and left, to the front of `out`: the listing of its plan, or a refusal's line. `listing_size` bytes are

@@ -70,7 +70,7 @@ impl<'a> Iterator for Records<'a> {
 }
 
 /// A text has no control characters but tabs and ends of lines, and a job file always has some.
-fn is_text(bytes: &[u8]) -> bool {
+pub fn is_text(bytes: &[u8]) -> bool {
     !bytes.is_empty() && bytes.iter().all(|&byte| matches!(byte, 9 | 10 | 13 | 32..=126 | 128..=255))
 }
 
@@ -140,7 +140,7 @@ pub fn read(path: &Path, memory: usize) -> Done<Read> {
 pub fn accepted(path: &Path, memory: usize) -> Done<Job> {
     match read(path, memory)? {
         Read::Job(job) => Ok(job),
-        Read::Sheet { name, .. } => stopped(name, "a plan sheet has no gates and no records: only plan lists one"),
+        Read::Sheet { name, .. } => stopped(name, "a plan sheet has no gates and no records: plan lists one, and check-plan takes it behind its chip or job"),
         Read::Refused { said, .. } => Err(End::Refused(said)),
     }
 }

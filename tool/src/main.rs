@@ -5,7 +5,9 @@
 
 mod aag;
 mod check;
+mod check_plan;
 mod end;
+mod fault;
 mod files;
 mod job;
 mod memory;
@@ -39,6 +41,7 @@ enum Command {
     Plan(plan::Args),
     Replay(replay::Args),
     Check(check::Args),
+    CheckPlan(check_plan::Args),
     Merge(merge::Args),
 }
 
@@ -50,6 +53,7 @@ fn run(command: &Command) -> Done<()> {
         Command::Plan(args) => plan::run(args),
         Command::Replay(args) => replay::run(args),
         Command::Check(args) => check::run(args),
+        Command::CheckPlan(args) => check_plan::run(args),
         Command::Merge(args) => merge::run(args),
     }
 }

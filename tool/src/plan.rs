@@ -4,7 +4,7 @@ use crate::end::{stopped, Done, End};
 use crate::files::Out;
 use crate::job::{self, Job, Read};
 use crate::memory::{self, lend, Lent, Space};
-use crate::placer::{build, list_answer, listing_size, stage_size, Answer};
+use crate::placer::{build, list_answer, listing_size, stage_size, Answer, Plan};
 use crate::sheet;
 use crate::svg;
 use crate::why;
@@ -52,6 +52,11 @@ impl Built {
         self.lent.plan.chunks_exact(stage_size(self.height)).take(self.answer.stages)
     }
 
+    /// The plan as one that is handed in.
+    pub fn plan(&self) -> Plan<'_> {
+        Plan { cells: &self.lent.plan, words: &self.lent.words, counts: &self.lent.counts, stages: self.answer.stages }
+    }
+
     /// The listing, or the refusal's line.
     pub fn listing(&self) -> Done<Vec<u8>> {
         let Built { height, answer, lent } = self;
@@ -94,7 +99,7 @@ fn one(path: &PathBuf, graph: Option<&Job>, args: &Args, out: &mut Out) -> Done<
             let built = Built::of(&job, &args.space)?;
             (job.name.clone(), Some(job), built)
         }
-        Read::Sheet { name, bytes } => match sheet::read(&name, &bytes, graph, &args.space)? {
+        Read::Sheet { name, bytes } => match sheet::read(&name, &bytes, graph, &args.space, false)? {
             sheet::Read::Plan(built) => (name, None, built),
             sheet::Read::Refused { number, said } => {
                 out.put(refusal_line(number, 0, 0))?;

@@ -1,11 +1,15 @@
-//! A recording replayed, piece by piece: the library builds the plan and runs a piece of it, and its end bits start the next.
+//! A recording replayed, piece by piece: the library builds the plan, or checks one that is handed in, and runs a piece over it, and its end bits start the
+//! next.
 
 use crate::aag::Aag;
 use crate::end::{stopped, words, Done, End};
+use crate::fault;
 use crate::files::{self, Out};
 use crate::job::{self, Form, Job};
 use crate::memory::{self, lend, Lent, Space, Taped};
-use crate::placer::{self, Answer, Recording, Run, EMPTY};
+use crate::placer::{self, plan_size, replay_plan_work_size, Checked, Recording, Run, EMPTY};
+use crate::plan::Built;
+use crate::sheet;
 use crate::vcd::Vcd;
 use crate::why;
 use indicatif::{ProgressBar, ProgressStyle};
@@ -13,7 +17,7 @@ use std::io::{BufRead, BufReader, Read};
 use std::path::{Path, PathBuf};
 use std::time::{Duration, Instant};
 
-/// Replay a recording through the plan of an AIGER file
+/// Replay a recording through the plan of an AIGER file, or through one that a plan sheet has
 #[derive(clap::Args)]
 pub struct Args {
     /// An AIGER file (aag); - is standard input
@@ -22,6 +26,9 @@ pub struct Args {
     recording: PathBuf,
     #[command(flatten)]
     space: Space,
+    /// Replay over the plan of this plan sheet, whoever made it, at its height; it is checked first
+    #[arg(long, value_name = "SHEET")]
+    plan: Option<PathBuf>,
     /// The latches' bits at the beginning, in the file's order [default: 0 each]
     #[arg(long, value_name = "BITS", value_parser = bits)]
     start: Option<Bits>,
@@ -198,16 +205,69 @@ impl Progress {
     }
 }
 
-fn refused(job: &Job, aag: &Aag, height: u32, answer: &Answer, lent: &Lent, start: &[u8]) -> End {
-    if answer.number == 20 && start.len() != aag.latches.len() {
-        return End::Refused(format!("{}: refused with 20: --start has {} bits; there are {} latches", job.name, start.len(), aag.latches.len()));
+/// What a recording runs over: a plan that each call builds, or one that a sheet has.
+enum Over {
+    Built { height: u32, lent: Lent },
+    Sheet { name: String, built: Built, work: Vec<u32> },
+}
+
+/// A chip, what it runs over, and the areas for that.
+struct Runner<'a> {
+    job: &'a Job,
+    aag: &'a Aag,
+    over: Over,
+    taped: Taped,
+}
+
+impl<'a> Runner<'a> {
+    fn of(job: &'a Job, aag: &'a Aag, args: &Args) -> Done<Runner<'a>> {
+        let (over, size) = match &args.plan {
+            None => {
+                let height = args.space.height.unwrap_or(13);
+                let lent = lend(&job.name, &args.space, height, job.graph(), 0, true)?;
+                let size = lent.plan.len();
+                (Over::Built { height, lent }, size)
+            }
+            Some(path) => {
+                let (name, built) = match sheet::load(path, job, &args.space, true)? {
+                    (name, sheet::Read::Plan(built)) => (name, built),
+                    (_, sheet::Read::Refused { said, .. }) => return Err(End::Refused(said)),
+                };
+                let work = memory::area(0, replay_plan_work_size(job.gates.len(), job.records.len()))?;
+                let size = plan_size(built.height, built.answer.stages);
+                (Over::Sheet { name, built, work }, size)
+            }
+        };
+        Ok(Runner { job, aag, over, taped: Taped::of(job.graph(), size)? })
     }
-    End::Refused(why::lists(job, height, answer.number, answer.stage, answer.pin, lent.rooms))
+
+    fn run(&mut self, recording: Recording<'_>, run: Run<'_>) -> Checked {
+        let Job { gates, given, records, .. } = self.job;
+        match &mut self.over {
+            Over::Built { height, lent } => {
+                let answer = placer::replay(*height, gates, given, records, recording, run, lent.areas(), self.taped.areas());
+                Checked { number: answer.number, stage: answer.stage, position: 0, pin: answer.pin }
+            }
+            Over::Sheet { built, work, .. } => placer::replay_plan(built.height, gates, given, records, recording, run, built.plan(), work, self.taped.areas()),
+        }
+    }
+
+    fn refused(&self, answer: &Checked, start: &[u8]) -> End {
+        let Checked { number, stage, position, pin } = *answer;
+        let (name, latches) = (&self.job.name, self.aag.latches.len());
+        let said = match &self.over {
+            _ if number == 20 && start.len() != latches => Ok(format!("{name}: refused with 20: --start has {} bits; there are {latches} latches", start.len())),
+            Over::Built { height, lent } => Ok(why::lists(self.job, *height, number, stage, pin, lent.rooms)),
+            Over::Sheet { name, built, .. } if number == 22 => fault::said(name, self.job, built, stage, position),
+            Over::Sheet { built, .. } => Ok(why::lists(self.job, built.height, number, 0, pin, built.lent.rooms)),
+        };
+        said.map_or_else(|end| end, End::Refused)
+    }
 }
 
 /// Memory for the bits of one piece, in bytes.
 const PIECE: usize = 16 << 20;
-/// A piece that takes less time is followed by a longer one: each builds the plan again.
+/// A piece that takes less time is followed by a longer one: each builds or checks the plan again.
 const SHORT: Duration = Duration::from_millis(400);
 const FIRST: usize = 1024;
 
@@ -250,15 +310,18 @@ fn top(path: &Path) -> String {
 }
 
 pub fn run(args: &Args) -> Done<()> {
-    if args.file.as_os_str() == "-" && args.recording.as_os_str() == "-" {
+    let standard = |path: &Path| path.as_os_str() == "-";
+    if standard(&args.file) && standard(&args.recording) {
         return Err(End::Stopped("placer: file and recording can't both be standard input".to_string()));
+    }
+    if args.plan.as_deref().map_or(false, standard) && (standard(&args.file) || standard(&args.recording)) {
+        return Err(End::Stopped("placer: a plan sheet and another file can't both be standard input".to_string()));
     }
     let job = job::accepted(&args.file, args.space.memory)?;
     let aag = match &job.form {
         Form::Aiger(aag) => aag,
         _ => return stopped(&job.name, "a job says not what its flip-flops drive: replay takes AIGER files"),
     };
-    let height = args.space.height.unwrap_or(13);
     let (recording, length) = files::open(&args.recording)?;
     let layout = layout(&job, aag)?;
     let mut text = Vec::new();
@@ -270,8 +333,7 @@ pub fn run(args: &Args) -> Done<()> {
         None => memory::area(0, aag.latches.len())?,
     };
 
-    let mut lent = lend(&job.name, &args.space, height, job.graph(), 0, true)?;
-    let mut taped = Taped::of(job.graph(), lent.plan.len())?;
+    let mut runner = Runner::of(&job, aag, args)?;
     let a_clock = layout.leaves.saturating_add(layout.handed).max(1);
     let most = (PIECE / a_clock).max(1).min(args.piece.map_or(usize::MAX, |piece| usize::try_from(piece).unwrap_or(usize::MAX)));
     let mut piece = FIRST.min(most);
@@ -315,10 +377,10 @@ pub fn run(args: &Args) -> Done<()> {
         let from = Instant::now();
         let recording = Recording { driven: &aag.latches, start: &start, lines: count, bits: &given[..count * layout.leaves] };
         let run = Run { out: &mut out, end: &mut end };
-        let answer = placer::replay(height, &job.gates, &job.given, &job.records, recording, run, lent.areas(), taped.areas());
+        let answer = runner.run(recording, run);
         if answer.number != 0 {
             progress.end();
-            return Err(refused(&job, aag, height, &answer, &lent, &start));
+            return Err(runner.refused(&answer, &start));
         }
         let took = from.elapsed();
         if first {
@@ -347,8 +409,8 @@ pub fn run(args: &Args) -> Done<()> {
             out.resize(layout.handed, 0);
             let recording = Recording { driven: &aag.latches, start: &start, lines: 1, bits };
             let run = Run { out: &mut out, end: &mut end };
-            let answer = placer::replay(height, &job.gates, &job.given, &job.records, recording, run, lent.areas(), taped.areas());
-            break Err(if answer.number == 20 { lines.odd(has, layout.places.len()) } else { refused(&job, aag, height, &answer, &lent, &start) });
+            let answer = runner.run(recording, run);
+            break Err(if answer.number == 20 { lines.odd(has, layout.places.len()) } else { runner.refused(&answer, &start) });
         }
         if took < SHORT {
             piece = piece.saturating_mul(4).min(most);
