@@ -131,7 +131,7 @@ module _ (W : Work) where
       let f : Few (sweepBack X h cs b pl) = sweep-few l high cs b pl G in
       let ns2 : List ℕ = noteIn h (sweepBack X h cs b pl) ns in
       let top : noteAt h (leanNotes X (suc l) (sweep X h cs b pl .most) (sweep X h cs b pl .plan) ns2) ≡ sweepBack X h cs b pl
-          = note-same h ns2 _ (λ a c. lean-above (suc l) (omega arith) (sweep X h cs b pl .most) (sweep X h cs b pl .plan) ns2 (s .fair) (s .enough) h a (omega arith) c) ∙ note-own h ns f len (B .none h (omega arith)) in
+      = note-same h ns2 _ (λ a c. lean-above (suc l) (omega arith) (sweep X h cs b pl .most) (sweep X h cs b pl .plan) ns2 (s .fair) (s .enough) h a (omega arith) c) ∙ note-own h ns f len (B .none h (omega arith)) in
       let k = lean-read (suc l) (omega arith) (sweep X h cs b pl .most) (sweep X h cs b pl .plan) ns2 (s .fair) (s .enough) (omega (arith, note-length h (sweepBack X h cs b pl) ns)) (record { none = λ i c. note-other h i 3 ns f (λ e. omega arith) (omega arith) ∙ B .none i (omega arith) }) in
       rw (top, k) refl
 
