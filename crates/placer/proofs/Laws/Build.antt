@@ -14,6 +14,7 @@ use Rattle.rules.specs.Graph.{graphOf, pinCount}
 use Rattle.rules.specs.Records.{Group, groupsOf, waitingOf}
 use Rattle.rules.specs.Reservation.{reserved, reservable}
 use Rattle.rules.specs.Checks.{workSize}
+use Rattle.rules.specs.States.{afterFrom}
 use Rattle.rules.specs.Build as rules
 use Rattle.rules.proofs.Lists.Members.{split, and-true}
 use Rattle.cells.specs.Answers.{orZero}
@@ -128,11 +129,12 @@ module _ {K : ℕ} {sized : Bool} {gates given records : List ℕ} (P : Passed K
       counts-blank = A .counts ∙ ap (λ (i : ℕ). replicate i 0) (A .counts-size) ∙ sym (padded-none (rooms K (length pl)) 0)
 
       first : Underway course m 0 0 n pl ws cs v
-      unfolding rules.cellsOf rules.wordsOf rules.countsOf
+      unfolding rules.cellsOf rules.wordsOf rules.countsOf afterFrom
       first = record {
         ss = [];
         done = given;
         waiting = waitingOf gs [];
+        reached = let e : wordLimit K - reserved gs - 0 ≡ wordLimit K - reserved gs = omega arith in rw e refl;
         same = same;
         ready = first-ready P F;
         count = refl;
