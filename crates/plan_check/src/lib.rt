@@ -1,7 +1,7 @@
 // Checks a plan made elsewhere against its graph: the first fault by stage and position. It takes any numbers and slices, and changes none:
 // marks stand in arrays of its own.
 mod ends;
-mod room;
+pub mod room;
 mod stages;
 
 use cells::Height;

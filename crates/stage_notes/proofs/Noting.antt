@@ -42,19 +42,20 @@ pub notes-same : (m : ℕ) (w w′ : List ℕ) → ((j : ℕ) → 260 ≤ j → 
 notes-same m w w′ h = notes-are m w′ (notes m w) (notes-length m w) (λ j k. h (260 + j) (omega arith) (omega arith) ∙ sym (notes-at m w j k))
 
 -- a store to a note
-notes-set : (m : ℕ) (w : List ℕ) (j a v : ℕ) → j < 56 → a ≡ 260 + j → 16 * m + 512 ≤ length w → notes m (set w (16 * m + a) v) ≡ set (notes m w) j v
+pub notes-set : (m : ℕ) (w : List ℕ) (j a v : ℕ) → j < 56 → a ≡ 260 + j → 16 * m + 512 ≤ length w → notes m (set w (16 * m + a) v) ≡ set (notes m w) j v
 notes-set m w j a v h q r = notes-are m _ _ (length-set (notes m w) j v ∙ notes-length m w) (λ i k. cell i k (ℕ-discrete i j))
   where
     cell : (i : ℕ) → i < 56 → Dec (i ≡ j) → getD (set w (16 * m + a) v) (16 * m + (260 + i)) 0 ≡ getD (set (notes m w) j v) i 0
     cell i k (yes e) = rw (e, q, getD-set-same w (16 * m + (260 + j)) v 0 (omega arith), getD-set-same (notes m w) j v 0 (omega (arith, notes-length m w)))
     cell i k (no ne) = rw (getD-set-other w (16 * m + a) (16 * m + (260 + i)) v 0 (λ e. ne (omega arith)), getD-set-other (notes m w) j i v 0 ne, notes-at m w i k)
 
--- one store, as far as it is seen outside the notes
-record One (m j : ℕ) (w w′ : List ℕ) : Type 0 where
-  frame : Frame (TAIL ∷ []) m w w′
-  rest : (i : ℕ) → i ≢ j → getD w′ (16 * m + i) 0 ≡ getD w (16 * m + i) 0
+-- one store to the tail, as far as it is seen elsewhere
+pub record One (m j : ℕ) (w w′ : List ℕ) : Type 0 where
+  pub frame : Frame (TAIL ∷ []) m w w′
+  pub rest : (i : ℕ) → i ≢ j → getD w′ (16 * m + i) 0 ≡ getD w (16 * m + i) 0
 
-one : (m j v : ℕ) (w : List ℕ) → One m j w (set w (16 * m + j) v)
+-- a store to the tail is such
+pub one : (m j v : ℕ) (w : List ℕ) → One m j w (set w (16 * m + j) v)
 one m j v w = record { frame = frame-set-tail j v refl; rest = λ i n. getD-set-other w (16 * m + j) (16 * m + i) v 0 (λ e. n (omega arith)) }
 
 module _ {m h c : ℕ} {w : List ℕ} (A : NoteAt m h c w) (p : ℕ) where

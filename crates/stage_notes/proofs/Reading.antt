@@ -39,18 +39,19 @@ note-other h i a ns (one {t = t} k) n b =
     let n3 : List ℕ = set n2 (4 * h + 2) (t .ones) in
     getD-set-other n3 (4 * h + 3) (4 * i + a) (t .pins) 0 (λ e. n (omega arith)) ∙ getD-set-other n2 (4 * h + 2) (4 * i + a) (t .ones) 0 (λ e. n (omega arith)) ∙ getD-set-other n1 (4 * h + 1) (4 * i + a) (t .needed) 0 (λ e. n (omega arith)) ∙ getD-set-other ns (4 * h) (4 * i + a) (t .pin) 0 (λ e. n (omega arith))
 
-note-some : (h : ℕ) (ns : List ℕ) {p n o : ℕ} (d : ℕ) → 0 < d → getD ns (4 * h) 0 ≡ p → getD ns (4 * h + 1) 0 ≡ n → getD ns (4 * h + 2) 0 ≡ o → getD ns (4 * h + 3) 0 ≡ d → noteAt h ns ≡ record { pin = p; needed = n; ones = o; pins = d } ∷ []
+-- a level with a note
+pub note-some : (h : ℕ) (ns : List ℕ) {p n o : ℕ} (d : ℕ) → 0 < d → getD ns (4 * h) 0 ≡ p → getD ns (4 * h + 1) 0 ≡ n → getD ns (4 * h + 2) 0 ≡ o → getD ns (4 * h + 3) 0 ≡ d → noteAt h ns ≡ record { pin = p; needed = n; ones = o; pins = d } ∷ []
 unfolding noteAt noteOf
 note-some h ns zero k e0 e1 e2 e3 = absurd (omega arith)
 note-some h ns (suc d) k e0 e1 e2 e3 = rw (e3, e0, e1, e2)
 
 -- where a level's four numbers are the same, so is its note
-note-same : (h : ℕ) (ns ns′ : List ℕ) → ((a : ℕ) → a < 4 → getD ns′ (4 * h + a) 0 ≡ getD ns (4 * h + a) 0) → noteAt h ns′ ≡ noteAt h ns
+pub note-same : (h : ℕ) (ns ns′ : List ℕ) → ((a : ℕ) → a < 4 → getD ns′ (4 * h + a) 0 ≡ getD ns (4 * h + a) 0) → noteAt h ns′ ≡ noteAt h ns
 unfolding noteAt
 note-same h ns ns′ e = let z : 4 * h + 0 ≡ 4 * h = omega arith in let e0 : getD ns′ (4 * h) 0 ≡ getD ns (4 * h) 0 = rw z at (e 0 (omega arith)) in rw (e0, e 1 (omega arith), e 2 (omega arith), e 3 (omega arith))
 
 -- a level without a note
-note-none : (h : ℕ) (ns : List ℕ) → getD ns (4 * h + 3) 0 ≡ 0 → noteAt h ns ≡ []
+pub note-none : (h : ℕ) (ns : List ℕ) → getD ns (4 * h + 3) 0 ≡ 0 → noteAt h ns ≡ []
 unfolding noteAt noteOf
 note-none h ns e = rw e
 
@@ -80,7 +81,7 @@ pub bare-none : (h : ℕ) (ns : List ℕ) → Bare h ns → notesDown h ns ≡ [
 unfolding notesDown
 bare-none zero ns b = refl
 bare-none (suc zero) ns b = refl
-bare-none (suc (suc l)) ns b = rw (note-none (suc (suc l)) ns (b .none (suc (suc l)) (omega arith))) (bare-none (suc l) ns (record { none = λ i k. b .none i (omega arith) }))
+bare-none (suc (suc l)) ns b = rw (note-none (suc (suc l)) ns (b .none (suc (suc l)) (omega arith) (omega arith))) (bare-none (suc l) ns (record { none = λ i a k. b .none i a (omega arith) }))
 
 module _ (W : Work) where
   abbrev X : Setting
@@ -131,8 +132,8 @@ module _ (W : Work) where
       let f : Few (sweepBack X h cs b pl) = sweep-few l high cs b pl G in
       let ns2 : List ℕ = noteIn h (sweepBack X h cs b pl) ns in
       let top : noteAt h (leanNotes X (suc l) (sweep X h cs b pl .most) (sweep X h cs b pl .plan) ns2) ≡ sweepBack X h cs b pl
-      = note-same h ns2 _ (λ a c. lean-above (suc l) (omega arith) (sweep X h cs b pl .most) (sweep X h cs b pl .plan) ns2 (s .fair) (s .enough) h a (omega arith) c) ∙ note-own h ns f len (B .none h (omega arith)) in
-      let k = lean-read (suc l) (omega arith) (sweep X h cs b pl .most) (sweep X h cs b pl .plan) ns2 (s .fair) (s .enough) (omega (arith, note-length h (sweepBack X h cs b pl) ns)) (record { none = λ i c. note-other h i 3 ns f (λ e. omega arith) (omega arith) ∙ B .none i (omega arith) }) in
+      = note-same h ns2 _ (λ a c. lean-above (suc l) (omega arith) (sweep X h cs b pl .most) (sweep X h cs b pl .plan) ns2 (s .fair) (s .enough) h a (omega arith) c) ∙ note-own h ns f len (B .none h (omega arith) (omega arith)) in
+      let k = lean-read (suc l) (omega arith) (sweep X h cs b pl .most) (sweep X h cs b pl .plan) ns2 (s .fair) (s .enough) (omega (arith, note-length h (sweepBack X h cs b pl) ns)) (record { none = λ i a c. note-other h i 3 ns f (λ e. omega arith) (omega arith) ∙ B .none i a (omega arith) }) in
       rw (top, k) refl
 
   -- levels above h are bare
@@ -156,13 +157,13 @@ module _ (W : Work) where
   stage-read ns t high low len B =
       let F : Fair X top (blank X) = fair-first W top in
       let b : ℕ = length (wanted X (blank X)) in
-      let r : notesDown top (leanNotes X top b (blank X) ns) ≡ leanBack X top b (blank X) = lean-read top (omega arith) b (blank X) ns F (omega arith) (omega arith) (record { none = λ i k. B .none i (omega arith) }) in
+      let r : notesDown top (leanNotes X top b (blank X) ns) ≡ leanBack X top b (blank X) = lean-read top (omega arith) b (blank X) ns F (omega arith) (omega arith) (record { none = λ i a k. B .none i a (omega arith) }) in
       split (leb 1 top)
       (λ c.
       let l : 1 ≤ top = leb-true 1 top c in
       let z : t ≡ (t - top) + top = omega arith in
       subst (λ (x : ℕ). notesDown x (leanNotes X top b (blank X) ns) ≡ leanBack X top b (blank X)) (sym z)
-      (down-more (t - top) top (leanNotes X top b (blank X) ns) (λ i a d. lean-above top (omega arith) b (blank X) ns F (omega arith) i 3 a (omega arith) ∙ B .none i (omega arith)) l ∙ r))
+      (down-more (t - top) top (leanNotes X top b (blank X) ns) (λ i a d. lean-above top (omega arith) b (blank X) ns F (omega arith) i 3 a (omega arith) ∙ B .none i (omega arith) (omega arith)) l ∙ r))
       (λ c.
       let l : top < 1 = leb-false 1 top c in
-      ap (notesDown t) (notes-low X top b (blank X) ns (omega arith)) ∙ bare-none t ns B ∙ sym (bare-none top ns (record { none = λ i k. B .none i (omega arith) })) ∙ ap (notesDown top) (sym (notes-low X top b (blank X) ns (omega arith))) ∙ r)
+      ap (notesDown t) (notes-low X top b (blank X) ns (omega arith)) ∙ bare-none t ns B ∙ sym (bare-none top ns (record { none = λ i a k. B .none i a (omega arith) })) ∙ ap (notesDown top) (sym (notes-low X top b (blank X) ns (omega arith))) ∙ r)

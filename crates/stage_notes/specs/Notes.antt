@@ -95,9 +95,9 @@ notesDown zero ns = []
 notesDown (suc zero) ns = []
 notesDown (suc (suc l)) ns = noteAt (suc (suc l)) ns ++ notesDown (suc l) ns
 
--- no level up to h has a note
+-- no level from 2 to h has a note
 pub record Bare (h : ℕ) (ns : List ℕ) : Type 0 where
-  pub none : (i : ℕ) → i ≤ h → getD ns (4 * i + 3) 0 ≡ 0
+  pub none : (i : ℕ) → 2 ≤ i → i ≤ h → getD ns (4 * i + 3) 0 ≡ 0
 
 -- ---- one note in the work area
 
