@@ -108,7 +108,7 @@ same-or i j = go (ℕ-discrete i j)
 module _ {m stage n : ℕ} {w list : List ℕ} where
   -- at the start
   pub copying-none : Copying m stage n w list 13 n w list
-  copying-none = record { count = refl; lines = refl; above = λ i a b. absurd (omega arith); kept = kept-none m w; high = omega arith; few = omega arith }
+  copying-none = record { count = refl; lines = refl; above = λ i a b. absurd (omega arith); kept = kept-none m w; low = omega arith; high = omega arith; few = omega arith }
 
   module _ {h r : ℕ} {w′ list′ : List ℕ} (G : Copying m stage n w list h r w′ list′) where
     -- the next level may be copied
@@ -127,6 +127,7 @@ module _ {m stage n : ℕ} {w list : List ℕ} where
               ∙ lines-more r (backLines stage (noteAt h ns)) (backLines stage (notesDown (h - 1) ns)) list′ ∙ rw (back-length stage (noteAt h ns), ← C .count, ← C .lines, d) refl;
           above = λ i a b. ap (λ (xs : List ℕ). getD xs (4 * i + 3) 0) (C .cleared) ∙ cleared i a b;
           kept = kept-then (G .kept) (C .kept);
+          low = omega arith;
           high = omega (arith, G .high);
           few = omega (arith, C .count, note-few h ns, G .few);
         }
@@ -146,6 +147,7 @@ module _ {m stage n : ℕ} {w list : List ℕ} where
           count = sym (G .count ∙ rw z (omega arith));
           lines = sym (G .lines ∙ rw z refl);
           bare = record { none = λ i a b. G .above i (omega arith) b };
+          few = omega (arith, G .few, G .low);
           kept = G .kept;
         }
       where

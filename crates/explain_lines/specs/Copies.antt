@@ -37,6 +37,7 @@ pub record AllCopied (m stage n : ℕ) (w list : List ℕ) (r : ℕ) (w′ list�
   pub count : r ≡ n + length (notesDown 13 (notes m w))
   pub lines : list′ ≡ putLines n (backLines stage (notesDown 13 (notes m w))) list
   pub bare : Bare 13 (notes m w′)
+  pub few : r ≤ n + 12
   pub kept : Kept m w w′
 
 -- where the loop over the levels stands: those above h are done
@@ -45,5 +46,6 @@ pub record Copying (m stage n : ℕ) (w list : List ℕ) (h r : ℕ) (w′ list�
   pub lines : putLines n (backLines stage (notesDown 13 (notes m w))) list ≡ putLines r (backLines stage (notesDown h (notes m w′))) list′
   pub above : (i : ℕ) → h < i → i ≤ 13 → getD (notes m w′) (4 * i + 3) 0 ≡ 0
   pub kept : Kept m w w′
+  pub low : 1 ≤ h
   pub high : h ≤ 13
   pub few : r + h ≤ n + 13

@@ -107,6 +107,8 @@ pub record StageTold (X : Setting) (m room : ℕ) (w : List ℕ) (number written
   pub seven : number ≡ 7 → written ≡ length (ending.written X (filledPlan X) .words)
   pub ones : number ≡ 8 → cells ≡ onesThen X (filledPlan X)
   pub needs : number ≡ 8 → n ≡ needsLeft X (filledPlan X)
+  pub few : 0 < number → written ≤ 128
+  pub small : 0 < number → cells + n ≤ 131072
 
 pub record One (C : Course) (m k at : ℕ) (pl ws cs w : List ℕ) (number written cells n : ℕ) (pl′ ws′ cs′ w′ : List ℕ) : Type 0 where
   pub kept : Kept pl ws cs w pl′ ws′ cs′ w′

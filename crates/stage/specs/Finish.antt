@@ -71,6 +71,8 @@ pub record Refuses (X : Setting) (pl : List ℕ) (s : Stage?) (e : Outcome) : Ty
   pub seven : e .number ≡ 7 → e .words ≡ length (written X pl .words)
   pub ones : e .number ≡ 8 → e .cells ≡ onesThen X pl
   pub needs : e .number ≡ 8 → e .waiting ≡ needsLeft X pl
+  pub few : e .words ≤ 128
+  pub small : e .cells + e .waiting ≤ 131072
 
 -- the stage of rules 2 to 7's plan pl₀, and what the walks wrote at its pins is gone; or what refuses it
 pub record Finished (C : Context) (m at room : ℕ) (pl₀ pl w words : List ℕ) (e : Outcome) (pl′ w′ words′ : List ℕ) : Type 0 where
@@ -112,6 +114,7 @@ pub record RestingAt (C : Context) (pl : List ℕ) (m K half o n q many at room 
   pub pins : (x : ℕ) → In x (neededOf (C .X) pl) → In x (C .X .seen) × (levelAt (C .X) x ≤ 1)
   pub crowded : many ≡ crowd (C .X) pl
   pub long : 2 ^ (C .X .K) ≤ length pl
+  pub few : many ≤ 131072
 
 -- before rule 10: test 8 is passed
 pub record LastingAt (C : Context) (pl : List ℕ) (m K half o n at room : ℕ) (s : Spent) (pl′ w words : List ℕ) : Type 0 where

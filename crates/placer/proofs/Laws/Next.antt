@@ -160,7 +160,7 @@ module _ {C : Course} {m K half : ℕ} {asked : Asked} {k n at room : ℕ} {gate
           let b : U .waiting ≡ waiting = cc in
           let c : C .room - at ≡ left = cc in
           let r : room ≡ left = A .left ∙ c in
-          rw (← a, ← b, ← r) (record { noted = S .told; refused = λ z. S .refuses z .is; seven = λ z. S .refuses (omega arith) .seven z; ones = λ z. S .refuses (omega arith) .ones z; needs = λ z. S .refuses (omega arith) .needs z })
+          rw (← a, ← b, ← r) (record { noted = S .told; refused = λ z. S .refuses z .is; seven = λ z. S .refuses (omega arith) .seven z; ones = λ z. S .refuses (omega arith) .ones z; needs = λ z. S .refuses (omega arith) .needs z; few = λ z. S .refuses z .few; small = λ z. S .refuses z .small })
 
       one-refused : 0 < s .number → One C m k at pl ws cs w (s .number) (s .words) (s .cells) (s .waiting) (laidAt a ys pl) ws′ cs w′
       unfolding built context setting

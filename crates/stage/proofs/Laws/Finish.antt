@@ -6,10 +6,11 @@ use mathlib.Core.List.{List, []}
 use Prim.Native.Nat.{ℕ, _+_, _-_, _*_, _<_, _≤_}
 use native.Mathlib.Omega.{arith}
 use lib.Dec.{ltb}
+use lib.Pow.{pow-mono}
 use lib.ListN.{length, getD, take, length-take}
 use lib.Seq.{take-all}
 use Rattle.stage_walk.proofs.Contexts.{work, low-mark}
-use Rattle.rules.specs.Cells.{isHeight, levelOneSize}
+use Rattle.rules.specs.Cells.{isHeight, levelOneSize, filled, row, rowAt}
 use Rattle.rules.specs.Placing.{neededOf}
 use Rattle.rules.specs.Ending.{putRest, written, rest, finish}
 use Rattle.rules.specs.Capacity.{crowd, onesThen, needsLeft}
@@ -19,6 +20,7 @@ use Rattle.rules.proofs.Needed.Lacks.{same-needed, wanted-low, true-ltb, false-
 use Rattle.rules.proofs.Stage.Branches.{finish-seven, finish-full, finish-none}
 use Rattle.rules.proofs.Stage.Staged.{half-height, two-step}
 use Rattle.rules.proofs.Stage.Crowd.{left-crowd}
+use Rattle.rules.proofs.Stage.Fuel.{count-length}
 use Rattle.columns.specs.Fields.{NEEDED, ONES}
 use Rattle.columns.specs.Lists.{list}
 use Rattle.columns.proofs.Area.Frames.{frame-none, frame-then, frame-more, frame-room}
@@ -103,6 +105,8 @@ module _ {C : Context} {pl : List ℕ} {m K half o n q many at room : ℕ} {s : 
           seven = λ z. absurd (omega arith);
           ones = λ z. ones-then d;
           needs = λ z. omega (arith, ones-then d, left-then, A .crowded);
+          few = omega arith;
+          small = omega (arith, A .few, ones-within d);
         };
         whole = λ h. absurd (omega arith);
         gone = λ h. absurd (omega arith);
@@ -155,6 +159,11 @@ module _ {C : Context} {m K half o n q : ℕ} {asked : Asked} {at room : ℕ} {g
   pub end-at : EndAt C m K half n asked at room gates pl w words
   end-at = record { stands = A .stands; begun = A .set .begun; height = A .height; row = A .row; ruled = A .ruled; marks = A .marks .zero; spare = A .spare .zero; fits = A .fits }
 
+  -- level 1 has at most 4,096 cells
+  row-few : length (row (C .X .K) 1 pl) ≤ 4096
+  unfolding row rowAt
+  row-few = simp length-take (omega (arith, pow-mono {i = C .X .K - 1} {j = 12} (omega (arith, C .high))))
+
   low-needed : (x : ℕ) → In x (neededOf (C .X) pl) → In x (C .X .seen) × (levelAt (C .X) x ≤ 1)
   low-needed x i = (need-listed (C .X) (C .r) (length (C .X .g)) (C .S) pl x i, wanted-low (C .X) pl x (rw (same-needed (work C) (A .stands .fair)) at i))
 
@@ -186,7 +195,7 @@ module _ {C : Context} {m K half o n q : ℕ} {asked : Asked} {at room : ℕ} {g
     pub finished-seven : room < s .words → Finished C m at room pl pl w words (record { number = 7; words = s .words; waiting = 0; cells = 0 }) pl1 w1 words1
     finished-seven h = record {
       changed = running;
-      refuses = λ d. record { is = finish-seven (C .X) room pl (true-ltb room (length early) (omega (arith, R .count))); seven = λ z. R .count; ones = λ z. absurd (omega arith); needs = λ z. absurd (omega arith) };
+      refuses = λ d. record { is = finish-seven (C .X) room pl (true-ltb room (length early) (omega (arith, R .count))); seven = λ z. R .count; ones = λ z. absurd (omega arith); needs = λ z. absurd (omega arith); few = R .few; small = omega arith };
       whole = λ d. absurd (omega arith);
       gone = λ d. absurd (omega arith);
     }
@@ -231,6 +240,7 @@ module _ {C : Context} {m K half o n q : ℕ} {asked : Asked} {at room : ℕ} {g
             pins = low-needed;
             crowded = rw (d, A .stands .tally .ones, ← A .needed .count) refl;
             long = rw (A .stands .fair .len) (omega (arith, two-step (C .X .K)));
+            few = omega (arith, d, A .stands .tally .ones, count-length filled (row (C .X .K) 1 pl), row-few, A .needed .few, A .stands .base .area .small);
           }
 
       -- what follows rule 8 ends the stage

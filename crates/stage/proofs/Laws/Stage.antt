@@ -113,7 +113,7 @@ module _ {C : Context} {m K half n : ℕ} {asked : Asked} {at room : ℕ} {gates
           staged = record {
             changed = changes;
             told = notes-same m w₂ w₄ (λ j a b. G .frame .past refl (16 * m + j) (omega arith) ∙ E .changed .past j (omega arith)) ∙ F .told ∙ ap (stageNotes (C .X)) (notes-same m w w₁ (λ j a b. tail-prepared j));
-            refuses = λ h. let R = rw (F .is) at (E .refuses h) in record { is = sym (built-is C room) ∙ R .is; seven = R .seven; ones = R .ones; needs = R .needs };
+            refuses = λ h. let R = rw (F .is) at (E .refuses h) in record { is = sym (built-is C room) ∙ R .is; seven = R .seven; ones = R .ones; needs = R .needs; few = R .few; small = R .small };
             whole = stands;
             fresh = λ z. record {
               listed = clear-frame (zeroed-clear (within-frame (F .kept .frame) refl (omega arith) (record { zero = listed-outside P })) (E .gone z .listed)) (G .frame) refl (omega arith);
