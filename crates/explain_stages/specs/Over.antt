@@ -17,5 +17,5 @@ unfoldable pub overSix : (K stage room number words cells waiting : ℕ) → Lis
 overSix K stage room number words cells waiting =
     elim (eqb number 7) [
       | true ↦ number ∷ stage ∷ room ∷ words ∷ 0 ∷ 0 ∷ []
-      | false ↦ number ∷ stage ∷ levelOneSize K - 1 ∷ cells + waiting ∷ cells ∷ waiting ∷ []
+      | false ↦ number ∷ stage ∷ (levelOneSize K - 1) ∷ (cells + waiting) ∷ cells ∷ waiting ∷ []
     ]

@@ -49,7 +49,7 @@ pub record Tells (C : Course) (m k at lines : ℕ) (pl ws cs w list : List ℕ) 
 
 -- before stage k + 1: `lines` lines are told, list₀ was the list before the first
 pub record AllAt (C : Course) (m K half : ℕ) (asked : Asked) (rooms k at n room lines : ℕ) (list₀ gates pl ws cs w list : List ℕ) : Type 0 where
-  pub at : StagesAt C m K half asked rooms k at n room gates pl ws cs w
+  pub stands : StagesAt C m K half asked rooms k at n room gates pl ws cs w
   pub bare : Bare 13 (notes m w)
   pub few : lines ≤ 12 * k
   pub same : putLines 0 (linesAfter C 0) list₀ ≡ putLines lines (linesAfter C k) list

@@ -35,11 +35,10 @@ module _ {K room words cells waiting : ℕ} (A : OverAt K room words cells waiti
 
   -- is from 1 to 4,096
   pub size-within : {r : ℕ} → r ≡ orZero (isHeight K) (levelOneSize K) → (1 ≤ r) × (r ≤ 4096)
-  unfolding levelOneSize
   size-within e = let d = size-is e in (omega (arith, d, pow-mono {i = 0} {j = K - 1} (omega arith)), omega (arith, d, pow-mono {i = K - 1} {j = 12} (omega (arith, A .high))))
 
   -- 8
-  pub eight-line : (stage number : ℕ) → number ≢ 7 → {r : ℕ} → r ≡ orZero (isHeight K) (levelOneSize K) → number ∷ stage ∷ r - 1 ∷ cells + waiting ∷ cells ∷ waiting ∷ [] ≡ overSix K stage room number words cells waiting
+  pub eight-line : (stage number : ℕ) → number ≢ 7 → {r : ℕ} → r ≡ orZero (isHeight K) (levelOneSize K) → number ∷ stage ∷ (r - 1) ∷ (cells + waiting) ∷ cells ∷ waiting ∷ [] ≡ overSix K stage room number words cells waiting
   unfolding overSix
   eight-line stage number n e = rw (ne-eqb number 7 n, overSix, size-is e)
 
@@ -50,10 +49,12 @@ module _ (rule : WordRule) (K : ℕ) (g : List Node) (r : ℕ → ℕ) (G : Grap
   abbrev pl : List ℕ
   pl = filledPlan (setting rule K g done waiting)
 
+  over-cases : {number words cells n : ℕ} → StageOver X room 0 pl number → (number ≡ 7 → words ≡ length (written X pl .words)) → (number ≡ 8 → cells ≡ onesThen X pl) → (number ≡ 8 → n ≡ needsLeft X pl) → numbers (overLine X k room pl) ≡ overSix K k room number words cells n
+  unfolding overSix overLine seventh eighth numbers setting
+  over-cases (seven h) s o d = rw (lt-ltb room (length (written X pl .words)) (omega arith), overLine, s refl)
+  over-cases (eight h c) s o d = rw (le-ltb room (length (written X pl .words)) (omega arith), overLine, o refl, d refl)
+
   -- the six numbers of a stage that is over
-  pub over-six : {m number written cells n : ℕ} {w w′ : List ℕ} → StageTold X m room w number written cells n w′ → 0 < number → numbers (overLine X k room pl) ≡ overSix K k room number written cells n
+  pub over-six : {m number words cells n : ℕ} {w w′ : List ℕ} → StageTold X m room w number words cells n w′ → 0 < number → numbers (overLine X k room pl) ≡ overSix K k room number words cells n
   unfolding setting
-  over-six {m} {number} {written} {cells} {n} T h = over (refused-over rule K g r G tall small done waiting R room 0 room (omega arith) number (T .refused h)) T
-    where
-      over : {number : ℕ} → StageOver X room 0 pl number → StageTold X m room _ number written cells n _ → numbers (overLine X k room pl) ≡ overSix K k room number written cells n
-      over o T = ?
+  over-six {number = number} T h = over-cases (refused-over rule K g r G tall small done waiting R room 0 room (omega arith) number (T .refused h)) (T .seven) (T .ones) (T .needs)
