@@ -69,7 +69,8 @@ module _ (rule : WordRule) (K : ℕ) (g : List Node) (r k : ℕ) (done waiting :
   after-refused {n} = nonempty (λ ws. oneStage rule K g done ws room ≡ refused n → afterFrom rule K g 1 done ws room ≡ none) (λ w ws e. rw (e, afterFrom) refl)
 
 -- the lines where the build stands in a state
-after-lines : (C : Course) (k : ℕ) {done waiting : List ℕ} {room : ℕ} → afterFrom (C .rule) (C .K) (C .g) k (C .given) (C .waiting) (C .room) ≡ state done waiting room → linesAfter C k ≡ whyFrom (C .rule) (C .K) (C .g) (C .rooms - k) (suc k) done waiting room
+-- are those of the rules from there
+pub after-lines : (C : Course) (k : ℕ) {done waiting : List ℕ} {room : ℕ} → afterFrom (C .rule) (C .K) (C .g) k (C .given) (C .waiting) (C .room) ≡ state done waiting room → linesAfter C k ≡ whyFrom (C .rule) (C .K) (C .g) (C .rooms - k) (suc k) done waiting room
 unfolding linesAfter linesAt
 after-lines C k e = rw (e, linesAt) refl
 
