@@ -1,0 +1,3 @@
+pub mod Six
+pub mod Attempt
+pub mod Place

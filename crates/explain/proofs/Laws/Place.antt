@@ -1,0 +1,2 @@
+-- Measured, told and coded. Assumes nothing.
+use Prim.Native.Nat.{ℕ}

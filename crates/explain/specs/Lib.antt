@@ -1,0 +1,3 @@
+pub mod Six
+pub mod Call
+pub mod Answers
