@@ -1,3 +1,4 @@
 pub mod Six
 pub mod Attempt
 pub mod Place
+pub mod Outcome

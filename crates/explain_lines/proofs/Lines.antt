@@ -2,7 +2,7 @@
 use Prim.Native.Nat.{ℕ, zero, suc, _+_, _*_, _<_, _≤_}
 use mathlib.Core.Path.{_≡_, refl, sym, ap, _∙_}
 use mathlib.Core.Bool.{true, false}
-use mathlib.Core.List.{List, [], _∷_, _++_}
+use mathlib.Core.List.{List, [], _∷_, _++_, append-assoc}
 use native.Mathlib.Omega.{arith}
 use lib.Dec.{leb}
 use lib.ListN.{length, set, take, drop, length-append, length-drop, length-set}
@@ -63,3 +63,28 @@ pub lines-length : (n : ℕ) (xs : List Line) (list : List ℕ) → length (putL
 unfolding putLines
 lines-length n [] list = refl
 lines-length n (x ∷ xs) list = lines-length (n + 1) xs (putSix n (numbers x) list) ∙ six-length n (numbers x) list (six-numbers x)
+
+-- a line behind whole lines
+six-behind : (n : ℕ) (xs front rest : List ℕ) → length xs ≡ 6 → length front ≡ 6 * n → 6 ≤ length rest → putSix n xs (front ++ rest) ≡ (front ++ xs) ++ drop 6 rest
+unfolding putSix laidAt
+six-behind n xs front rest l f h =
+    let b : leb (6 * n + 6) (length (front ++ rest)) ≡ true = le-leb (6 * n + 6) (length (front ++ rest)) (omega (arith, length-append front rest)) in
+    let t : take (6 * n) (front ++ rest) ≡ front = take-at front rest (6 * n) f in
+    let d : drop (6 * n + length xs) (front ++ rest) ≡ drop 6 rest = rw l (sym (drop-drop 6 (6 * n) (front ++ rest)) ∙ ap (drop 6) (drop-at front rest (6 * n) f)) in
+    rw (b, putSix, t, d) (sym (append-assoc front xs (drop 6 rest)))
+
+-- all lines where they fit
+lines-behind : (n : ℕ) (xs : List Line) (front rest : List ℕ) → length front ≡ 6 * n → 6 * length xs ≤ length rest → putLines n xs (front ++ rest) ≡ front ++ laidOver (numbersOf xs) rest
+unfolding putLines numbersOf laidOver
+lines-behind n [] front rest f h = refl
+lines-behind n (x ∷ xs) front rest f h =
+    let l : length (numbers x) ≡ 6 = six-numbers x in
+    let k = lines-behind (n + 1) xs (front ++ numbers x) (drop 6 rest) (length-append front (numbers x) ∙ omega arith) (omega (arith, length-drop 6 rest)) in
+    let e : 6 + length (numbersOf xs) ≡ length (numbers x ++ numbersOf xs) = omega (arith, length-append (numbers x) (numbersOf xs)) in
+    let d : drop (length (numbersOf xs)) (drop 6 rest) ≡ drop (length (numbers x ++ numbersOf xs)) rest = drop-drop (length (numbersOf xs)) 6 rest ∙ ap (λ (i : ℕ). drop i rest) e in
+    let q : numbers x ++ (numbersOf xs ++ drop (length (numbersOf xs)) (drop 6 rest)) ≡ (numbers x ++ numbersOf xs) ++ drop (length (numbers x ++ numbersOf xs)) rest = rw d (sym (append-assoc (numbers x) (numbersOf xs) (drop (length (numbers x ++ numbersOf xs)) rest))) in
+    ap (putLines (n + 1) xs) (six-behind n (numbers x) front rest l f (omega arith)) ∙ k ∙ append-assoc front (numbers x) (numbersOf xs ++ drop (length (numbersOf xs)) (drop 6 rest)) ∙ ap (λ (ys : List ℕ). front ++ ys) q
+
+-- a list that is long enough holds all lines
+pub lines-all : (xs : List Line) (list : List ℕ) → 6 * length xs ≤ length list → putLines 0 xs list ≡ laidOver (numbersOf xs) list
+lines-all xs list h = lines-behind 0 xs [] list refl h

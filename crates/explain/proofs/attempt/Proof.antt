@@ -1,3 +1,4 @@
+-- `explain::attempt` meets its contract: 6 with its line, or the stages with theirs. Assumes nothing.
 use mathlib.Core.Path.{refl}
 use native.Mathlib.Omega.{arith}
 use Rattle.placer.proofs.Laws.Build.{try-begin, try-blank, built-room}
@@ -5,13 +6,6 @@ use Rattle.explain.proofs.Laws.Attempt.{six-tells, attempt-over, C, all
 use borrow.Author.Needs.{needs}
 use Rattle.explain.proofs.attempt.Statement.{statement}
 use Rattle.explain.proofs.attempt.Tie as tie
-use Rattle.explain.proofs.attempt.Reads as reads
-use Rattle.explain.proofs.attempt.Lts as lts
-use Rattle.explain.proofs.six.tell_six.Reads as tell-six-reads
-use Rattle.explain_stages.proofs.refused.Reads as refused-reads
-use Rattle.explain_stages.proofs.tell.Reads as tell-reads
-use Rattle.graph.proofs.pin_count.Reads as pin-count-reads
-use Rattle.placer_start.proofs.begin.Reads as begin-reads
 
 pin-count-requires : tie.Need-pin-count-requires
 pin-count-requires c κs = search needs

@@ -1,14 +1,10 @@
+-- `explain::lay` meets its contract: the areas are emptied, filled and tidied. Assumes nothing.
 use mathlib.Core.Path.{_∙_}
 use Rattle.placer.proofs.Laws.Build.{place-try}
 use Rattle.explain.proofs.Laws.Attempt.{explained}
 use borrow.Author.Needs.{needs}
 use Rattle.explain.proofs.lay.Statement.{statement}
 use Rattle.explain.proofs.lay.Tie as tie
-use Rattle.explain.proofs.lay.Reads as reads
-use Rattle.explain.proofs.lay.Lts as lts
-use Rattle.explain.proofs.attempt.Reads as attempt-reads
-use Rattle.placer.proofs.areas.empty_all.Reads as empty-all-reads
-use Rattle.placer.proofs.areas.tidy.Reads as tidy-reads
 
 empty-all-requires : tie.Need-empty-all-requires
 empty-all-requires c κs = search needs

@@ -1,13 +1,10 @@
+-- `explain_lines::copy_note` meets its contract: a note becomes a line and is cleared. Assumes nothing.
 use mathlib.Core.Path.{refl}
 use Rattle.explain_lines.specs.Lines.{six}
 use Rattle.explain_lines.proofs.Copies.{copied-none, copied-some}
 use borrow.Author.Needs.{needs}
 use Rattle.explain_lines.proofs.copy_note.Statement.{statement}
 use Rattle.explain_lines.proofs.copy_note.Tie as tie
-use Rattle.explain_lines.proofs.copy_note.Reads as reads
-use Rattle.explain_lines.proofs.copy_note.Lts as lts
-use Rattle.columns.proofs.tail_set.Reads as tail-set-reads
-use Rattle.explain_lines.proofs.put_line.Reads as put-line-reads
 
 mul-at : tie.Need-mul-at
 mul-at c = search needs

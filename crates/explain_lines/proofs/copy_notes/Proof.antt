@@ -1,3 +1,4 @@
+-- `explain_lines::copy_notes` meets its contract: level after level, from the highest down. Assumes nothing.
 use lib.ListN.{length}
 use mathlib.Core.Path.{_≡_, refl}
 use Rattle.explain_lines.specs.Copies.{Copying}
@@ -5,9 +6,6 @@ use Rattle.explain_lines.proofs.Copies.{copying-none, copying-next, cop
 use borrow.Author.Needs.{needs}
 use Rattle.explain_lines.proofs.copy_notes.Statement.{statement}
 use Rattle.explain_lines.proofs.copy_notes.Tie as tie
-use Rattle.explain_lines.proofs.copy_notes.Reads as reads
-use Rattle.explain_lines.proofs.copy_notes.Lts as lts
-use Rattle.explain_lines.proofs.copy_note.Reads as copy-note-reads
 
 abbrev Inv-loop : tie.InvT-loop
 Inv-loop work₀ m stage list₀ n h₀ lines₀ work list h lines = Copying m stage n work₀ list₀ h lines work list × (length work ≡ length work₀) × (length list ≡ length list₀)

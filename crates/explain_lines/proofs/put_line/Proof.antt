@@ -1,3 +1,4 @@
+-- `explain_lines::put_line` meets its contract: six stores, or none where they do not fit. Assumes nothing.
 use mathlib.Core.Path.{refl}
 use native.Mathlib.Omega.{arith}
 use lib.ListN.{length-set}
@@ -6,8 +7,6 @@ use Rattle.explain_lines.proofs.Lines.{six-stores, six-none}
 use borrow.Author.Needs.{needs}
 use Rattle.explain_lines.proofs.put_line.Statement.{statement}
 use Rattle.explain_lines.proofs.put_line.Tie as tie
-use Rattle.explain_lines.proofs.put_line.Reads as reads
-use Rattle.explain_lines.proofs.put_line.Lts as lts
 
 mul-at : tie.Need-mul-at
 mul-at c = search needs

@@ -1,12 +1,10 @@
+-- `explain_stages::over_line` meets its contract: the numbers of a refused stage. Assumes nothing.
 use native.Mathlib.Omega.{arith}
 use Rattle.explain_lines.specs.Lines.{six}
 use Rattle.explain_stages.proofs.Laws.Over.{seven-line, size-within, eight-line}
 use borrow.Author.Needs.{needs}
 use Rattle.explain_stages.proofs.over_line.Statement.{statement}
 use Rattle.explain_stages.proofs.over_line.Tie as tie
-use Rattle.explain_stages.proofs.over_line.Reads as reads
-use Rattle.explain_stages.proofs.over_line.Lts as lts
-use Rattle.cells.proofs.Height.level_one_size.Reads as level-one-size-reads
 
 cast-t7 : tie.Need-cast-t7
 cast-t7 c = search needs

@@ -1,3 +1,4 @@
+-- `explain_stages::tell` meets its contract: one stage more with its lines, until no pin waits or one is refused. Assumes nothing.
 use mathlib.Core.Path.{_≡_, refl, _∙_}
 use native.Mathlib.Omega.{arith}
 use Prim.Native.Nat.{_-_}
@@ -13,11 +14,6 @@ use Rattle.explain_stages.proofs.Laws.All.{tell-at, told-nine, told-who
 use borrow.Author.Needs.{needs}
 use Rattle.explain_stages.proofs.tell.Statement.{statement}
 use Rattle.explain_stages.proofs.tell.Tie as tie
-use Rattle.explain_stages.proofs.tell.Reads as reads
-use Rattle.explain_stages.proofs.tell.Lts as lts
-use Rattle.explain_stages.proofs.refused.Reads as refused-reads
-use Rattle.explain_stages.proofs.tell_stage.Reads as tell-stage-reads
-use Rattle.stage_tally.proofs.spend.Reads as spend-reads
 
 abbrev Inv-loop : tie.InvT-loop
 Inv-loop gates plan₀ words₀ counts₀ work₀ list₀ m height rule rooms n room limit tally₀ k₀ left₀ cells₀ lines₀ plan words counts work list tally k left cells lines = Every (λ C. AllAt C m (height .0) (rowAt (height .0) 1) rule rooms 0 0 n room 0 list₀ gates plan₀ words₀ counts₀ work₀ list₀) (λ C. AllAt C m (height .0) (rowAt (height .0) 1) rule rooms k (tally .spent) left room lines list₀ gates plan words counts work list) × (length plan ≡ length plan₀) × (length words ≡ length words₀) × (length counts ≡ length counts₀) × (length work ≡ length work₀) × (length list ≡ length list₀) × Counted tally × (bound tally ≡ room) × (cells ≡ count filled plan)

@@ -1,16 +1,10 @@
+-- `explain_stages::tell_stage` meets its contract: the stage is built, its notes are copied, and a refusal has its line. Assumes nothing.
 use native.Mathlib.Omega.{arith}
 use native.Mathlib.Numerals.{add-one}
 use Rattle.explain_stages.proofs.Laws.Telling.{stages-few, notes-there, told-few, tells-on, over-at, tells-over}
 use borrow.Author.Needs.{needs}
 use Rattle.explain_stages.proofs.tell_stage.Statement.{statement}
 use Rattle.explain_stages.proofs.tell_stage.Tie as tie
-use Rattle.explain_stages.proofs.tell_stage.Reads as reads
-use Rattle.explain_stages.proofs.tell_stage.Lts as lts
-use Rattle.explain_lines.proofs.copy_notes.Reads as copy-notes-reads
-use Rattle.explain_lines.proofs.put_line.Reads as put-line-reads
-use Rattle.explain_stages.proofs.over_line.Reads as over-line-reads
-use Rattle.placer.proofs.stages.next_stage.Reads as next-stage-reads
-use Rattle.stage_tally.proofs.left.Reads as left-reads
 
 next-stage-requires : tie.Need-next-stage-requires
 next-stage-requires c κs = (c .before .before .before .before .before .before .before .before .before .before .pre .0, record { it = c .before .before .before .before .before .before .before .before .before .before .pre .1 .it; at = c .before .before .before .before .before .before .before .before .before .before .pre .1 .at .one })

@@ -1,12 +1,8 @@
+-- `explain::six::tell_six` meets its contract: memories and duplicates are counted whole, and their line is the only one. Assumes nothing.
 use Rattle.explain.proofs.Laws.Six.{six-at, six-told}
 use borrow.Author.Needs.{needs}
 use Rattle.explain.proofs.six.tell_six.Statement.{statement}
 use Rattle.explain.proofs.six.tell_six.Tie as tie
-use Rattle.explain.proofs.six.tell_six.Reads as reads
-use Rattle.explain.proofs.six.tell_six.Lts as lts
-use Rattle.explain.proofs.six.six_line.Reads as six-line-reads
-use Rattle.explain_lines.proofs.put_line.Reads as put-line-reads
-use Rattle.plan_check.proofs.room.counted.Reads as counted-reads
 
 counted-requires : tie.Need-counted-requires
 counted-requires c κs = c .before .before .before .pre .room
