@@ -10,21 +10,9 @@ use Rattle.rules.specs.Graph.{Node}
 use Rattle.rules.specs.Build as rules
 use Rattle.placer.specs.Answers.{told}
 use Rattle.placer.specs.Stages.{Kept}
-use Rattle.placer.specs.Build.{Filled, Tried, Laid, Placed}
+use Rattle.placer.specs.Build.{Filled, Placed}
 use Rattle.why_form.specs.Why.{Line, numbersOf}
-use Rattle.explain_lines.specs.Lines.{putLines}
 use Rattle.explain_stages.specs.declared.Explanation.{Explanation}
-
--- the answer b and the lines ls
-pub record Attempted (b : rules.Answer) (ls : List Line) (pl ws cs w list : List ℕ) (e : Explanation) (pl′ ws′ cs′ w′ list′ : List ℕ) : Type 0 where
-  pub tried : Tried b pl ws cs w (e .answer) pl′ ws′ cs′ w′
-  pub lines : list′ ≡ putLines 0 ls list
-  pub count : e .lines ≡ length ls
-
-pub record Explained (b : rules.Answer) (ls : List Line) (pl ws cs w list : List ℕ) (e : Explanation) (pl′ ws′ cs′ w′ list′ : List ℕ) : Type 0 where
-  pub laid : Laid b pl ws cs w (e .answer) pl′ ws′ cs′ w′
-  pub lines : list′ ≡ putLines 0 ls list
-  pub count : e .lines ≡ length ls
 
 -- is the list too short for the lines
 pub record Measured (ls : List Line) (pl ws cs w list : List ℕ) (r : Bool) (pl′ ws′ cs′ w′ list′ : List ℕ) : Type 0 where

@@ -1,3 +1,2 @@
-pub mod Six
 pub mod Call
 pub mod Answers

@@ -4,16 +4,11 @@ use cells::wide;
 use checks::check;
 use coding::code_plan;
 use columns::RECORDS;
+use explain_build::lay;
 use explain_stages::refused;
-use explain_stages::tell;
 use graph::pin_count;
 use placer::Answer;
 use placer::areas::empty_all;
-use placer::areas::tidy;
-use placer_start::Opening;
-use placer_start::begin;
-use refusals::OVER_RESERVED;
-use six::tell_six;
 use stage_runs::WordRule;
 ghost use mathlib.Core.Path.{_≡_};
 ghost use lib.ListN.{length};
@@ -22,99 +17,14 @@ ghost use Rattle.rules.specs.Traversal.{neededRuns};
 ghost use Rattle.rules.specs.Build.{answerOf};
 ghost use Rattle.stage_runs.specs.Rule.{ruleOf};
 ghost use Rattle.placer.specs.Answers.{areas};
-ghost use Rattle.placer.specs.Build.{PlaceAt, TryAt};
+ghost use Rattle.placer.specs.Build.{PlaceAt};
 ghost use Rattle.why_form.specs.Why.{whyOf, explainer};
-ghost use Rattle.explain.specs.Call.{Attempted, Explained, Measured, Ends};
+ghost use Rattle.explain.specs.Call.{Measured, Ends};
 ghost use Rattle.explain.specs.Answers.{explained};
-
-mod six;
-
 pub use explain_stages::Explanation;
 
 // The caller's list is too short for the lines.
 const LIST_SHORT: u32 = 21;
-
-// The reservation and the stages, in empty areas.
-fn attempt(
-    height: Height,
-    rule: WordRule,
-    gates: &[u32],
-    given: &[u32],
-    records: &[u32],
-    plan: &mut [u32],
-    words: &mut [u32],
-    counts: &mut [u32],
-    work: &mut [u32],
-    list: &mut [u32],
-) -> Explanation
-    requires { ⌜ TryAt (height .0) (now gates) (now given) (now records) (now plan) (now words) (now counts) (now work) ⌝ }
-    ensures { λ r. ⌜ Attempted (answerOf (ruleOf rule) (height .0) (now (gates .entry)) (now (given .entry)) (now (records .entry)) (length (now (plan .entry)))) (whyOf (ruleOf rule) (height .0) (now (gates .entry)) (now (given .entry)) (now (records .entry)) (length (now (plan .entry)))) (now (plan .entry)) (now (words .entry)) (now (counts .entry)) (now (work .entry)) (now (list .entry)) r (now (plan .exit)) (now (words .exit)) (now (counts .exit)) (now (work .exit)) (now (list .exit)) ⌝ }
-{
-    let m = pin_count(gates);
-    let rooms = counts.len();
-    let limit = words.len();
-    let opening = begin(given, records, work, m, limit);
-    match opening {
-        Opening::Over => {
-            tell_six(gates, records, limit, list);
-            Explanation {
-                answer: refused(OVER_RESERVED, 0),
-                lines: 1,
-            }
-        }
-        Opening::Ready(reserved, n) => {
-            let room = limit - reserved;
-            tell(
-                gates,
-                plan,
-                words,
-                counts,
-                work,
-                list,
-                m,
-                height,
-                rule,
-                rooms,
-                n,
-                room,
-            )
-        }
-    }
-}
-
-// The build of records that passed the checks, in areas of exactly their counted sizes: stages of pins, and as many lines as fit the list.
-fn lay(
-    height: Height,
-    rule: WordRule,
-    gates: &[u32],
-    given: &[u32],
-    records: &[u32],
-    plan: &mut [u32],
-    words: &mut [u32],
-    counts: &mut [u32],
-    work: &mut [u32],
-    list: &mut [u32],
-) -> Explanation
-    requires { ⌜ PlaceAt (height .0) (now gates) (now given) (now records) (now plan) (now words) (now counts) (now work) ⌝ }
-    ensures { λ r. ⌜ Explained (answerOf (ruleOf rule) (height .0) (now (gates .entry)) (now (given .entry)) (now (records .entry)) (length (now (plan .entry)))) (whyOf (ruleOf rule) (height .0) (now (gates .entry)) (now (given .entry)) (now (records .entry)) (length (now (plan .entry)))) (now (plan .entry)) (now (words .entry)) (now (counts .entry)) (now (work .entry)) (now (list .entry)) r (now (plan .exit)) (now (words .exit)) (now (counts .exit)) (now (work .exit)) (now (list .exit)) ⌝ }
-{
-    empty_all(plan, words, counts, work);
-    let e = attempt(
-        height,
-        rule,
-        gates,
-        given,
-        records,
-        plan,
-        words,
-        counts,
-        work,
-        list,
-    );
-    let a = e.answer;
-    tidy(a.number, plan, words, counts, work);
-    e
-}
 
 // Are the lines more than the list holds? With room for K - 1 lines a room and one more they never are; with less they are counted first. The list
 // stays as it is, whatever the other areas hold then.

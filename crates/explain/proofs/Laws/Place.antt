@@ -29,7 +29,8 @@ use Rattle.why_form.proofs.Lines.{why-few}
 use Rattle.explain_lines.specs.Lines.{putLines}
 use Rattle.explain_lines.proofs.Lines.{lines-all}
 use Rattle.explain_stages.specs.declared.Explanation.{Explanation}
-use Rattle.explain.specs.Call.{Explained, Measured, Ends}
+use Rattle.explain_build.specs.Call.{Explained}
+use Rattle.explain.specs.Call.{Measured, Ends}
 
 -- a part of no numbers leaves the list as it was
 no-part : (list part : List ℕ) → length part ≡ 0 → take 0 list ++ (part ++ drop (0 - 0) (drop 0 list)) ≡ list

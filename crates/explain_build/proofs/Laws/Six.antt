@@ -14,7 +14,7 @@ use Rattle.placer_start.specs.declared.reservation.Count.{Count}
 use Rattle.plan_check.specs.Room.{RoomCounted}
 use Rattle.why_form.specs.Why.{numbers, sixth}
 use Rattle.explain_lines.specs.Lines.{putSix, putLines}
-use Rattle.explain.specs.Six.{SixAt, sixOf, TellAt, Told}
+use Rattle.explain_build.specs.Six.{SixAt, sixOf, TellAt, Told}
 
 module _ (limit m d : ℕ) where
   -- the first test fails

@@ -1,10 +1,10 @@
--- `explain::lay` meets its contract: the areas are emptied, filled and tidied. Assumes nothing.
+-- `explain_build::lay` meets its contract: the areas are emptied, filled and tidied. Assumes nothing.
 use mathlib.Core.Path.{_∙_}
 use Rattle.placer.proofs.Laws.Build.{place-try}
-use Rattle.explain.proofs.Laws.Attempt.{explained}
+use Rattle.explain_build.proofs.Laws.Attempt.{explained}
 use borrow.Author.Needs.{needs}
-use Rattle.explain.proofs.lay.Statement.{statement}
-use Rattle.explain.proofs.lay.Tie as tie
+use Rattle.explain_build.proofs.lay.Statement.{statement}
+use Rattle.explain_build.proofs.lay.Tie as tie
 
 empty-all-requires : tie.Need-empty-all-requires
 empty-all-requires c κs = search needs

@@ -1,9 +1,9 @@
--- `explain::six::six_line` meets its contract: the line of a reservation that is over, by the first test that fails. Assumes nothing.
+-- `explain_build::six::six_line` meets its contract: the line of a reservation that is over, by the first test that fails. Assumes nothing.
 use Rattle.explain_lines.specs.Lines.{six}
-use Rattle.explain.proofs.Laws.Six.{six-reserved, six-limit}
+use Rattle.explain_build.proofs.Laws.Six.{six-reserved, six-limit}
 use borrow.Author.Needs.{needs}
-use Rattle.explain.proofs.six.six_line.Statement.{statement}
-use Rattle.explain.proofs.six.six_line.Tie as tie
+use Rattle.explain_build.proofs.six.six_line.Statement.{statement}
+use Rattle.explain_build.proofs.six.six_line.Tie as tie
 
 add-reserved : tie.Need-add-reserved
 add-reserved c = search needs

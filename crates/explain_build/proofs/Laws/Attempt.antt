@@ -33,8 +33,8 @@ use Rattle.explain_lines.specs.Lines.{putLines}
 use Rattle.explain_stages.specs.declared.Explanation.{Explanation}
 use Rattle.explain_stages.specs.Telling.{linesAfter, AllAt, AllTold}
 use Rattle.explain_stages.proofs.Laws.Telling.{after-lines}
-use Rattle.explain.specs.Six.{TellAt, Told}
-use Rattle.explain.specs.Call.{Attempted, Explained}
+use Rattle.explain_build.specs.Six.{TellAt, Told}
+use Rattle.explain_build.specs.Call.{Attempted, Explained}
 
 -- ---- 6
 

@@ -1,11 +1,11 @@
--- `explain::attempt` meets its contract: 6 with its line, or the stages with theirs. Assumes nothing.
+-- `explain_build::attempt` meets its contract: 6 with its line, or the stages with theirs. Assumes nothing.
 use mathlib.Core.Path.{refl}
 use native.Mathlib.Omega.{arith}
 use Rattle.placer.proofs.Laws.Build.{try-begin, try-blank, built-room}
-use Rattle.explain.proofs.Laws.Attempt.{six-tells, attempt-over, C, all-at, attempt-ran}
+use Rattle.explain_build.proofs.Laws.Attempt.{six-tells, attempt-over, C, all-at, attempt-ran}
 use borrow.Author.Needs.{needs}
-use Rattle.explain.proofs.attempt.Statement.{statement}
-use Rattle.explain.proofs.attempt.Tie as tie
+use Rattle.explain_build.proofs.attempt.Statement.{statement}
+use Rattle.explain_build.proofs.attempt.Tie as tie
 
 pin-count-requires : tie.Need-pin-count-requires
 pin-count-requires c κs = search needs

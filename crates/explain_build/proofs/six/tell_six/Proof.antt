@@ -1,8 +1,8 @@
--- `explain::six::tell_six` meets its contract: memories and duplicates are counted whole, and their line is the only one. Assumes nothing.
-use Rattle.explain.proofs.Laws.Six.{six-at, six-told}
+-- `explain_build::six::tell_six` meets its contract: memories and duplicates are counted whole, and their line is the only one. Assumes nothing.
+use Rattle.explain_build.proofs.Laws.Six.{six-at, six-told}
 use borrow.Author.Needs.{needs}
-use Rattle.explain.proofs.six.tell_six.Statement.{statement}
-use Rattle.explain.proofs.six.tell_six.Tie as tie
+use Rattle.explain_build.proofs.six.tell_six.Statement.{statement}
+use Rattle.explain_build.proofs.six.tell_six.Tie as tie
 
 counted-requires : tie.Need-counted-requires
 counted-requires c κs = c .before .before .before .pre .room

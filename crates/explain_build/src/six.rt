@@ -6,7 +6,7 @@ use plan_check::room::counted;
 use refusals::OVER_RESERVED;
 ghost use mathlib.Core.Path.{_≡_};
 ghost use Rattle.explain_lines.specs.Lines.{six};
-ghost use Rattle.explain.specs.Six.{SixAt, sixOf, TellAt, Told};
+ghost use Rattle.explain_build.specs.Six.{SixAt, sixOf, TellAt, Told};
 
 fn six_line(limit: usize, c: Count) -> Line
     requires { ⌜ SixAt limit c ⌝ }
