@@ -56,6 +56,8 @@ abbrev table : List Row
 table =
     -- 7, by the rule that writes idle runs: a word wanted, none left
     record { gives = told everyRun 4 first (outputs (14 ∷ 15 ∷ [])) 7; says = 7 ∷ 2 ∷ 1 ∷ 7 ∷ 2 ∷ 0 ∷ 1 ∷ 0 ∷ 0 ∷ 7 ∷ [] }
+    -- 7, by the rule that writes none: leaf output 2 takes the one word that outputs 14 and 15 leave, so that pin 7 has none in stage 2
+    ∷ record { gives = told neededRuns 4 first (outputs (2 ∷ 14 ∷ 15 ∷ [])) 7; says = 7 ∷ 2 ∷ 1 ∷ 7 ∷ 2 ∷ 0 ∷ 1 ∷ 0 ∷ 0 ∷ 7 ∷ [] }
     -- 8: 32 pins, against 31
     ∷ record { gives = told neededRuns 4 (leaves 32) (leafOutputs 32) 6; says = 8 ∷ 1 ∷ 1 ∷ 8 ∷ 1 ∷ 31 ∷ 32 ∷ 32 ∷ 0 ∷ [] }
     -- 6: a memory, 4 against 2

@@ -1,10 +1,8 @@
+-- `stage_notes::note_back` meets its contract: four stores are a note. Assumes nothing.
 use Rattle.stage_notes.proofs.Noting.{noted}
 use borrow.Author.Needs.{needs}
 use Rattle.stage_notes.proofs.note_back.Statement.{statement}
 use Rattle.stage_notes.proofs.note_back.Tie as tie
-use Rattle.stage_notes.proofs.note_back.Reads as reads
-use Rattle.stage_notes.proofs.note_back.Lts as lts
-use Rattle.columns.proofs.tail_set.Reads as tail-set-reads
 
 mul-at : tie.Need-mul-at
 mul-at c = search needs

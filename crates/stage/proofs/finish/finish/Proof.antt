@@ -1,3 +1,4 @@
+-- `stage::finish::finish` meets its contract: where the runs' words are over the tally the stage is refused, else the other rules follow. Assumes nothing.
 use native.Mathlib.Omega.{arith}
 use Prim.Native.Nat.{_+_, _*_}
 use Rattle.stage.proofs.Laws.Finish.{room-as, finished-as, fits-as, end-at, finished-seven, resting-at, finished}
@@ -5,14 +6,6 @@ use Rattle.stage_tally.proofs.Laws.Tests.{within-still, over-room, fits-room}
 use borrow.Author.Needs.{needs}
 use Rattle.stage.proofs.finish.finish.Statement.{statement}
 use Rattle.stage.proofs.finish.finish.Tie as tie
-use Rattle.stage.proofs.finish.finish.Reads as reads
-use Rattle.stage.proofs.finish.finish.Lts as lts
-use Rattle.columns.proofs.tail_get.Reads as tail-get-reads
-use Rattle.stage.proofs.finish.finish_rest.Reads as finish-rest-reads
-use Rattle.stage_runs.proofs.write_runs.Reads as write-runs-reads
-use Rattle.stage_tally.proofs.is_over.Reads as is-over-reads
-use Rattle.stage_tally.proofs.left.Reads as left-reads
-use Rattle.stage_tally.proofs.spend.Reads as spend-reads
 
 left-requires : tie.Need-left-requires
 left-requires c κs = c .before .before .before .before .pre .0

@@ -1,13 +1,8 @@
+-- `stage::finish::finish_rest` meets its contract: no cell or none left empty refuses the stage, with the counts where rule 9 starts. Assumes nothing.
 use Rattle.stage.proofs.Laws.Finish.{rest-at, ones-within, ends-eight, lasting-at, ends-rest}
 use borrow.Author.Needs.{needs}
 use Rattle.stage.proofs.finish.finish_rest.Statement.{statement}
 use Rattle.stage.proofs.finish.finish_rest.Tie as tie
-use Rattle.stage.proofs.finish.finish_rest.Reads as reads
-use Rattle.stage.proofs.finish.finish_rest.Lts as lts
-use Rattle.cells.proofs.Height.level_one_size.Reads as level-one-size-reads
-use Rattle.columns.proofs.tail_get.Reads as tail-get-reads
-use Rattle.stage.proofs.finish.finish_last.Reads as finish-last-reads
-use Rattle.stage_ending.proofs.rest.fill_rest.Reads as fill-rest-reads
 
 tail-get-requires : tie.Need-tail-get-requires
 tail-get-requires c κs = search needs

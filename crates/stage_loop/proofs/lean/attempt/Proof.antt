@@ -3,12 +3,6 @@ use Rattle.stage_loop.proofs.Laws.Tries.{place-at, after-place, tried-s
 use borrow.Author.Needs.{needs}
 use Rattle.stage_loop.proofs.lean.attempt.Statement.{statement}
 use Rattle.stage_loop.proofs.lean.attempt.Tie as tie
-use Rattle.stage_loop.proofs.lean.attempt.Reads as reads
-use Rattle.stage_loop.proofs.lean.attempt.Lts as lts
-use Rattle.stage_loop.proofs.lean.settle.Reads as settle-reads
-use Rattle.stage_notes.proofs.note_back.Reads as note-back-reads
-use Rattle.stage_tree.proofs.place_pin.Reads as place-pin-reads
-use Rattle.stage_tree.proofs.take_back.Reads as take-back-reads
 
 place-pin-requires : tie.Need-place-pin-requires
 place-pin-requires c κs = record { it = c .before .before .before .before .before .pre .it; at = place-at (c .before .before .before .before .before .pre .at) }
