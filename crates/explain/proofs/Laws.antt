@@ -1,3 +1,4 @@
 pub mod Place
 pub mod Outcome
 pub mod Calls
+pub mod Unique
