@@ -140,7 +140,7 @@ pub fn read(path: &Path, memory: usize) -> Done<Read> {
 pub fn accepted(path: &Path, memory: usize) -> Done<Job> {
     match read(path, memory)? {
         Read::Job(job) => Ok(job),
-        Read::Sheet { name, .. } => stopped(name, "a plan sheet has no gates and no records: plan lists one, and check-plan takes it behind its chip or job"),
+        Read::Sheet { name, .. } => stopped(name, "a plan sheet has no gates and no records: plan lists one, and check-plan and mend take it behind its chip or job"),
         Read::Refused { said, .. } => Err(End::Refused(said)),
     }
 }

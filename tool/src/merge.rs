@@ -3,7 +3,7 @@
 use crate::end::{Done, End};
 use crate::files::{self, Out};
 use crate::job::{self, Job};
-use crate::memory::{self, lend, Graph, Space};
+use crate::memory::{self, lend, For, Graph, Space};
 use crate::placer::{self, build, merge_work_size, Groups};
 use crate::plan::Built;
 use crate::why;
@@ -109,7 +109,7 @@ pub fn run(args: &Args) -> Done<()> {
     let mut lists = groups(&name, &files::read(&args.groups, args.space.memory)?)?;
     let height = args.space.height.or(job.height).unwrap_or(13);
     let work = merge_work_size(job.gates.len(), job.records.len(), lists.indices.len(), lists.lengths.len());
-    let mut lent = lend(&job.name, &args.space, height, job.graph(), work, false)?;
+    let mut lent = lend(&job.name, &args.space, height, job.graph(), work, For::Build)?;
     let mut stages = memory::area(0, lists.lengths.len())?;
     let (mut indices, mut lengths) = (lists.indices.clone(), lists.lengths.clone());
     let merging = Groups { indices: &mut indices, lengths: &mut lengths, stages: &mut stages };
@@ -130,7 +130,7 @@ pub fn run(args: &Args) -> Done<()> {
         if args.plans {
             let records = records(&job, part)?;
             let graph = Graph { gates: &job.gates, given: &job.given, records: &records };
-            let mut lent = lend(&job.name, &args.space, height, graph, 0, false)?;
+            let mut lent = lend(&job.name, &args.space, height, graph, 0, For::Build)?;
             let answer = build(height, graph.gates, graph.given, graph.records, lent.areas());
             out.put(Built { height, answer, lent }.listing()?)?;
         }

@@ -3,7 +3,7 @@
 use crate::end::{stopped, Done, End};
 use crate::files::Out;
 use crate::job::{self, Job, Read};
-use crate::memory::{self, lend, Lent, Space};
+use crate::memory::{self, lend, For, Lent, Space};
 use crate::placer::{build, list_answer, listing_size, stage_size, Answer, Plan};
 use crate::sheet;
 use crate::svg;
@@ -43,7 +43,7 @@ pub struct Built {
 impl Built {
     pub fn of(job: &Job, space: &Space) -> Done<Built> {
         let height = space.height.or(job.height).unwrap_or(13);
-        let mut lent = lend(&job.name, space, height, job.graph(), 0, false)?;
+        let mut lent = lend(&job.name, space, height, job.graph(), 0, For::Build)?;
         let answer = build(height, &job.gates, &job.given, &job.records, lent.areas());
         Ok(Built { height, answer, lent })
     }
@@ -99,7 +99,7 @@ fn one(path: &PathBuf, graph: Option<&Job>, args: &Args, out: &mut Out) -> Done<
             let built = Built::of(&job, &args.space)?;
             (job.name.clone(), Some(job), built)
         }
-        Read::Sheet { name, bytes } => match sheet::read(&name, &bytes, graph, &args.space, false)? {
+        Read::Sheet { name, bytes } => match sheet::read(&name, &bytes, graph, &args.space, For::Build)? {
             sheet::Read::Plan(built) => (name, None, built),
             sheet::Read::Refused { number, said } => {
                 out.put(refusal_line(number, 0, 0))?;

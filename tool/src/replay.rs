@@ -6,7 +6,7 @@ use crate::end::{stopped, words, Done, End};
 use crate::fault;
 use crate::files::{self, Out};
 use crate::job::{self, Form, Job};
-use crate::memory::{self, lend, Lent, Space, Taped};
+use crate::memory::{self, lend, For, Lent, Space, Taped};
 use crate::placer::{self, plan_size, replay_plan_work_size, Checked, Recording, Run, EMPTY};
 use crate::plan::Built;
 use crate::sheet;
@@ -224,12 +224,12 @@ impl<'a> Runner<'a> {
         let (over, size) = match &args.plan {
             None => {
                 let height = args.space.height.unwrap_or(13);
-                let lent = lend(&job.name, &args.space, height, job.graph(), 0, true)?;
+                let lent = lend(&job.name, &args.space, height, job.graph(), 0, For::Replay)?;
                 let size = lent.plan.len();
                 (Over::Built { height, lent }, size)
             }
             Some(path) => {
-                let (name, built) = match sheet::load(path, job, &args.space, true)? {
+                let (name, built) = match sheet::load(path, job, &args.space, For::Replay)? {
                     (name, sheet::Read::Plan(built)) => (name, built),
                     (_, sheet::Read::Refused { said, .. }) => return Err(End::Refused(said)),
                 };
