@@ -51,7 +51,7 @@ pub fn run(args: &Args) -> Done<()> {
         }
         number => {
             out.put(refusal_line(number, 0, answer.pin))?;
-            why::lists(&job, built.height, number, 0, answer.pin, built.lent.rooms)
+            why::lists(&job, built.height, number, 0, answer.pin, built.lent.rooms, &[])
         }
     };
     out.flush()?;

@@ -7,6 +7,7 @@ mod aag;
 mod check;
 mod check_plan;
 mod end;
+mod explain;
 mod fault;
 mod files;
 mod job;

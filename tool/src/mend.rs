@@ -31,7 +31,7 @@ const FEW: usize = 1024;
 
 /// The library's answer, and the list. Room for more changes is lent until they fit.
 fn mended(job: &Job, built: &mut Built) -> Done<(Mended, Vec<u32>)> {
-    let Built { height, answer, lent } = built;
+    let Built { height, answer, lent, .. } = built;
     let mut work = memory::area(0, mend_work_size(lent.plan.len()))?;
     let enough = mend_list_size(*height, answer.stages);
     let mut size = enough.min(FEW * placer::CHANGE);
@@ -191,7 +191,7 @@ pub fn run(args: &Args) -> Done<()> {
         }
         number => {
             out.put(refusal_line(number, 0, told.pin))?;
-            why::lists(&job, built.height, number, 0, told.pin, built.lent.rooms)
+            why::lists(&job, built.height, number, 0, told.pin, built.lent.rooms, &[])
         }
     };
     out.flush()?;

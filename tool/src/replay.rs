@@ -3,6 +3,7 @@
 
 use crate::aag::Aag;
 use crate::end::{stopped, words, Done, End};
+use crate::explain;
 use crate::fault;
 use crate::files::{self, Out};
 use crate::job::{self, Form, Job};
@@ -252,14 +253,17 @@ impl<'a> Runner<'a> {
         }
     }
 
-    fn refused(&self, answer: &Checked, start: &[u8]) -> End {
+    fn refused(&mut self, answer: &Checked, start: &[u8]) -> End {
         let Checked { number, stage, position, pin } = *answer;
         let (name, latches) = (&self.job.name, self.aag.latches.len());
-        let said = match &self.over {
+        let said = match &mut self.over {
             _ if number == 20 && start.len() != latches => Ok(format!("{name}: refused with 20: --start has {} bits; there are {latches} latches", start.len())),
-            Over::Built { height, lent } => Ok(why::lists(self.job, *height, number, stage, pin, lent.rooms)),
+            Over::Built { height, lent } => {
+                let lines = if matches!(number, 6..=8) { explain::build(self.job.graph(), *height, lent).map(|(_, lines)| lines) } else { Ok(Vec::new()) };
+                lines.map(|lines| why::lists(self.job, *height, number, stage, pin, lent.rooms, &lines))
+            }
             Over::Sheet { name, built, .. } if number == 22 => fault::said(name, self.job, built, stage, position),
-            Over::Sheet { built, .. } => Ok(why::lists(self.job, built.height, number, 0, pin, built.lent.rooms)),
+            Over::Sheet { built, .. } => Ok(why::lists(self.job, built.height, number, 0, pin, built.lent.rooms, &[])),
         };
         said.map_or_else(|end| end, End::Refused)
     }

@@ -54,7 +54,7 @@ pub fn read(name: &str, bytes: &[u8], graph: Option<&Job>, space: &Space, wanted
     }
     let cells = filled(&lent.plan);
     let answer = Answer { stages: read.stages, words: read.words, cells, ..Answer::default() };
-    Ok(Read::Plan(Built { height: read.height, answer, lent }))
+    Ok(Read::Plan(Built { height: read.height, answer, lent, lines: Vec::new() }))
 }
 
 /// How many cells are filled: a sheet tells no build's sum.
@@ -64,7 +64,7 @@ pub fn filled(plan: &[u32]) -> usize {
 
 /// The sheet of a plan, into a file.
 pub fn write(name: &str, built: &Built, path: &Path) -> Done<()> {
-    let Built { height, answer, lent } = built;
+    let Built { height, answer, lent, .. } = built;
     let mut bytes = memory::area(0, sheet_size(*height, answer.stages).saturating_add(answer.words))?;
     let wrote = write_sheet(*height, answer.stages, &lent.plan, &lent.words, &lent.counts, &mut bytes);
     if wrote.number != 0 {
