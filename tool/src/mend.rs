@@ -172,6 +172,7 @@ pub fn run(args: &Args) -> Done<()> {
     let (told, list) = mended(&job, &mut built)?;
     let said = match told.number {
         0 => {
+            sheet::write(&name, &built, &args.out)?;
             built.answer.cells = sheet::filled(&built.lent.plan);
             let Answer { stages, words, cells, .. } = built.answer;
             let what = if told.count == 0 { "accepted".to_string() } else { format!("mended changes {}", told.count) };
@@ -182,7 +183,6 @@ pub fn run(args: &Args) -> Done<()> {
             if told.count == 0 {
                 out.put("nothing to mend\n")?;
             }
-            sheet::write(&name, &built, &args.out)?;
             return out.flush();
         }
         22 => {
