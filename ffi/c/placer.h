@@ -1,4 +1,5 @@
-/* The placer, for C: builds, merges, folds, replays, plans checked and mended, refusals explained, listings, plan sheets, job files and AIGER files. Link libentries.a, which ffi/library writes (x86-64, Linux).
+/* The placer, for C: builds, also explained, merges, folds, replays, plans checked and mended, listings, plan sheets, job files and AIGER files. Link
+ * libentries.a, which ffi/library writes (x86-64, Linux).
  *
  * Every call returns, whatever numbers it is handed: it answers, or refuses with a number, and each contract says for all of them what is
  * returned and left. The caller checks nothing beforehand. What the caller owes is the memory:
@@ -32,10 +33,10 @@ extern "C" {
 #define PLACER_EMPTY 4294967295u
 
 /* What a call returns. 6 to 9 leave plan and words as empty marks, counts and work 0, and so does 21, which leaves the list as it was; every other
- * refusal leaves everything lent as it was, but for the answer, and for 22 and 24 the work of a plan mended, which is 0. The first that applies is given, in the order 1, 2, 3, 23, 4, 5, 10, 6, then for each stage 9, 7, 8; of a job file 11, then 2; of
- * an AIGER file read 12, 13, 2, 3, 23, 4, and of one written 14, then 2; of a plan sheet read 16, 15, 17, and of one written 15, then 17; a replay has
- * 18, 19, 20, 17 between 5 and 6; a plan checked has 22 after 5, and a replay over a plan has it after 17; a plan mended has 22 after 5, then 24; an
- * explanation has 21 after 5, where its lines, of whatever answer, don't fit. */
+ * refusal leaves everything lent as it was, but for the answer, and for 22 and 24 the work of a plan mended, which is 0. The first that applies is given,
+ * in the order 1, 2, 3, 23, 4, 5, 10, 6, then for each stage 9, 7, 8; of a job file 11, then 2; of an AIGER file read 12, 13, 2, 3, 23, 4, and of one written
+ * 14, then 2; of a plan sheet read 16, 15, 17, and of one written 15, then 17; a replay has 18, 19, 20, 17 between 5 and 6; a plan checked has 22 after 5, and
+ * a replay over a plan has it after 17; a plan mended has 22 after 5, then 24; an explanation has 21 after 5, where its lines, of whatever answer, don't fit. */
 enum placer_refusal {
     PLACER_DONE = 0,          /* not refused */
     PLACER_NO_HEIGHT = 1,     /* the height is not 6 to 13 */

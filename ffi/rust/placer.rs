@@ -1,4 +1,5 @@
-//! The placer, for Rust: builds, merges, folds, replays, plans checked and mended, refusals explained, listings, plan sheets, job files and AIGER files. Link `libentries.a`, which `ffi/library` writes (x86-64, Linux).
+//! The placer, for Rust: builds, also explained, merges, folds, replays, plans checked and mended, listings, plan sheets, job files and AIGER files. Link
+//! `libentries.a`, which `ffi/library` writes (x86-64, Linux).
 //! No crate beyond `core` is needed. Every function takes any numbers and slices, and answers or refuses; none panics.
 //!
 //! A room is the memory of one stage: `stage_size(height)` numbers of the plan and one of the counts. A build fills as many as it has stages.
