@@ -1,5 +1,6 @@
 pub mod Entry
 pub mod Build
+pub mod Explain
 pub mod Depth
 pub mod Merge
 pub mod Fold

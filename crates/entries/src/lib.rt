@@ -3,6 +3,7 @@ mod aiger_entry;
 mod answers;
 mod build_entry;
 mod depth_entry;
+mod explain_entry;
 mod fold_entry;
 mod list_entry;
 mod merge_entry;

@@ -1,19 +1,18 @@
 -- The sizes, what the checks establish, and the answers. Assumes nothing.
-use Prim.Native.Nat.{ℕ, zero, suc, _+_, _-_, _*_, _/_, _%_, _^_, _≤_, _<_}
+use Prim.Native.Nat.{ℕ, zero, suc, _+_, _-_, _*_, _/_, _^_, _≤_, _<_}
 use mathlib.Core.Path.{_≡_, refl, sym, _∙_, ap}
 use mathlib.Core.Bool.{Bool, true, false, _&&_}
 use mathlib.Core.List.{List, _++_}
 use native.Mathlib.Omega.{arith}
-use native.Mathlib.Nat.{mul-le-mul-right, div-mul-le-self}
-use lib.Dec.{leb, eqb}
+use native.Mathlib.Nat.{mul-le-mul-right}
+use lib.Dec.{leb}
 use lib.ListN.{length, take, drop, replicate}
 use lib.Seq.{length-take-le}
 use borrow.Author.Tests.{le-leb, lt-leb, leb-true, eqb-true}
 use Rattle.rules.specs.Lists.{laidOver}
 use Rattle.rules.specs.Cells.{isHeight, rooms}
-use Rattle.rules.specs.Graph.{graphOf, pinCount}
 use Rattle.rules.specs.Checks.{planSized, refusalOf, pinShown}
-use Rattle.rules.specs.Faults.{Fault, faultless, faultAt, fault}
+use Rattle.rules.specs.Faults.{faultless, faultAt, fault}
 use Rattle.rules.proofs.Lists.Members.{split, and-true}
 use Rattle.rules.proofs.Lists.Parts.{part-laid, divides}
 use Rattle.cells.specs.Answers.{orZero}
@@ -25,16 +24,15 @@ use Rattle.checks.specs.Passed.{Passed}
 use Rattle.checks.proofs.Laws.Passed.{passed}
 use Rattle.placer_start.specs.declared.reservation.Count.{Count}
 use Rattle.plan_check.specs.declared.stages.Place.{Place}
-use Rattle.plan_check.specs.Room.{RoomAt, RoomCounted}
 use Rattle.plan_check.specs.Stages as check
-use Rattle.plan_check.specs.Stages.{faultFor, PlanHere}
+use Rattle.plan_check.specs.Stages.{faultFor}
 use Rattle.plan_check.specs.Answers.{planFits}
 use Rattle.plan_check.proofs.Laws.Loads.{high}
 use Rattle.plan_check.proofs.Laws.Answers.{height-first}
 use Rattle.mending.specs.Changes.{changes, numbersOf}
 use Rattle.mending.specs.Call.{answer, rebuilt, listed, tested, mending, mender}
 use Rattle.mending.proofs.Listed.{four-each}
-use Rattle.mend_list.specs.Lists.{CountAt, Counted, WriteAt}
+use Rattle.mend_list.specs.Lists.{Counted, WriteAt}
 use Rattle.mend_plan.specs.Plans as plans
 use Rattle.mend.specs.declared.Answer.{Answer}
 use Rattle.mend.specs.Calls.{mendFits, outcome, Ready, SettleAt, Settles, JudgeAt, Rebuilds, Judges, MendAt, Mends}
@@ -64,9 +62,6 @@ module _ (K plan counts work n : ℕ) (t : Bool) (et : t ≡ isHeight K && planF
 -- ---- the list, and the plan
 
 module _ (K : ℕ) (plan made list : List ℕ) (A : SettleAt K plan made) where
-  pub count-at : CountAt plan made
-  count-at = record { same = A .same }
-
   module _ (n : ℕ) (C : Counted plan made n) where
     module _ (r : Answer) (q : Pin) (z : q .0 ≡ 0) where
       -- the list is too short
@@ -112,10 +107,6 @@ module _ (K : ℕ) (gates given records plan words counts : List ℕ) (n : ℕ) 
     named = A .ready .named;
   }
 
-  -- the plan may be checked
-  pub check-at : check.PlanAt K gates given records plan counts n count
-  check-at = checkable plan refl
-
   module _ (list : List ℕ) (p : Place) (S : check.PlanSays K gates given records plan words counts n p) where
     -- it has no fault
     pub judge-none : p .wrong ≡ false → (r : Answer) (q : Pin) → q .0 ≡ 0 → r ≡ record { number = 0; stage = 0; position = 0; pin = q; count = 0 } → Judges K gates given records plan words counts n list plan list r
@@ -128,10 +119,6 @@ module _ (K : ℕ) (gates given records plan words counts : List ℕ) (n : ℕ) 
     judge-fault e plan′ list′ r R = record { is = λ work. let f : fault K gates given records plan words counts n ≡ faultAt (p .stage) (p .position) = sym (S .is) ∙ fault-wrong p e in R .is work ∙ rw (f, mending) }
 
   module _ (made₁ : List ℕ) (e₁ : made₁ ≡ plan) where
-    -- the copy may be mended
-    pub mend-at : plans.PlanAt K gates given made₁ n
-    mend-at = record { tall = A .ready .here .tall; graph = record { pins = A .ready .here .pins; valid = A .ready .valid }; named = A .ready .named; room = rw e₁ (A .ready .here .stages) }
-
     module _ (made₂ : List ℕ) (P : plans.PlanSays K gates given made₁ n made₂) where
       made-is : made₂ ≡ rebuilt K gates given plan words counts n
       made-is = rw e₁ at (P .is words counts)
@@ -161,12 +148,6 @@ module _ (K : ℕ) (gates given records plan words counts : List ℕ) (n : ℕ) 
 -- ---- the part of the work area
 
 module _ (K : ℕ) (gates given records plan words counts : List ℕ) (n : ℕ) (list made : List ℕ) (A : MendAt K gates given records plan counts n made) where
-  pub room-at : RoomAt gates records
-  room-at = record { right = A .ready .right; few = A .ready .here .pins }
-
-  pub judge-at : (count : Count) → RoomCounted records count → JudgeAt K gates given records plan counts n count made
-  judge-at count C = record { ready = A .ready; counted = C; same = A .same }
-
   pub mends : (plan′ list′ : List ℕ) (r : Answer) → Judges K gates given records plan words counts n list plan′ list′ r → (x made′ : List ℕ) → made′ ≡ replicate (length x) 0 → length x ≡ length made → Mends K gates given records plan words counts n list made plan′ list′ made′ r
   mends plan′ list′ r J x made′ e l = record { judges = J; zero = rw l at e }
 

@@ -2,7 +2,6 @@
 use Prim.Native.Nat.{ℕ}
 use mathlib.Core.Path.{_≡_, sym, ap, _∙_}
 use mathlib.Core.List.{List}
-use Rattle.graph.specs.declared.Pin.{Pin}
 use Rattle.mending.specs.Call.{Outcome}
 use Rattle.mend.specs.declared.Answer.{Answer}
 use Rattle.mend.specs.Calls.{outcome}

@@ -7,15 +7,15 @@ use native.Mathlib.Omega.{arith}
 use native.Mathlib.Numerals.{add-one}
 use lib.Dec.{ltb, eqb}
 use lib.ListN.{length, getD, set, length-set, replicate, length-replicate, List·getD-eq-default, getD-replicate}
-use lib.Seq.{getD-set-same, getD-set-other, set-getD, set-out}
+use lib.Seq.{getD-set-same, getD-set-other, set-getD}
 use borrow.Author.Tests.{ltb-true, ltb-false}
-use Rattle.rules.specs.Lists.{mem, In}
+use Rattle.rules.specs.Lists.{mem}
 use Rattle.rules.specs.Graph.{Node, leaf, gate, pinOf, operands, below, graphOf, pinCount}
 use Rattle.rules.specs.Traversal.{over}
 use Rattle.rules.specs.Depth.{depth}
 use Rattle.rules.specs.Loops.{Valid}
 use Rattle.rules.specs.Inside.Walks.{rank}
-use Rattle.rules.proofs.Lists.Members.{split, eqb-true, eqb-false, in-here, in-there}
+use Rattle.rules.proofs.Lists.Members.{split, eqb-true, eqb-false}
 use Rattle.rules.proofs.Walk.Levels.{depth-at, over-least}
 use Rattle.rules.proofs.Needed.Needs.{falls-always}
 use Rattle.rules.proofs.Demand.{graph, graph-few}
@@ -229,7 +229,7 @@ module _ (K : ℕ) (gates marks levels : List ℕ) (A : LevelsAt K gates levels)
     capped-levels : ((stop : List ℕ) → Stops stop marks → Between (graphOf gates) stop cap now) → Levelled K (graphOf gates) marks levels now
     capped-levels B = record {
       len = omega (arith, R .len);
-      each = λ stop S n. omega (arith, R .capped n, B stop S .least n, B stop S .most n, depth-min (graphOf gates) stop cap (length (graphOf gates)) n);
+      tells = λ stop S. record { each = λ n. omega (arith, R .capped n, B stop S .least n, B stop S .most n, depth-min (graphOf gates) stop cap (length (graphOf gates)) n) };
     }
 
     pub risen-all : cap ≤ r → Levelled K (graphOf gates) marks levels now

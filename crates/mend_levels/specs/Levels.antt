@@ -42,6 +42,9 @@ pub record LevelsAt (K : ℕ) (gates levels : List ℕ) : Type 0 where
   pub at : PassAt gates levels
 
 -- each pin's level, K + 1 for any above K
+pub record Tells (K : ℕ) (g : List Node) (stop levels : List ℕ) : Type 0 where
+  pub each : (n : ℕ) → getD levels n 0 ≡ min (levelIn g stop n) (K + 1)
+
 pub record Levelled (K : ℕ) (g : List Node) (marks levels levels′ : List ℕ) : Type 0 where
   pub len : length levels′ ≡ length levels
-  pub each : (stop : List ℕ) → Stops stop marks → (n : ℕ) → getD levels′ n 0 ≡ min (levelIn g stop n) (K + 1)
+  pub tells : (stop : List ℕ) → Stops stop marks → Tells K g stop levels′

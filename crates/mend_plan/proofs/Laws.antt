@@ -2,20 +2,18 @@
 use Prim.Native.Nat.{ℕ, zero, suc, _+_, _-_, _*_, _^_, _≤_, _<_}
 use mathlib.Core.Path.{_≡_, refl, sym, _∙_, ap}
 use mathlib.Core.Logic.{inl, inr}
-use mathlib.Core.Bool.{Bool, true, false}
+use mathlib.Core.Bool.{false}
 use mathlib.Core.List.{List, [], _∷_, _++_, append-assoc}
 use native.Mathlib.Omega.{arith}
 use native.Mathlib.Nat.{suc-mul, mul-le-mul-right}
 use native.Mathlib.Numerals.{add-one}
-use lib.Dec.{ltb}
 use lib.ListN.{length, getD, take, drop, length-append, length-drop, length-take, take-append-drop, replicate, length-replicate}
 use lib.Seq.{length-take-le, take-at, drop-at, drop-drop}
-use borrow.Author.Tests.{ltb-true, ltb-false}
-use Rattle.rules.specs.Lists.{mem, keep, distinct, In, Out, laidOver}
+use Rattle.rules.specs.Lists.{mem, In, Out, laidOver}
 use Rattle.rules.specs.Cells.{isHeight, filled}
-use Rattle.rules.specs.Graph.{Node, graphOf, pinCount}
-use Rattle.rules.specs.Coded.{cellPin, pins}
-use Rattle.rules.specs.Build.{Stage, cellsOf}
+use Rattle.rules.specs.Graph.{Node, graphOf}
+use Rattle.rules.specs.Coded.{pins}
+use Rattle.rules.specs.Build.{cellsOf}
 use Rattle.rules.specs.Faults.{cut}
 use Rattle.rules.proofs.Lists.Members.{split, true-false, in-here, in-there, in-append, in-append-left, in-append-right, in-keep, keep-in, in-distinct, distinct-in}
 use Rattle.rules.proofs.Lists.Parts.{map-take, map-drop}
@@ -24,13 +22,13 @@ use Rattle.cells.proofs.Heights.{orZero-true, tall-height}
 use Rattle.coded.proofs.Cells.{small-filled, pin-plain}
 use Rattle.plan_check_stage.specs.Cells.{High}
 use Rattle.plan_check_stage.specs.Marks.{marked, Marks}
-use Rattle.plan_check_stage.proofs.Laws.Marks.{mark-past, mark-in, mark-out}
+use Rattle.plan_check_stage.proofs.Laws.Marks.{mark-in, mark-out}
 use Rattle.mending.specs.Mend.{mendStage, heldPins, stopAfter, mendStages}
 use Rattle.mending.specs.Call.{rebuilt}
 use Rattle.mending.proofs.Rebuilt.{length-mended}
 use Rattle.mend_levels.specs.Levels.{Stops, LevelsAt, Levelled}
-use Rattle.mend_stage.specs.Stages.{Tells, StageAt, StageSays}
-use Rattle.mend_plan.specs.Plans.{Graphed, Lent, OneAt, OneSays, mendPlan, AllAt, AllSays, PlanAt, PlanSays}
+use Rattle.mend_stage.specs.Stages.{StageSays}
+use Rattle.mend_plan.specs.Plans.{OneAt, OneSays, mendPlan, AllAt, AllSays, PlanAt, PlanSays}
 
 -- ---- sizes, as the code gets them
 
@@ -73,10 +71,6 @@ module _ (K : ℕ) (gates cells stop levels fixed : List ℕ) (A : OneAt K gates
   pub levels-at : LevelsAt K gates levels
   levels-at = record { high = tall-height K (A .lent .tall .height) .high; at = record { pins = A .lent .graph .pins; size = A .lent .levelled; valid = A .lent .graph .valid } }
 
-  -- the cells may be mended
-  pub stage-at : StageAt K gates cells fixed
-  stage-at = record { pins = A .lent .graph .pins; some = omega (arith, A .lent .tall .double, A .lent .tall .low); high = omega (arith, A .lent .tall .double, A .lent .tall .high); size = A .size; room = A .lent .fixing }
-
   module _ (levels′ : List ℕ) (L : Levelled K (graphOf gates) stop levels levels′) (cells′ : List ℕ) (S : StageSays K (graphOf gates) levels′ cells cells′) (w : ℕ) (ew : w ≡ orZero (isHeight K) (2 ^ K)) where
     -- those above level 0 are there
     pub part-inside : (1 ≤ w) × (w ≤ length cells′)
@@ -87,7 +81,7 @@ module _ (K : ℕ) (gates cells stop levels fixed : List ℕ) (A : OneAt K gates
     one-says stop′ M = record {
       len = S .len;
       marks-len = M .len;
-      is = λ st T. S .is st (record { each = L .each st T });
+      is = λ st T. S .is st (L .tells st T);
       stops = stops-after K cells′ stop stop′ (A .lent .marked) w (width-is (A .lent .tall) ew) M;
     }
 

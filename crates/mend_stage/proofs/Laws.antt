@@ -1,16 +1,15 @@
 -- A cell by what the code tests, and a stage as far as it is mended. Assumes nothing.
-use Prim.Native.Nat.{ℕ, zero, suc, _+_, _-_, _^_, _≤_, _<_, min}
+use Prim.Native.Nat.{ℕ, zero, suc, _+_, _-_, _≤_, _<_}
 use mathlib.Core.Path.{_≡_, refl, sym, _∙_, ap}
 use mathlib.Core.Logic.{_⊎_, inl, inr}
-use mathlib.Core.Bool.{Bool, true, false}
+use mathlib.Core.Bool.{true, false}
 use mathlib.Core.List.{List, [], _∷_, _++_, append-assoc, append-nil}
 use native.Mathlib.Omega.{arith}
 use native.Mathlib.Numerals.{add-one}
-use lib.Dec.{ltb, eqb}
 use lib.ListN.{length, getD, set, take, drop, length-set, replicate, length-replicate, drop-of-length-le}
 use lib.Seq.{drop-cons, take-suc-set, drop-set-lt, take-all}
 use borrow.Author.Tests.{lt-ltb, le-ltb, eq-eqb, ne-eqb}
-use Rattle.rules.specs.Cells.{empty, filled, levelOf, firstLower, secondLower}
+use Rattle.rules.specs.Cells.{empty, levelOf, firstLower, secondLower}
 use Rattle.rules.specs.Graph.{Node, leaf, gate, pinOf, inversionOf, graphOf, pinCount}
 use Rattle.rules.specs.Coded.{cellPin, andOf, andCell}
 use Rattle.rules.proofs.Lists.Members.{split}
@@ -20,10 +19,11 @@ use Rattle.cell.proofs.Cells.{mark-empty, other-filled}
 use Rattle.coded.proofs.InPlace.{default-same}
 use Rattle.mending.specs.Mend as rules
 use Rattle.mending.specs.Mend.{levelIn, kept, stands, copies, joins, same, fitting, pinFor, inGraph, pinDeed, deed, mended, fixing, mendFrom, nothingFixed, mendStage}
+use Rattle.mend_levels.specs.Levels.{Tells}
 use Rattle.mending.proofs.Deeds.{in-graph, graph-in, deed-kept, for-fixed, for-free}
 use Rattle.mend_stage.specs.declared.Deed.{Deed}
-use Rattle.mend_stage.specs.declared.Deed.the-variants.{Kept, Stands, Copies, Joins}
-use Rattle.mend_stage.specs.Stages.{deedFor, deedPin, Tells, DeedAt, DeedSays, StageAt, StageSays}
+use Rattle.mend_stage.specs.declared.Deed.the-variants.{Kept, Copies}
+use Rattle.mend_stage.specs.Stages.{deedFor, deedPin, DeedAt, DeedSays, StageAt, StageSays}
 
 -- ---- a cell's pin
 
@@ -179,10 +179,6 @@ unfolding mendFrom deed
 mend-step K g stop p c f fx cs e = rw (mendFrom, e)
 
 module _ (K : ℕ) (gates levels cells fixed : List ℕ) (A : StageAt K gates cells fixed) where
-  -- the pins may be looked at
-  pub deed-at : DeedAt gates
-  deed-at = record { pins = A .pins }
-
   -- position 0 is no cell
   pub mended-none : (fx : List ℕ) → fx ≡ replicate (length fixed) 4294967295 → MendedTo K (graphOf gates) levels cells 1 cells fx
   unfolding nothingFixed empty

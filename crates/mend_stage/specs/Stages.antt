@@ -1,11 +1,12 @@
 -- What is asked and said of a stage that is mended. Assumes nothing.
-use Prim.Native.Nat.{ℕ, _+_, _^_, _≤_, _<_, min}
+use Prim.Native.Nat.{ℕ, _+_, _^_, _≤_, _<_}
 use mathlib.Core.Path.{_≡_}
 use mathlib.Core.List.{List}
-use lib.ListN.{length, getD}
+use lib.ListN.{length}
 use Rattle.rules.specs.Graph.{Node, pinCount}
 use Rattle.mending.specs.Mend as rules
-use Rattle.mending.specs.Mend.{levelIn, kept, stands, copies, joins, pinDeed, mendStage}
+use Rattle.mending.specs.Mend.{kept, stands, copies, joins, pinDeed, mendStage}
+use Rattle.mend_levels.specs.Levels.{Tells}
 use Rattle.mend_stage.specs.declared.Deed.{Deed}
 use Rattle.mend_stage.specs.declared.Deed.the-variants.{Kept, Stands, Copies, Joins}
 
@@ -22,10 +23,6 @@ deedPin kept = 0
 deedPin (stands n) = n
 deedPin (copies n) = n
 deedPin (joins n a b) = n
-
--- each pin's level, K + 1 for any above K
-pub record Tells (K : ℕ) (g : List Node) (stop levels : List ℕ) : Type 0 where
-  pub each : (n : ℕ) → getD levels n 0 ≡ min (levelIn g stop n) (K + 1)
 
 pub record DeedAt (gates : List ℕ) : Type 0 where
   pub pins : pinCount gates ≤ 65536

@@ -6,7 +6,12 @@ use lib.ListN.{length, getD}
 use Rattle.rules.specs.Lists.{count, padded}
 use Rattle.rules.specs.Cells.{empty, filled, wordLimit, rowAt, stageSize}
 use Rattle.rules.specs.Graph.{Node, graphOf}
-use Rattle.rules.specs.Traversal.{WordRule}
+use Rattle.rules.specs.Traversal.{WordRule, Setting, setting}
+use Rattle.rules.specs.Placing.{filledPlan}
+use Rattle.rules.specs.Ending as ending
+use Rattle.rules.specs.Ending.{oneStage}
+use Rattle.rules.specs.Capacity.{onesThen, needsLeft}
+use Rattle.rules.specs.States.{state, afterFrom}
 use Rattle.rules.specs.Build as rules
 use Rattle.rules.specs.Inside.Walks.{rank, Ready}
 use Rattle.rules.specs.Loops.{Valid}
@@ -16,6 +21,7 @@ use Rattle.columns.specs.Lists.{Marks, Clear, Placed}
 use Rattle.stage_runs.specs.declared.WordRule.{WordRule as Asked}
 use Rattle.stage_runs.specs.Rule.{ruleOf}
 use Rattle.stage_walk.specs.Stands.{Fresh}
+use Rattle.stage_notes.specs.Notes.{notes, stageNotes}
 use Rattle.placer.specs.declared.Answer.{Answer}
 use Rattle.placer.specs.Answers.{told}
 
@@ -63,6 +69,7 @@ pub record Underway (C : Course) (m k at n : ℕ) (pl ws cs w : List ℕ) : Type
   pub ss : List rules.Stage
   pub done : List ℕ
   pub waiting : List ℕ
+  pub reached : afterFrom (C .rule) (C .K) (C .g) k (C .given) (C .waiting) (C .room) ≡ state done waiting (C .room - at)
   pub same : answer C ≡ rules.before ss (rules.stages (C .rule) (C .K) (C .g) (C .rooms - k) (suc k) done waiting (C .room - at))
   pub ready : Ready (C .g) (rank (C .g)) waiting
   pub count : length ss ≡ k
@@ -92,11 +99,24 @@ pub record OneAt (C : Course) (m K half : ℕ) (asked : Asked) (k n at room : �
   pub waits : 0 < n
   pub more : k < C .rooms
 
+-- what a stage tells: the pins taken back are noted in the tail; refused, with 7 the words wanted, with 8 the level-1 cells filled and the needed
+-- pins left where rule 9 starts
+pub record StageTold (X : Setting) (m room : ℕ) (w : List ℕ) (number written cells n : ℕ) (w′ : List ℕ) : Type 0 where
+  pub noted : notes m w′ ≡ stageNotes X (notes m w)
+  pub refused : 0 < number → oneStage (X .rule) (X .K) (X .g) (X .done) (X .waiting) room ≡ ending.refused number
+  pub seven : number ≡ 7 → written ≡ length (ending.written X (filledPlan X) .words)
+  pub ones : number ≡ 8 → cells ≡ onesThen X (filledPlan X)
+  pub needs : number ≡ 8 → n ≡ needsLeft X (filledPlan X)
+  pub few : 0 < number → written ≤ 128
+  pub small : 0 < number → cells + n ≤ 131072
+
 pub record One (C : Course) (m k at : ℕ) (pl ws cs w : List ℕ) (number written cells n : ℕ) (pl′ ws′ cs′ w′ : List ℕ) : Type 0 where
   pub kept : Kept pl ws cs w pl′ ws′ cs′ w′
   pub refused : 0 < number → answer C ≡ rules.refusal number (suc k)
   pub on : number ≡ 0 → Underway C m (suc k) (at + written) n pl′ ws′ cs′ w′
   pub more : number ≡ 0 → count filled pl′ ≡ count filled pl + cells
+  pub told : (done waiting : List ℕ) (room : ℕ) → afterFrom (C .rule) (C .K) (C .g) k (C .given) (C .waiting) (C .room) ≡ state done waiting room →
+      StageTold (setting (C .rule) (C .K) (C .g) done waiting) m room w number written cells n w′
 
 -- ---- from stage k + 1 on
 

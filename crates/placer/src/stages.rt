@@ -14,7 +14,7 @@ ghost use Rattle.rules.specs.Inside.Some.{Some, Every};
 ghost use Rattle.placer.specs.Stages.{OneAt, One, StagesAt, Ran};
 
 // Stage k + 1, in its own part of the plan, for n waiting pins and the words that the tally leaves.
-fn next_stage(
+pub fn next_stage(
     gates: &[u32],
     plan: &mut [u32],
     words: &mut [u32],

@@ -60,6 +60,9 @@ pub const NOT_DRIVEN: u32 = 19;
 // Driven pins, starting bits or recording are not of the length stated.
 pub const WRONG_LENGTH: u32 = 20;
 
+// The list for the lines of an explanation is too short.
+pub const SHORT_LINES: u32 = 21;
+
 // A plan made elsewhere has a fault.
 pub const WRONG_PLAN: u32 = 22;
 

@@ -2,15 +2,16 @@
 use Prim.Native.Nat.{ℕ, suc, _+_, _-_, _*_, _≤_, _<_}
 use mathlib.Core.Path.{_≡_}
 use mathlib.Core.Logic.{_≢_}
+use mathlib.Core.Bool.{not, _||_}
 use mathlib.Core.List.{List, []}
 use lib.ListN.{length}
-use Rattle.rules.specs.Lists.{count}
+use Rattle.rules.specs.Lists.{mem, count}
 use Rattle.rules.specs.Cells.{filled, levelOneSize, wordLimit, row}
 use Rattle.rules.specs.Graph.{Node}
 use Rattle.rules.specs.Records.{Group}
 use Rattle.rules.specs.Reservation.{memories, duplicates, reserved}
 use Rattle.rules.specs.Traversal.{WordRule, Setting, setting}
-use Rattle.rules.specs.Placing.{neededOf, filledPlan}
+use Rattle.rules.specs.Placing.{tree, neededOf, filledPlan}
 use Rattle.rules.specs.Ending.{written}
 use Rattle.rules.specs.Build.{wordsOf}
 use Rattle.rules.specs.States.{state, after, firstStages}
@@ -23,6 +24,14 @@ pub data ReservationOver (K : ℕ) (groups : List Group) : Type 0 where
 -- the level-1 cells filled plus the needed pins of a plan
 unfoldable pub crowd : Setting → List ℕ → ℕ
 crowd X pl = count filled (row (X .K) 1 pl) + length (neededOf X pl)
+
+-- the same where rule 9 starts: the level-1 cells filled, and the needed pins left, which are neither realised nor in the tree. Their sum is the
+-- crowd of rules 2 to 7's plan (proofs/Stage/Crowd.antt)
+unfoldable pub onesThen : Setting → List ℕ → ℕ
+onesThen X pl = count filled (row (X .K) 1 (written X pl .plan))
+
+unfoldable pub needsLeft : Setting → List ℕ → ℕ
+needsLeft X pl = count (λ p. not (mem p (written X pl .real) || mem p (tree (X .K) (written X pl .plan)))) (neededOf X pl)
 
 -- a stage with the plan of rules 2 to 7, where `spent` words are written in the stages before it. 7: with what rule 8 writes they exceed the
 -- limit. 8: they don't, and the level-1 cells filled plus the needed pins are at least 2^(K-1)

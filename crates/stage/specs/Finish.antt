@@ -5,9 +5,10 @@ use Prim.Native.Nat.{ℕ, _+_, _*_, _^_, _<_, _≤_}
 use lib.ListN.{length, getD}
 use Rattle.rules.specs.Lists.{found, count, laidAt, In}
 use Rattle.rules.specs.Cells.{filled, rowAt, row, firstEmpty}
-use Rattle.rules.specs.Traversal.{levelAt}
+use Rattle.rules.specs.Traversal.{Setting, levelAt}
 use Rattle.rules.specs.Placing.{tree, neededOf}
 use Rattle.rules.specs.Ending.{plan, Stage?, refused, stage, close, inNeed, lastStage, written, rest, finish}
+use Rattle.rules.specs.Capacity.{crowd, onesThen, needsLeft}
 use Rattle.rules.specs.Inside.Plans.{Fair}
 use Rattle.columns.specs.Fields.{ORDER, DONE, LEVEL, WAITING, CELLS, REVERSE, NEEDED, LISTED, STACK, PHASE, PLACE, MARK, SPARE, TAIL}
 use Rattle.columns.specs.Area.{Room, Frame}
@@ -35,10 +36,10 @@ pub record FinishAt (C : Context) (m K half o n q : ℕ) (asked : Asked) (at roo
   pub fits : at + room ≤ length words
   pub small : length words < 2 ^ 63
 
--- only the columns fs, the tail's first numbers, the stage and `room` words behind `at` changed
-pub record Changed (fs : List ℕ) (m at room : ℕ) (pl w words pl′ w′ words′ : List ℕ) : Type 0 where
+-- only the columns fs, the tail's numbers before `to`, the stage and `room` words behind `at` changed
+pub record Changed (fs : List ℕ) (to m at room : ℕ) (pl w words pl′ w′ words′ : List ℕ) : Type 0 where
   pub frame : Frame fs m w w′
-  pub past : (j : ℕ) → 259 ≤ j → getD w′ (16 * m + j) 0 ≡ getD w (16 * m + j) 0
+  pub past : (j : ℕ) → to ≤ j → getD w′ (16 * m + j) 0 ≡ getD w (16 * m + j) 0
   pub size : length pl′ ≡ length pl
   pub len : length words′ ≡ length words
   pub before : (i : ℕ) → i < at → getD words′ i 0 ≡ getD words i 0
@@ -63,18 +64,21 @@ pub record Whole (C : Context) (m at room : ℕ) (s : Stage?) (words : List ℕ)
 abbrev pub touched : List ℕ
 touched = DONE ∷ LEVEL ∷ WAITING ∷ CELLS ∷ REVERSE ∷ LISTED ∷ STACK ∷ PHASE ∷ PLACE ∷ MARK ∷ SPARE ∷ TAIL ∷ []
 
--- what refuses the stage; no words, waiting pins or cells are told
-pub record Refuses (s : Stage?) (e : Outcome) : Type 0 where
+-- what refuses the stage s, pl being the plan of rules 2 to 7. 7: the words wanted. 8: the level-1 cells filled and the needed pins left where
+-- rule 9 starts
+pub record Refuses (X : Setting) (pl : List ℕ) (s : Stage?) (e : Outcome) : Type 0 where
   pub is : s ≡ refused (e .number)
-  pub words : e .words ≡ 0
-  pub waiting : e .waiting ≡ 0
-  pub cells : e .cells ≡ 0
+  pub seven : e .number ≡ 7 → e .words ≡ length (written X pl .words)
+  pub ones : e .number ≡ 8 → e .cells ≡ onesThen X pl
+  pub needs : e .number ≡ 8 → e .waiting ≡ needsLeft X pl
+  pub few : e .words ≤ 128
+  pub small : e .cells + e .waiting ≤ 131072
 
--- s is the stage, and what the walks wrote at its pins is gone; or what refuses it
-pub record Finished (C : Context) (m at room : ℕ) (s : Stage?) (pl w words : List ℕ) (e : Outcome) (pl′ w′ words′ : List ℕ) : Type 0 where
-  pub changed : Changed touched m at room pl w words pl′ w′ words′
-  pub refuses : 0 < e .number → Refuses s e
-  pub whole : e .number ≡ 0 → Whole C m at room s words e pl′ w′ words′
+-- the stage of rules 2 to 7's plan pl₀, and what the walks wrote at its pins is gone; or what refuses it
+pub record Finished (C : Context) (m at room : ℕ) (pl₀ pl w words : List ℕ) (e : Outcome) (pl′ w′ words′ : List ℕ) : Type 0 where
+  pub changed : Changed touched 259 m at room pl w words pl′ w′ words′
+  pub refuses : 0 < e .number → Refuses (C .X) pl₀ (finish (C .X) room pl₀) e
+  pub whole : e .number ≡ 0 → Whole C m at room (finish (C .X) room pl₀) words e pl′ w′ words′
   pub gone : e .number ≡ 0 → Gone m (C .X .order) w w′
 
 -- ---- between the rules: pl is the plan before rule 8, pl′ the one that stands
@@ -101,13 +105,16 @@ pub record Midway (C : Context) (pl : List ℕ) (m K half o n at room : ℕ) (s 
   pub fits : at + room ≤ length words
   pub small : length words < 2 ^ 63
 
--- before rule 9
-pub record RestingAt (C : Context) (pl : List ℕ) (m K half o n q at room : ℕ) (s : Spent) (gates pl′ w words : List ℕ) : Type 0 where
+-- before rule 9; `many` is the crowd of the plan before rule 8
+pub record RestingAt (C : Context) (pl : List ℕ) (m K half o n q many at room : ℕ) (s : Spent) (gates pl′ w words : List ℕ) : Type 0 where
   pub mid : Midway C pl m K half o n at room s pl′ w words
   pub stands : Standing C m 1 gates pl′ w
   pub is-plan : pl′ ≡ written (C .X) pl .plan
   pub list : Holds NEEDED m q (neededOf (C .X) pl) w
   pub pins : (x : ℕ) → In x (neededOf (C .X) pl) → In x (C .X .seen) × (levelAt (C .X) x ≤ 1)
+  pub crowded : many ≡ crowd (C .X) pl
+  pub long : 2 ^ (C .X .K) ≤ length pl
+  pub few : many ≤ 131072
 
 -- before rule 10: test 8 is passed
 pub record LastingAt (C : Context) (pl : List ℕ) (m K half o n at room : ℕ) (s : Spent) (pl′ w words : List ℕ) : Type 0 where
@@ -131,5 +138,5 @@ pub record Lasting (C : Context) (pl : List ℕ) (m at room : ℕ) (s : Spent) (
 
 -- after rule 11, or a refusal
 pub record Ends (C : Context) (pl : List ℕ) (m at room : ℕ) (s : Spent) (pl′ w words : List ℕ) (e : Outcome) (pl″ w′ words′ : List ℕ) : Type 0 where
-  pub finished : Finished C m at room (finish (C .X) room pl) pl′ w words e pl″ w′ words′
+  pub finished : Finished C m at room pl pl′ w words e pl″ w′ words′
   pub longer : e .number ≡ 0 → s .words ≤ e .words

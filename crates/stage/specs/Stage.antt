@@ -4,6 +4,7 @@ use mathlib.Core.List.{List, [], _∷_}
 use Prim.Native.Nat.{ℕ, _+_, _*_, _^_, _<_, _≤_}
 use lib.ListN.{length, getD}
 use Rattle.rules.specs.Cells.{rowAt}
+use Rattle.rules.specs.Placing.{filledPlan}
 use Rattle.rules.specs.Inside.Lean as lean
 use Rattle.rules.specs.Ending.{Stage?, oneStage}
 use Rattle.columns.specs.Fields.{ORDER, DONE, LEVEL, WAITING, CELLS, RANKED, STARTS, ENDS, REVERSE, NEEDED, LISTED, STACK, PHASE, PLACE, MARK, SPARE, TAIL}
@@ -11,6 +12,7 @@ use Rattle.columns.specs.Lists.{Clear}
 use Rattle.stage_runs.specs.declared.WordRule.{WordRule as Asked}
 use Rattle.stage_walk.specs.Stands.{Context, Begun, Fresh}
 use Rattle.stage_runs.specs.Rule.{ruleOf}
+use Rattle.stage_notes.specs.Notes.{NOTES, NOTED, notes, stageNotes}
 use Rattle.stage.specs.declared.finish.Outcome.{Outcome}
 use Rattle.stage.specs.Finish.{Changed, Refuses, Whole}
 
@@ -35,9 +37,10 @@ columns = ORDER ∷ DONE ∷ LEVEL ∷ WAITING ∷ CELLS ∷ RANKED ∷ STARTS �
 unfoldable pub built : Context → ℕ → Stage?
 built C room = oneStage (C .X .rule) (C .X .K) (C .X .g) (C .X .done) (C .X .waiting) room
 
--- after a whole stage the next one finds what this one found
+-- after a whole stage the next one finds what this one found; the pins taken back are noted in the tail
 pub record Staged (C : Context) (m at room : ℕ) (pl w words : List ℕ) (e : Outcome) (pl′ w′ words′ : List ℕ) : Type 0 where
-  pub changed : Changed columns m at room pl w words pl′ w′ words′
-  pub refuses : 0 < e .number → Refuses (built C room) e
+  pub changed : Changed columns (NOTES + NOTED) m at room pl w words pl′ w′ words′
+  pub told : notes m w′ ≡ stageNotes (C .X) (notes m w)
+  pub refuses : 0 < e .number → Refuses (C .X) (filledPlan (C .X)) (built C room) e
   pub whole : e .number ≡ 0 → Whole C m at room (built C room) words e pl′ w′ words′
   pub fresh : e .number ≡ 0 → Fresh m w′

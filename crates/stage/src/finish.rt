@@ -1,6 +1,7 @@
 // Rules 8 to 11 in order after the loop of rules 2 to 7, with tests 7 and 8. m = N + 1; o pins are listed, n wait, q are needed; the words go behind `at`, where there is `room` for so many.
 use cells::Height;
 use columns::FILLED;
+use columns::ONES;
 use columns::tail_get;
 use refusals::NO_CELL;
 use refusals::OVER_WORDS;
@@ -17,12 +18,12 @@ use stage_tally::left;
 use stage_tally::spend;
 ghost use Rattle.stage_tally.specs.Spending.{room, Counted};
 ghost use Rattle.rules.specs.Cells.{rowAt};
-ghost use Rattle.rules.specs.Ending as rules;
 ghost use Rattle.rules.specs.Inside.Some.{Some, Every};
 ghost use Rattle.stage_walk.specs.Stands.{SomePlan, EveryPlan};
 ghost use Rattle.stage.specs.Finish.{FinishAt, Finished, RestingAt, LastingAt, Lasting, Ends};
 
-// 0, or the number that refuses the stage; for 0 how many words it has, how many pins wait then and how many cells those kept filled.
+// 0, or the number that refuses the stage. For 0 how many words it has, how many pins wait then and how many cells those kept filled. For 7 the words
+// wanted; for 8 the level-1 cells filled and the needed pins left, where rule 9 starts.
 pub struct Outcome {
     pub number: u32,
     pub words: usize,
@@ -83,7 +84,7 @@ fn finish_last(
     }
 }
 
-// Rule 9, test 8 and the rest.
+// Rule 9, test 8 and the rest. `many` level-1 cells and needed pins together there were before rule 8.
 fn finish_rest(
     gates: &[u32],
     stage: &mut [u32],
@@ -94,21 +95,23 @@ fn finish_rest(
     o: usize,
     n: usize,
     q: usize,
+    many: usize,
     at: usize,
     room: usize,
     s: Spent,
 ) -> Outcome
-    requires { ⌜ SomePlan (λ C pl. RestingAt C pl m (height .0) (rowAt (height .0) 1) o n q at room s (now gates) (now stage) (now work) (now words)) ⌝ }
-    ensures { λ r. ⌜ EveryPlan (λ C pl. RestingAt C pl m (height .0) (rowAt (height .0) 1) o n q at room s (now (gates .entry)) (now (stage .entry)) (now (work .entry)) (now (words .entry))) (λ C pl. Ends C pl m at room s (now (stage .entry)) (now (work .entry)) (now (words .entry)) r (now (stage .exit)) (now (work .exit)) (now (words .exit))) ⌝ }
+    requires { ⌜ SomePlan (λ C pl. RestingAt C pl m (height .0) (rowAt (height .0) 1) o n q many at room s (now gates) (now stage) (now work) (now words)) ⌝ }
+    ensures { λ r. ⌜ EveryPlan (λ C pl. RestingAt C pl m (height .0) (rowAt (height .0) 1) o n q many at room s (now (gates .entry)) (now (stage .entry)) (now (work .entry)) (now (words .entry))) (λ C pl. Ends C pl m at room s (now (stage .entry)) (now (work .entry)) (now (words .entry)) r (now (stage .exit)) (now (work .exit)) (now (words .exit))) ⌝ }
 {
+    let ones = tail_get(work, m, ONES);
     if fill_rest(gates, stage, work, m, height.level_one_size(), q) {
         return finish_last(stage, work, words, m, height, o, n, at, room, s);
     }
     Outcome {
         number: NO_CELL,
         words: 0,
-        waiting: 0,
-        cells: 0,
+        waiting: many - ones,
+        cells: ones,
     }
 }
 
@@ -127,18 +130,33 @@ pub fn finish(
     tally: Tally,
 ) -> Outcome
     requires { ⌜ Counted tally × Some (λ C. FinishAt C m (height .0) (rowAt (height .0) 1) o n q rule (tally .spent) (room tally) (now gates) (now stage) (now work) (now words)) ⌝ }
-    ensures { λ r. ⌜ Every (λ C. FinishAt C m (height .0) (rowAt (height .0) 1) o n q rule (tally .spent) (room tally) (now (gates .entry)) (now (stage .entry)) (now (work .entry)) (now (words .entry))) (λ C. Finished C m (tally .spent) (room tally) (rules.finish (C .X) (room tally) (now (stage .entry))) (now (stage .entry)) (now (work .entry)) (now (words .entry)) r (now (stage .exit)) (now (work .exit)) (now (words .exit))) ⌝ }
+    ensures { λ r. ⌜ Every (λ C. FinishAt C m (height .0) (rowAt (height .0) 1) o n q rule (tally .spent) (room tally) (now (gates .entry)) (now (stage .entry)) (now (work .entry)) (now (words .entry))) (λ C. Finished C m (tally .spent) (room tally) (now (stage .entry)) (now (stage .entry)) (now (work .entry)) (now (words .entry)) r (now (stage .exit)) (now (work .exit)) (now (words .exit))) ⌝ }
 {
     let at = tally.spent;
     let room = left(tally);
+    let many = tail_get(work, m, ONES) + q;
     let s = write_runs(gates, stage, work, words, m, height, n, rule, at, room);
     if is_over(spend(tally, s.words)) {
         return Outcome {
             number: OVER_WORDS,
-            words: 0,
+            words: s.words,
             waiting: 0,
             cells: 0,
         };
     }
-    finish_rest(gates, stage, work, words, m, height, o, n, q, at, room, s)
+    finish_rest(
+        gates,
+        stage,
+        work,
+        words,
+        m,
+        height,
+        o,
+        n,
+        q,
+        many,
+        at,
+        room,
+        s,
+    )
 }

@@ -5,4 +5,4 @@ use Rattle.stage_loop.specs.declared.lean.Bound.the-variants.{AtMost, No
 
 abbrev pub asFound : Bound → Found
 asFound (AtMost b) = found b
-asFound NoRoom = nothing
+asFound (NoRoom c) = nothing

@@ -12,6 +12,7 @@ use Rattle.columns.specs.Lists.{Holds, Marks, Clear}
 use Rattle.stage_walk.specs.Stands.{Context, Set, Tally}
 use Rattle.stage_tree.specs.Bits.{Standing}
 use Rattle.stage_needed.specs.Needed.{Asking}
+use Rattle.stage_notes.specs.Notes.{notes, stageNotes}
 use Rattle.stage_loop.specs.Loop.{Changed}
 
 -- a height, and one of its levels
@@ -34,6 +35,7 @@ pub record GrowAt (C : Context) (m n k h K : ℕ) (gates pl w : List ℕ) : Type
 -- s pins are noted
 pub record Grown (C : Context) (m : ℕ) (w : List ℕ) (s : ℕ) (pl′ w′ : List ℕ) : Type 0 where
   pub is : pl′ ≡ leanPlan (C .X)
+  pub told : notes m w′ ≡ stageNotes (C .X) (notes m w)
   pub kept : Changed m w w′
   pub tally : Tally C m pl′ w′
   pub asking : Asking C m STACK s w′
@@ -50,9 +52,10 @@ pub record FillAt (C : Context) (m n k top K : ℕ) (gates pl w : List ℕ) : Ty
   pub most : top ≡ greatest (map (levelAt (C .X)) (C .X .order)) 0
   pub height : K ≡ C .X .K
 
--- the contract: the plan of rules 2 to 7 with its counts, and its q needed pins
+-- the contract: the plan of rules 2 to 7 with its counts, and its q needed pins; the pins taken back are noted
 pub record FilledTree (C : Context) (m : ℕ) (gates pl w : List ℕ) (q : ℕ) (pl′ w′ : List ℕ) : Type 0 where
   pub is : pl′ ≡ filledPlan (C .X)
+  pub told : notes m w′ ≡ stageNotes (C .X) (notes m w)
   pub size : length pl′ ≡ length pl
   pub kept : Changed m w w′
   pub stands : Standing C m 1 gates pl′ w′

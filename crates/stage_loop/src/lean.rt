@@ -11,6 +11,7 @@ use columns::number_at;
 use columns::pin_at;
 use graph::Pin;
 use stage_needed::counted;
+use stage_notes::note_back;
 use stage_tree::first_empty;
 use stage_tree::place_pin;
 use stage_tree::room;
@@ -20,10 +21,10 @@ ghost use Rattle.rules.specs.Inside.Some.{Some, Every};
 ghost use Rattle.stage_loop.specs.Bounds.{asFound};
 ghost use Rattle.stage_loop.specs.Loop.{SettleAt, Settled, TryAt, Tried, Next, Turned, At, Ended, LeanAt, Leaned};
 
-// What is known of the needed pins: a number that they don't exceed, or that there is no room for them.
+// What is known of the needed pins: a number that they don't exceed, or how many they are where there is no room for them.
 enum Bound {
     AtMost(usize),
-    NoRoom,
+    NoRoom(usize),
 }
 
 // What a turn leaves: a bound, and where the level's next search starts; or the level has ended.
@@ -44,7 +45,7 @@ fn settle(
     most: usize,
 ) -> Bound
     requires { ⌜ Some (λ C. SettleAt C m n k half most (now gates) (now stage) (now work)) ⌝ }
-    ensures { λ r. ⌜ Every (λ C. SettleAt C m n k half most (now (gates .entry)) (now (stage .entry)) (now (work .entry))) (λ C. Settled C m most (now (stage .entry)) (now (work .entry)) (now (work .exit)) (asFound r)) ⌝ }
+    ensures { λ r. ⌜ Every (λ C. SettleAt C m n k half most (now (gates .entry)) (now (stage .entry)) (now (work .entry))) (λ C. Settled C m most (now (stage .entry)) (now (work .entry)) (now (work .exit)) r) ⌝ }
 {
     if room(work, m, half, most) {
         return Bound::AtMost(most);
@@ -53,10 +54,10 @@ fn settle(
     if room(work, m, half, count) {
         return Bound::AtMost(count);
     }
-    Bound::NoRoom
+    Bound::NoRoom(count)
 }
 
-// Places pin p at the cell c, and takes it back if that leaves no room.
+// Places pin p at the cell c, and notes it and takes it back if that leaves no room.
 fn attempt(
     gates: &[u32],
     stage: &mut [u32],
@@ -77,9 +78,10 @@ fn attempt(
     place_pin(gates, stage, work, m, h, w, c, p);
     let bound = settle(gates, stage, work, m, n, k, half, most);
     match bound {
-        Bound::NoRoom => {
+        Bound::NoRoom(count) => {
+            note_back(work, m, h, p, count);
             take_back(stage, work, m, h, w, c);
-            Bound::NoRoom
+            Bound::NoRoom(count)
         }
         Bound::AtMost(b) => Bound::AtMost(b),
     }
@@ -115,7 +117,7 @@ fn turn(
     }
     let bound = attempt(gates, stage, work, m, n, k, l + 1, w, half, c, p, most);
     match bound {
-        Bound::NoRoom => Step::Stop,
+        Bound::NoRoom(_) => Step::Stop,
         Bound::AtMost(b) => {
             let next = c + 1;
             Step::On(b, next)

@@ -11,6 +11,7 @@ use Rattle.sheet_form.specs.Calls as sheet
 use Rattle.entries.specs.Entry.{Entry, entry}
 use Rattle.entries.specs.Merge.{Lent, lent}
 use Rattle.entries.specs.Fold as fold
+use Rattle.entries.specs.Explain as explain
 use Rattle.entries.specs.Plans as plans
 use Rattle.entries.specs.Jobs.{Lists, lists}
 
@@ -62,3 +63,8 @@ one-sheet p w c p′ w′ c′ s = (ap (λ (x : sheet.Areas). x .plan) s, ap (λ
 pub one-mend : (p l w p′ l′ w′ : List ℕ) → plans.mendTo p l w ≡ plans.mendTo p′ l′ w′ → (p ≡ p′) × (l ≡ l′) × (w ≡ w′)
 unfolding plans.mendTo
 one-mend p l w p′ l′ w′ s = (ap (λ (x : plans.Mend). x .plan) s, ap (λ (x : plans.Mend). x .list) s, ap (λ (x : plans.Mend). x .work) s)
+
+-- what is lent to `explain_build_by`
+pub one-explained : (pl ws cs w l pl′ ws′ cs′ w′ l′ : List ℕ) → explain.lentTo pl ws cs w l ≡ explain.lentTo pl′ ws′ cs′ w′ l′ → (areas pl ws cs w ≡ areas pl′ ws′ cs′ w′) × (l ≡ l′)
+unfolding explain.lentTo
+one-explained pl ws cs w l pl′ ws′ cs′ w′ l′ s = (ap (λ (x : explain.Lent). x .areas) s, ap (λ (x : explain.Lent). x .list) s)

@@ -1,8 +1,7 @@
 -- `mend::judge` meets its contract. Assumes nothing.
-use mathlib.Core.List.{[]}
 use mathlib.Core.Path.{refl}
 use borrow.Author.Tests.{not-true, not-false}
-use Rattle.mend.proofs.Laws.{check-at, judge-none, judge-fault}
+use Rattle.mend.proofs.Laws.{judge-none, judge-fault}
 use borrow.Author.Needs.{needs}
 use Rattle.mend.proofs.judge.Statement.{statement}
 use Rattle.mend.proofs.judge.Tie as tie

@@ -1,5 +1,5 @@
 -- `mend::mend_in` meets its contract. Assumes nothing.
-use Rattle.mend.proofs.Laws.{room-at, judge-at, mends}
+use Rattle.mend.proofs.Laws.{mends}
 use borrow.Author.Needs.{needs}
 use Rattle.mend.proofs.mend_in.Statement.{statement}
 use Rattle.mend.proofs.mend_in.Tie as tie

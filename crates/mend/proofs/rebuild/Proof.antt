@@ -1,7 +1,7 @@
 -- `mend::rebuild` meets its contract. Assumes nothing.
 use mathlib.Core.List.{[]}
 use mathlib.Core.Path.{refl}
-use Rattle.mend.proofs.Laws.{mend-at, recheck-at, settle-at, rebuild-fault, rebuild-settled}
+use Rattle.mend.proofs.Laws.{recheck-at, settle-at, rebuild-fault, rebuild-settled}
 use borrow.Author.Needs.{needs}
 use Rattle.mend.proofs.rebuild.Statement.{statement}
 use Rattle.mend.proofs.rebuild.Tie as tie

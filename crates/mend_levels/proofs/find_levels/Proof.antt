@@ -1,7 +1,6 @@
 -- `mend_levels::find_levels` meets its contract. Assumes nothing.
 use Prim.Native.Nat.{_-_}
 use mathlib.Core.Path.{refl, _∙_, ap}
-use native.Mathlib.Omega.{arith}
 use lib.ListN.{length, length-replicate}
 use borrow.Author.Tests.{not-true}
 use Rattle.rules.specs.Graph.{graphOf}

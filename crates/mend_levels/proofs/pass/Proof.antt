@@ -1,6 +1,5 @@
 -- `mend_levels::pass` meets its contract. Assumes nothing.
 use Prim.Native.Nat.{_-_}
-use native.Mathlib.Omega.{arith}
 use Rattle.rules.specs.Graph.{graphOf}
 use Rattle.mend_levels.proofs.Laws.{PassedTo, passed-none, next-inside, passed-other, passed-same, passed-all}
 use borrow.Author.Needs.{needs}

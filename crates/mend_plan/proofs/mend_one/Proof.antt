@@ -1,6 +1,6 @@
 -- `mend_plan::mend_one` meets its contract. Assumes nothing.
 use native.Mathlib.Omega.{arith}
-use Rattle.mend_plan.proofs.Laws.{levels-at, stage-at, part-inside, one-says}
+use Rattle.mend_plan.proofs.Laws.{levels-at, part-inside, one-says}
 use borrow.Author.Needs.{needs}
 use Rattle.mend_plan.proofs.mend_one.Statement.{statement}
 use Rattle.mend_plan.proofs.mend_one.Tie as tie

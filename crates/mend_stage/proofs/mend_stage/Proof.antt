@@ -3,7 +3,7 @@ use Prim.Native.Nat.{_-_}
 use native.Mathlib.Omega.{arith}
 use lib.ListN.{length}
 use Rattle.rules.specs.Graph.{graphOf}
-use Rattle.mend_stage.proofs.Laws.{deed-at, MendedTo, mended-none, cell-here, mended-more, mended-all}
+use Rattle.mend_stage.proofs.Laws.{MendedTo, mended-none, cell-here, mended-more, mended-all}
 use borrow.Author.Needs.{needs}
 use Rattle.mend_stage.proofs.mend_stage.Statement.{statement}
 use Rattle.mend_stage.proofs.mend_stage.Tie as tie

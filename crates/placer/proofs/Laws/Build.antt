@@ -14,6 +14,7 @@ use Rattle.rules.specs.Graph.{graphOf, pinCount}
 use Rattle.rules.specs.Records.{Group, groupsOf, waitingOf}
 use Rattle.rules.specs.Reservation.{reserved, reservable}
 use Rattle.rules.specs.Checks.{workSize}
+use Rattle.rules.specs.States.{afterFrom}
 use Rattle.rules.specs.Build as rules
 use Rattle.rules.proofs.Lists.Members.{split, and-true}
 use Rattle.cells.specs.Answers.{orZero}
@@ -60,14 +61,20 @@ laid-self n w l e =
 
 module _ {K : ℕ} {sized : Bool} {gates given records : List ℕ} (P : Passed K sized gates given records) {pl ws cs : List ℕ} (A : Blank K pl ws cs) {m : ℕ} (pins : m ≡ pinCount gates) {limit : ℕ} (lim : limit ≡ length ws)
     {far : ℕ} {gs : List Group} {w : List ℕ} {r : Opening} {w₁ : List ℕ} (B : Begins m limit far given gs w r w₁) (asked : Asked) where
-  limit-is : limit ≡ wordLimit K
+  -- the limit is the height's
+  pub limit-is : limit ≡ wordLimit K
   limit-is = lim ∙ A .words-size
+
+  -- where the opening is over the reservation is
+  pub built-full : r ≡ Over → reservable K gs ≡ false
+  unfolding reservationFor
+  built-full e = over-refused K gs (ap reservationFor (sym e) ∙ B .answer K limit-is)
 
   -- a reservation that is over answers 6, with plan, words and counts as they were
   pub built-over : r ≡ Over → Tried (rules.build (ruleOf asked) K (graphOf gates) given gs (rooms K (length pl))) pl ws cs w (record { number = 6; stages = 0; words = 0; stage = 0; pin = record { 0 = 0 }; cells = 0 }) pl ws cs w₁
-  unfolding rules.build told rules.reply rules.refuse reservationFor
+  unfolding rules.build told rules.reply rules.refuse
   built-over e =
-      let f = over-refused K gs (ap reservationFor (sym e) ∙ B .answer K limit-is) in
+      let f = built-full e in
       record {
         kept = record { plan = refl; words = refl; counts = refl; work = B .frame .len };
         reply = rw (f, rules.build, rules.reply);
@@ -75,7 +82,8 @@ module _ {K : ℕ} {sized : Bool} {gates given records : List ℕ} (P : Passed K
       }
 
   module _ {res n : ℕ} (ready : r ≡ Ready res n) where
-    known : (reservable K gs ≡ true) × (res ≡ reserved gs)
+    -- else it is not, and the words set aside are the reserved ones
+    pub known : (reservable K gs ≡ true) × (res ≡ reserved gs)
     unfolding reservationFor
     known = words-reserved K gs res (ap reservationFor (sym ready) ∙ B .answer K limit-is)
 
@@ -128,11 +136,12 @@ module _ {K : ℕ} {sized : Bool} {gates given records : List ℕ} (P : Passed K
       counts-blank = A .counts ∙ ap (λ (i : ℕ). replicate i 0) (A .counts-size) ∙ sym (padded-none (rooms K (length pl)) 0)
 
       first : Underway course m 0 0 n pl ws cs v
-      unfolding rules.cellsOf rules.wordsOf rules.countsOf
+      unfolding rules.cellsOf rules.wordsOf rules.countsOf afterFrom
       first = record {
         ss = [];
         done = given;
         waiting = waitingOf gs [];
+        reached = let e : wordLimit K - reserved gs - 0 ≡ wordLimit K - reserved gs = omega arith in rw e refl;
         same = same;
         ready = first-ready P F;
         count = refl;

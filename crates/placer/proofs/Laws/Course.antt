@@ -10,10 +10,12 @@ use lib.ListN.{length}
 use Rattle.rules.specs.Graph.{Node}
 use Rattle.rules.specs.Traversal.{WordRule}
 use Rattle.rules.specs.Ending.{refused, stage, oneStage}
+use Rattle.rules.specs.States.{state, afterFrom}
 use Rattle.rules.specs.Lists.{count}
 use Rattle.rules.specs.Cells.{empty, filled, wordLimit}
 use Rattle.rules.specs.Build.{Stage, Answer, refusal, whole, more, before, stages, cellsOf, wordsOf, countsOf, refuse, reply, stagesOf}
 use Rattle.rules.proofs.Stage.Fuel.{count-length}
+use Rattle.rules.proofs.Stage.Depth.{stage-cases}
 use Rattle.rules.proofs.Stage.Refusals.{before-refusal}
 use Rattle.rules.proofs.Build.Lengths.{length-padded}
 use Rattle.rules.proofs.Build.Costs.{padded-count}
@@ -81,6 +83,28 @@ module _ (rule : WordRule) (K : ℕ) (g : List Node) (k : ℕ) (done waiting : L
   unfolding stages
   stage-more h r pl ws re left =
       nonempty (λ xs. oneStage rule K g done xs room ≡ stage pl ws re left → stages rule K g (suc r) k done xs room ≡ more (record { plan = pl; words = ws }) (stages rule K g r (suc k) (re ++ done) left (room - length ws))) (λ w zs e. rw (e, stages)) h
+
+-- ---- the state behind some stages
+
+module _ (rule : WordRule) (K : ℕ) (g : List Node) where
+  -- one stage more is one stage from there
+  pub after-more : (s : ℕ) (done waiting : List ℕ) (room : ℕ) (done2 waiting2 : List ℕ) (room2 : ℕ) → afterFrom rule K g s done waiting room ≡ state done2 waiting2 room2 → afterFrom rule K g (suc s) done waiting room ≡ afterFrom rule K g 1 done2 waiting2 room2
+  unfolding afterFrom oneStage
+  after-more zero done waiting room done2 waiting2 room2 e =
+      let d : done ≡ done2 = cc in
+      let w : waiting ≡ waiting2 = cc in
+      let r : room ≡ room2 = cc in
+      rw (d, w, r) refl
+  after-more (suc s) done [] room done2 waiting2 room2 e = absurd (let z : _≡_ {A = ℕ} 0 1 = cc in omega arith)
+  after-more (suc s) done (w ∷ ws) room done2 waiting2 room2 e = stage-cases (oneStage rule K g done (w ∷ ws) room)
+      (λ n d. absurd (let c = rw (d, afterFrom) at e in let z : _≡_ {A = ℕ} 0 1 = cc in omega arith))
+      (λ pl words realised waiting3 d. rw (d, afterFrom) (after-more s (realised ++ done) waiting3 (room - length words) done2 waiting2 room2 (rw (d, afterFrom) at e)))
+
+  -- a whole stage
+  pub after-stage : (done waiting : List ℕ) (room : ℕ) → 0 < length waiting → (pl ws re left : List ℕ) → oneStage rule K g done waiting room ≡ stage pl ws re left → afterFrom rule K g 1 done waiting room ≡ state (re ++ done) left (room - length ws)
+  unfolding afterFrom
+  after-stage done [] room h pl ws re left e = absurd (omega arith)
+  after-stage done (w ∷ zs) room h pl ws re left e = rw (e, afterFrom) refl
 
 -- ---- the loop over the stages
 

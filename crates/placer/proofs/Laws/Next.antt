@@ -14,6 +14,7 @@ use Rattle.rules.specs.Cells.{empty, filled, wordLimit, rowAt, stageSize, isHei
 use Rattle.rules.specs.Placing.{tree}
 use Rattle.rules.specs.Traversal.{setting}
 use Rattle.rules.specs.Ending.{refused, stage, oneStage}
+use Rattle.rules.specs.States.{state, afterFrom}
 use Rattle.rules.specs.Build as rules
 use Rattle.rules.specs.Inside.Lean.{blank}
 use Rattle.rules.specs.Inside.Walks.{rank}
@@ -33,9 +34,9 @@ use Rattle.stage.specs.Finish.{Whole}
 use Rattle.stage.specs.Stage.{StageAt, built, Staged}
 use Rattle.stage_runs.proofs.Laws.Laid.{laid-none, laid-more, laid-length}
 use Rattle.rules.proofs.Stage.Refusals.{before-refusal}
-use Rattle.placer.specs.Stages.{Course, Underway, OneAt, One, answer}
+use Rattle.placer.specs.Stages.{Course, Underway, OneAt, StageTold, One, answer}
 use Rattle.placer.proofs.Laws.Laying.{laid-next, blank-part, part-inside}
-use Rattle.placer.proofs.Laws.Course.{limit-small, cells-more, words-more, counts-more, before-more, stage-refused, stage-more}
+use Rattle.placer.proofs.Laws.Course.{limit-small, cells-more, words-more, counts-more, before-more, stage-refused, stage-more, after-more, after-stage}
 
 size-is : (K half : ℕ) → 6 ≤ K → half ≡ rowAt K 1 → 4 * half ≡ stageSize K
 unfolding rowAt
@@ -150,6 +151,17 @@ module _ {C : Course} {m K half : ℕ} {asked : Asked} {k n at room : ℕ} {gate
       same : answer C ≡ rules.before (U .ss) (rules.stages (C .rule) (C .K) (C .g) (suc (C .rooms - suc k)) (suc k) (U .done) (U .waiting) room)
       same = let h = U .same in rw (rooms-left, ← A .left) at h
 
+      -- what the stage tells, in any state that the build may be said to stand in
+      tells : (done waiting : List ℕ) (left : ℕ) → afterFrom (C .rule) (C .K) (C .g) k (C .given) (C .waiting) (C .room) ≡ state done waiting left → StageTold (setting (C .rule) (C .K) (C .g) done waiting) m left w (s .number) (s .words) (s .cells) (s .waiting) w′
+      unfolding built context setting
+      tells done waiting left h =
+          let e : state (U .done) (U .waiting) (C .room - at) ≡ state done waiting left = sym (U .reached) ∙ h in
+          let a : U .done ≡ done = cc in
+          let b : U .waiting ≡ waiting = cc in
+          let c : C .room - at ≡ left = cc in
+          let r : room ≡ left = A .left ∙ c in
+          rw (← a, ← b, ← r) (record { noted = S .told; refused = λ z. S .refuses z .is; seven = λ z. S .refuses (omega arith) .seven z; ones = λ z. S .refuses (omega arith) .ones z; needs = λ z. S .refuses (omega arith) .needs z; few = λ z. S .refuses z .few; small = λ z. S .refuses z .small })
+
       one-refused : 0 < s .number → One C m k at pl ws cs w (s .number) (s .words) (s .cells) (s .waiting) (laidAt a ys pl) ws′ cs w′
       unfolding built context setting
       one-refused h = record {
@@ -157,6 +169,7 @@ module _ {C : Course} {m K half : ℕ} {asked : Asked} {k n at room : ℕ} {gate
         refused = λ z. same ∙ ap (rules.before (U .ss)) (stage-refused (C .rule) (C .K) (C .g) (suc k) (U .done) (U .waiting) room waits (C .rooms - suc k) (s .number) (S .refuses h .is)) ∙ before-refusal (U .ss) (s .number) (suc k);
         on = λ z. absurd (omega arith);
         more = λ z. absurd (omega arith);
+        told = tells;
       }
 
       abbrev whole-plan : List ℕ
@@ -186,6 +199,11 @@ module _ {C : Course} {m K half : ℕ} {asked : Asked} {k n at room : ℕ} {gate
             let r : room - length (W .ws) ≡ C .room - (at + s .words) = omega (arith, A .left, W .count) in
             same ∙ ap (rules.before (U .ss)) (stage-more (C .rule) (C .K) (C .g) (suc k) (U .done) (U .waiting) room waits (C .rooms - suc k) ys (W .ws) (tree (C .K) ys) (W .left) one) ∙ before-more (U .ss) next _ ∙ ap (λ (i : ℕ). rules.before (U .ss ++ (next ∷ [])) (rules.stages (C .rule) (C .K) (C .g) (C .rooms - suc k) (suc (suc k)) (tree (C .K) ys ++ U .done) (W .left) i)) r
 
+        reaches : afterFrom (C .rule) (C .K) (C .g) (suc k) (C .given) (C .waiting) (C .room) ≡ state (tree (C .K) ys ++ U .done) (W .left) (C .room - (at + s .words))
+        reaches =
+            let r : room - length (W .ws) ≡ C .room - (at + s .words) = omega (arith, A .left, W .count) in
+            after-more (C .rule) (C .K) (C .g) k (C .given) (C .waiting) (C .room) (U .done) (U .waiting) room (U .reached ∙ ap (state (U .done) (U .waiting)) (sym (A .left))) ∙ after-stage (C .rule) (C .K) (C .g) (U .done) (U .waiting) room waits ys (W .ws) (tree (C .K) ys) (W .left) one ∙ ap (state (tree (C .K) ys ++ U .done) (W .left)) r
+
         marked : Marks DONE m (tree (C .K) ys ++ U .done) w′
         unfolding context setting
         marked = W .done
@@ -201,6 +219,7 @@ module _ {C : Course} {m K half : ℕ} {asked : Asked} {k n at room : ℕ} {gate
             ss = U .ss ++ (next ∷ []);
             done = tree (C .K) ys ++ U .done;
             waiting = W .left;
+            reached = reaches;
             same = goes;
             ready = still-ready (C .rule) (C .K) (C .g) (rank (C .g)) (graph (C .g) (C .valid)) (C .low) (unfold-empty (length (C .g)) (C .small)) (U .done) (U .waiting) (U .ready) room ys (W .ws) (tree (C .K) ys) (W .left) one;
             count = length-append (U .ss) (next ∷ []) ∙ omega (arith, U .count);
@@ -214,6 +233,7 @@ module _ {C : Course} {m K half : ℕ} {asked : Asked} {k n at room : ℕ} {gate
             counts = e′ ∙ set-laid ∙ ap (λ (i : ℕ). laidAt k (i ∷ []) cs) (W .count) ∙ ap (laidAt k (length (W .ws) ∷ [])) (U .counts) ∙ laid-next (C .rooms) 0 k (rules.countsOf (U .ss)) (length (W .ws) ∷ []) (U .counted) (omega (arith, A .more)) ∙ ap (padded (C .rooms) 0) (sym (counts-more (U .ss) next));
             work = record { area = frame-room (S .changed .frame) (U .work .area); done = marked; waiting = W .waiting; fresh = S .fresh z; cells = W .cells; marks = W .marks; tail = W .tail };
           };
+          told = tells;
           more = λ h. omega (arith, ap (count filled) plan-next, padded-count (C .rooms * stageSize (C .K)) (rules.cellsOf (U .ss) ++ ys), count-append filled (rules.cellsOf (U .ss)) ys, ap (count filled) (U .plan), padded-count (C .rooms * stageSize (C .K)) (rules.cellsOf (U .ss)), W .total);
         }
           where

@@ -15,7 +15,7 @@ use Rattle.rules.specs.Graph.{Node, leaf, pinOf, below}
 use Rattle.rules.specs.Traversal.{WordRule, Setting, setting, levelAt}
 use Rattle.rules.specs.Placing.{place, tree, treeOf, reverseOf, needed, neededOf, asked, asks, filledPlan}
 use Rattle.rules.specs.Ending.{Put, meet, fillIn, putCell, putCells, Sparse, putRun, goesOn, putRuns, Plan?, full, plan, putRest, inNeed, lastStage, written, rest, refused, oneStage}
-use Rattle.rules.specs.Capacity.{crowd, StageOver, seven, eight}
+use Rattle.rules.specs.Capacity.{crowd, onesThen, needsLeft, StageOver, seven, eight}
 use Rattle.rules.specs.Inside.Walks.{Sound, Graph, Ready}
 use Rattle.rules.specs.Inside.Counts.{Runs, none, more}
 use Rattle.rules.proofs.Lists.Members.{split, true-false, eqb-true, eqb-false, in-here, in-there, in-cons, in-nil, out-head, out-tail, keep-in, distinct-in, gather-in, and-true, or-true}
@@ -244,6 +244,11 @@ module _ (X : Setting) (half : 2 ^ (X .K) ≡ rowAt (X .K) 1 + rowAt (X .K) 1) w
       let h = rest-over real pl1 u (omega arith) (λ q i. split (eqb q p) (λ z. let y : q ≡ p = eqb-true q p z in rw y (P .0)) (λ z. P .1 q (eqb-false q p z) ∙ k q i)) (λ x i. fine x (in-there x p ps i)) (rw (b, n, putRest) at e) in
       rw (out, count) (omega arith)))
 
+count-same : (f h : ℕ → Bool) (ns : List ℕ) → ((x : ℕ) → f x ≡ h x) → count f ns ≡ count h ns
+unfolding count
+count-same f h [] k = refl
+count-same f h (n ∷ ns) k = let t : count f ns ≡ count h ns = count-same f h ns k in split (h n) (λ b. rw (k n, b, t, count)) (λ b. rw (k n, b, t, count))
+
 -- ---- a stage
 
 module _ (X : Setting) (r : ℕ → ℕ) (f : ℕ) (S : Sound X r f) (half : 2 ^ (X .K) ≡ rowAt (X .K) 1 + rowAt (X .K) 1) (small : length (X .g) ≤ empty) (each : Once (X .waiting)) (pl : List ℕ) (l : 2 ^ (X .K) ≤ length pl) where
@@ -262,6 +267,14 @@ module _ (X : Setting) (r : ℕ → ℕ) (f : ℕ) (S : Sound X r f) (half : 2 ^
 
   long : 2 ^ (X .K) ≤ length (written X pl .plan)
   long = rw (written-even .keeps .len) l
+
+  -- where rule 9 starts the sum is the same
+  pub left-crowd : onesThen X pl + needsLeft X pl ≡ crowd X pl
+  unfolding onesThen needsLeft
+  left-crowd = ap (λ (n : ℕ). count filled (row (X .K) 1 (written X pl .plan)) + n) (count-same _ _ (neededOf X pl) (λ x. ap not (absorbed (written X pl .real) (tree (X .K) (written X pl .plan)) (written-even .keeps .real) x))) ∙ written-even .sum
+    where
+      absorbed : (xs ys : List ℕ) → Sub xs ys → (x : ℕ) → mem x xs || mem x ys ≡ mem x ys
+      absorbed xs ys h x = split (mem x xs) (λ b. rw (b, h x b)) (λ b. rw b)
 
   -- what rule 9 leaves at level 1
   rest-crowd : (pl2 : List ℕ) → rest X pl ≡ plan pl2 → (count filled (row (X .K) 1 pl2) ≡ crowd X pl) × (length (row (X .K) 1 pl2) ≡ rowAt (X .K) 1)

@@ -65,7 +65,7 @@ module _ {C : Context} {pl : List ℕ} {m K half o n at room : ℕ} {s : Spent} 
     laid : at + length (L .ws) ≤ length words
     laid = omega (arith, L .fit, M .fits)
 
-    changed : Changed touched m at room pl2 w words pl2 w2 words1
+    changed : Changed touched 259 m at room pl2 w words pl2 w2 words1
     changed = record {
       frame = frame-then (frame-more refl (L .frame)) (frame-more refl (D .frame));
       past = λ j h. D .past j h ∙ L .past j (omega arith);

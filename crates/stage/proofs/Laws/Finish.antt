@@ -3,20 +3,25 @@ use mathlib.Core.Path.{_≡_, refl, sym, ap, _∙_}
 use mathlib.Core.Logic.{inl, inr}
 use mathlib.Core.Bool.{Bool, true, false}
 use mathlib.Core.List.{List, []}
-use Prim.Native.Nat.{ℕ, _+_, _*_, _<_, _≤_}
+use Prim.Native.Nat.{ℕ, _+_, _-_, _*_, _<_, _≤_}
 use native.Mathlib.Omega.{arith}
 use lib.Dec.{ltb}
-use lib.ListN.{length, take, length-take}
+use lib.Pow.{pow-mono}
+use lib.ListN.{length, getD, take, length-take}
 use lib.Seq.{take-all}
-use Rattle.stage_walk.proofs.Contexts.{work}
-use Rattle.rules.specs.Cells.{isHeight, levelOneSize}
+use Rattle.stage_walk.proofs.Contexts.{work, low-mark}
+use Rattle.rules.specs.Cells.{isHeight, levelOneSize, filled, row, rowAt}
 use Rattle.rules.specs.Placing.{neededOf}
 use Rattle.rules.specs.Ending.{putRest, written, rest, finish}
+use Rattle.rules.specs.Capacity.{crowd, onesThen, needsLeft}
 use Rattle.rules.specs.Lists.{In, laidAt}
 use Rattle.rules.proofs.Needed.Needs.{need-listed}
 use Rattle.rules.proofs.Needed.Lacks.{same-needed, wanted-low, true-ltb, false-ltb}
 use Rattle.rules.proofs.Stage.Branches.{finish-seven, finish-full, finish-none}
-use Rattle.columns.specs.Fields.{NEEDED}
+use Rattle.rules.proofs.Stage.Staged.{half-height, two-step}
+use Rattle.rules.proofs.Stage.Crowd.{left-crowd}
+use Rattle.rules.proofs.Stage.Fuel.{count-length}
+use Rattle.columns.specs.Fields.{NEEDED, ONES}
 use Rattle.columns.specs.Lists.{list}
 use Rattle.columns.proofs.Area.Frames.{frame-none, frame-then, frame-more, frame-room}
 use Rattle.columns.proofs.Lists.Entries.{holds-self, holds-frame}
@@ -37,7 +42,7 @@ use Rattle.stage.specs.Finish.{FinishAt, Changed, touched, Finished, Mid
 use Rattle.rules.specs.Traversal.{levelAt}
 
 -- two changes that a stage may make are one
-pub changed-then : {fs : List ℕ} {m at room : ℕ} {pl w words pl1 w1 words1 pl2 w2 words2 : List ℕ} → Changed fs m at room pl w words pl1 w1 words1 → Changed fs m at room pl1 w1 words1 pl2 w2 words2 → Changed fs m at room pl w words pl2 w2 words2
+pub changed-then : {fs : List ℕ} {to m at room : ℕ} {pl w words pl1 w1 words1 pl2 w2 words2 : List ℕ} → Changed fs to m at room pl w words pl1 w1 words1 → Changed fs to m at room pl1 w1 words1 pl2 w2 words2 → Changed fs to m at room pl w words pl2 w2 words2
 changed-then a b = record {
   frame = frame-then (a .frame) (b .frame);
   past = λ j h. b .past j h ∙ a .past j h;
@@ -49,7 +54,7 @@ changed-then a b = record {
 
 -- ---- rule 9 and test 8
 
-module _ {C : Context} {pl : List ℕ} {m K half o n q at room : ℕ} {s : Spent} {gates pl1 w words : List ℕ} (A : RestingAt C pl m K half o n q at room s gates pl1 w words) where
+module _ {C : Context} {pl : List ℕ} {m K half o n q many at room : ℕ} {s : Spent} {gates pl1 w words : List ℕ} (A : RestingAt C pl m K half o n q many at room s gates pl1 w words) where
   abbrev M : Midway C pl m K half o n at room s pl1 w words
   M = A .mid
 
@@ -57,12 +62,24 @@ module _ {C : Context} {pl : List ℕ} {m K half o n q at room : ℕ} {s : Spent
   pub rest-at : {r : ℕ} → r ≡ orZero (isHeight K) (levelOneSize K) → RestAt C m r q gates pl1 w
   rest-at e = record { stands = A .stands; row = half-is (omega (arith, M .height, C .low)) (omega (arith, M .height, C .high)) e ∙ rw (M .height) refl; needed = holds-self (A .list); pins = rw (A .list .is) (A .pins) }
 
+  -- where rule 9 starts
+  ones-then : {ones : ℕ} → ones ≡ getD w (16 * m + ONES) 0 → ones ≡ onesThen (C .X) pl
+  unfolding onesThen
+  ones-then d = d ∙ A .stands .tally .ones ∙ rw (A .is-plan) refl
+
+  left-then : onesThen (C .X) pl + needsLeft (C .X) pl ≡ crowd (C .X) pl
+  left-then = left-crowd (C .X) (C .r) (length (C .X .g)) (C .S) (half-height (C .X .K) (omega (arith, C .low))) (low-mark C) (C .R .once) pl (A .long)
+
+  -- the level-1 cells filled are some of the crowd
+  pub ones-within : {ones : ℕ} → ones ≡ getD w (16 * m + ONES) 0 → ones ≤ many
+  ones-within d = omega (arith, ones-then d, left-then, A .crowded)
+
   module _ {b : Bool} {pl2 w1 : List ℕ} (F : Filled C m q gates pl1 w b pl2 w1) where
     rest-is : putRest (C .X) (list NEEDED m q w) (written (C .X) pl .real) pl1 ≡ rest (C .X) pl
     unfolding rest
     rest-is = rw (A .list .is, A .is-plan) refl
 
-    filling : Changed touched m at room pl1 w words pl2 w1 words
+    filling : Changed touched 259 m at room pl1 w words pl2 w1 words
     filling = record {
       frame = frame-more refl (F .kept .frame);
       past = λ j h. F .kept .rest (16 * m + j) (omega arith) (λ e. omega arith) (λ e. omega arith) (λ e. omega arith);
@@ -76,8 +93,8 @@ module _ {C : Context} {pl : List ℕ} {m K half o n q at room : ℕ} {s : Spent
     fits = false-ltb room (length (written (C .X) pl .words)) (omega (arith, M .fit, M .count))
 
     -- where test 8 fails the stage is refused with 8
-    pub ends-eight : b ≡ false → Ends C pl m at room s pl1 w words (record { number = 8; words = 0; waiting = 0; cells = 0 }) pl2 w1 words
-    ends-eight e = record {
+    pub ends-eight : {ones : ℕ} → ones ≡ getD w (16 * m + ONES) 0 → b ≡ false → Ends C pl m at room s pl1 w words (record { number = 8; words = 0; waiting = many - ones; cells = ones }) pl2 w1 words
+    ends-eight d e = record {
       finished = record {
         changed = filling;
         refuses = λ h. record {
@@ -85,9 +102,11 @@ module _ {C : Context} {pl : List ℕ} {m K half o n q at room : ℕ} {s : Spent
             | inl d ↦ finish-full (C .X) room pl fits (sym rest-is ∙ d)
             | inr d ↦ finish-none (C .X) room pl fits pl2 (sym rest-is ∙ d .0) (d .1)
           ];
-          words = refl;
-          waiting = refl;
-          cells = refl;
+          seven = λ z. absurd (omega arith);
+          ones = λ z. ones-then d;
+          needs = λ z. omega (arith, ones-then d, left-then, A .crowded);
+          few = omega arith;
+          small = omega (arith, A .few, ones-within d);
         };
         whole = λ h. absurd (omega arith);
         gone = λ h. absurd (omega arith);
@@ -140,6 +159,11 @@ module _ {C : Context} {m K half o n q : ℕ} {asked : Asked} {at room : ℕ} {g
   pub end-at : EndAt C m K half n asked at room gates pl w words
   end-at = record { stands = A .stands; begun = A .set .begun; height = A .height; row = A .row; ruled = A .ruled; marks = A .marks .zero; spare = A .spare .zero; fits = A .fits }
 
+  -- level 1 has at most 4,096 cells
+  row-few : length (row (C .X .K) 1 pl) ≤ 4096
+  unfolding row rowAt
+  row-few = simp length-take (omega (arith, pow-mono {i = C .X .K - 1} {j = 12} (omega (arith, C .high))))
+
   low-needed : (x : ℕ) → In x (neededOf (C .X) pl) → In x (C .X .seen) × (levelAt (C .X) x ≤ 1)
   low-needed x i = (need-listed (C .X) (C .r) (length (C .X .g)) (C .S) pl x i, wanted-low (C .X) pl x (rw (same-needed (work C) (A .stands .fair)) at i))
 
@@ -157,7 +181,7 @@ module _ {C : Context} {m K half o n q : ℕ} {asked : Asked} {at room : ℕ} {g
     unfolding noted
     wrote-is = R .wrote
 
-    running : Changed touched m at room pl w words pl1 w1 words1
+    running : Changed touched 259 m at room pl w words pl1 w1 words1
     running = record {
       frame = frame-more refl (R .touched .frame);
       past = λ j h. R .touched .rest (16 * m + j) (omega arith) (λ e. omega arith) (λ e. omega arith) (λ e. omega arith);
@@ -168,10 +192,10 @@ module _ {C : Context} {m K half o n q : ℕ} {asked : Asked} {at room : ℕ} {g
     }
 
     -- more words than may be written: the stage is refused with 7
-    pub finished-seven : room < s .words → Finished C m at room (finish (C .X) room pl) pl w words (record { number = 7; words = 0; waiting = 0; cells = 0 }) pl1 w1 words1
+    pub finished-seven : room < s .words → Finished C m at room pl pl w words (record { number = 7; words = s .words; waiting = 0; cells = 0 }) pl1 w1 words1
     finished-seven h = record {
       changed = running;
-      refuses = λ d. record { is = finish-seven (C .X) room pl (true-ltb room (length early) (omega (arith, R .count))); words = refl; waiting = refl; cells = refl };
+      refuses = λ d. record { is = finish-seven (C .X) room pl (true-ltb room (length early) (omega (arith, R .count))); seven = λ z. R .count; ones = λ z. absurd (omega arith); needs = λ z. absurd (omega arith); few = R .few; small = omega arith };
       whole = λ d. absurd (omega arith);
       gone = λ d. absurd (omega arith);
     }
@@ -184,8 +208,9 @@ module _ {C : Context} {m K half o n q : ℕ} {asked : Asked} {at room : ℕ} {g
       stay = all-are ∙ sym (ap (laidAt at early) all-are ∙ laid-over at words early early (omega (arith, A .fits, R .count)) (omega arith))
 
       -- no more: rule 9 may follow
-      pub resting-at : RestingAt C pl m K half o n q at room s gates pl1 w1 words1
-      resting-at =
+      pub resting-at : {ones : ℕ} → ones ≡ getD w (16 * m + ONES) 0 → RestingAt C pl m K half o n q (ones + q) at room s gates pl1 w1 words1
+      unfolding crowd
+      resting-at d =
           let fr = R .touched .frame in
           record {
             mid = record {
@@ -213,10 +238,13 @@ module _ {C : Context} {m K half o n q : ℕ} {asked : Asked} {at room : ℕ} {g
             is-plan = R .is-plan;
             list = holds-frame (A .needed) fr refl (omega arith);
             pins = low-needed;
+            crowded = rw (d, A .stands .tally .ones, ← A .needed .count) refl;
+            long = rw (A .stands .fair .len) (omega (arith, two-step (C .X .K)));
+            few = omega (arith, d, A .stands .tally .ones, count-length filled (row (C .X .K) 1 pl), row-few, A .needed .few, A .stands .base .area .small);
           }
 
       -- what follows rule 8 ends the stage
-      pub finished : {e : Outcome} {pl2 w2 words2 : List ℕ} → Ends C pl m at room s pl1 w1 words1 e pl2 w2 words2 → Finished C m at room (finish (C .X) room pl) pl w words e pl2 w2 words2
+      pub finished : {e : Outcome} {pl2 w2 words2 : List ℕ} → Ends C pl m at room s pl1 w1 words1 e pl2 w2 words2 → Finished C m at room pl pl w words e pl2 w2 words2
       finished E = record {
         changed = changed-then running (E .finished .changed);
         refuses = E .finished .refuses;
@@ -240,7 +268,7 @@ module _ {C : Context} {m K half o n q : ℕ} {asked : Asked} {at room : ℕ} {g
       }
 
 -- the stage is the same where the room has another name
-pub finished-as : {C : Context} {m at room r : ℕ} {pl w words : List ℕ} {e : Outcome} {pl′ w′ words′ : List ℕ} → r ≡ room → Finished C m at r (finish (C .X) r pl) pl w words e pl′ w′ words′ → Finished C m at room (finish (C .X) room pl) pl w words e pl′ w′ words′
+pub finished-as : {C : Context} {m at room r : ℕ} {pl w words : List ℕ} {e : Outcome} {pl′ w′ words′ : List ℕ} → r ≡ room → Finished C m at r pl pl w words e pl′ w′ words′ → Finished C m at room pl pl w words e pl′ w′ words′
 finished-as e F = rw (sym e) F
 
 -- what fits the room fits it by its other name

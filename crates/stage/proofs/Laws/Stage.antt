@@ -17,6 +17,8 @@ use Rattle.stage_prepare.specs.Prepared.{PrepareAt, Prepared, ForgetAt, Forgot}
 use Rattle.stage_prepare.proofs.Forgets.{forget-at, forget-frame, listed-outside, level-outside, reverse-outside}
 use Rattle.stage_ending.proofs.Laws.Close.{zeroed-clear}
 use Rattle.stage_ending.proofs.Laws.Closed.{within-frame}
+use Rattle.stage_notes.specs.Notes.{stageNotes}
+use Rattle.stage_notes.proofs.Noting.{notes-same}
 use Rattle.stage.specs.declared.finish.Outcome.{Outcome}
 use Rattle.stage_loop.specs.Filling.{FillAt, FilledTree}
 use Rattle.stage.specs.Finish.{FinishAt, Changed, Whole, Finished}
@@ -61,14 +63,14 @@ module _ {C : Context} {m K half n : ℕ} {asked : Asked} {at room : ℕ} {gates
         ruled = A .ruled;
         marks = clear-frame (clear-frame (A .marks) (P .frame) refl (omega arith)) (F .kept .frame) refl (omega arith);
         spare = clear-frame (clear-frame (A .fresh .spare) (P .frame) refl (omega arith)) (F .kept .frame) refl (omega arith);
-        tail = λ j h. F .kept .rest (16 * m + j) (omega arith) (λ e. omega arith) (λ e. omega arith) (λ e. omega arith) ∙ tail-prepared j ∙ A .tail j (omega arith);
+        tail = λ j h. F .kept .low j h ∙ tail-prepared j ∙ A .tail j (omega arith);
         height = A .height;
         row = A .row;
         fits = A .fits;
         small = A .small;
       }
 
-      module _ {e : Outcome} {pl₂ w₃ words₁ : List ℕ} (E : Finished C m at room (finish (C .X) room pl₁) pl₁ w₂ words e pl₂ w₃ words₁) where
+      module _ {e : Outcome} {pl₂ w₃ words₁ : List ℕ} (E : Finished C m at room pl₁ pl₁ w₂ words e pl₂ w₃ words₁) where
         -- behind these the lists may be forgotten
         pub stage-forget : ForgetAt m levels w₃
         stage-forget = forget-frame (forget-frame (forget-at P) (F .kept .frame) refl refl) (E .changed .frame) refl refl
@@ -77,10 +79,10 @@ module _ {C : Context} {m K half n : ℕ} {asked : Asked} {at room : ℕ} {gates
           is-built : finish (C .X) room pl₁ ≡ built C room
           is-built = rw (F .is) (built-is C room)
 
-          changes : Changed columns m at room pl w words pl₂ w₄ words₁
+          changes : Changed columns 316 m at room pl w words pl₂ w₄ words₁
           changes = record {
             frame = frame-then (frame-more refl (P .frame)) (frame-then (frame-more refl (F .kept .frame)) (frame-then (frame-more refl (E .changed .frame)) (frame-more refl (G .frame))));
-            past = λ j h. G .frame .past refl (16 * m + j) (omega arith) ∙ E .changed .past j h ∙ F .kept .rest (16 * m + j) (omega arith) (λ z. omega arith) (λ z. omega arith) (λ z. omega arith) ∙ tail-prepared j;
+            past = λ j h. G .frame .past refl (16 * m + j) (omega arith) ∙ E .changed .past j (omega arith) ∙ F .kept .past j h ∙ tail-prepared j;
             size = E .changed .size ∙ F .size;
             len = E .changed .len;
             before = E .changed .before;
@@ -110,7 +112,8 @@ module _ {C : Context} {m K half n : ℕ} {asked : Asked} {at room : ℕ} {gates
           pub staged : Staged C m at room pl w words e pl₂ w₄ words₁
           staged = record {
             changed = changes;
-            refuses = λ h. let R = E .refuses h in record { is = sym is-built ∙ R .is; words = R .words; waiting = R .waiting; cells = R .cells };
+            told = notes-same m w₂ w₄ (λ j a b. G .frame .past refl (16 * m + j) (omega arith) ∙ E .changed .past j (omega arith)) ∙ F .told ∙ ap (stageNotes (C .X)) (notes-same m w w₁ (λ j a b. tail-prepared j));
+            refuses = λ h. let R = rw (F .is) at (E .refuses h) in record { is = sym (built-is C room) ∙ R .is; seven = R .seven; ones = R .ones; needs = R .needs; few = R .few; small = R .small };
             whole = stands;
             fresh = λ z. record {
               listed = clear-frame (zeroed-clear (within-frame (F .kept .frame) refl (omega arith) (record { zero = listed-outside P })) (E .gone z .listed)) (G .frame) refl (omega arith);

@@ -1,5 +1,5 @@
 -- Rules 2 to 7 on an empty stage: where the loop starts, and what it comes to. Assumes nothing.
-use Prim.Native.Nat.{ℕ, zero, suc, _-_, _≤_, _<_, min}
+use Prim.Native.Nat.{ℕ, zero, suc, _+_, _-_, _*_, _≤_, _<_, min}
 use mathlib.Core.Path.{_≡_, refl, sym, _∙_}
 use mathlib.Core.List.{List, [], map}
 use native.Mathlib.Omega.{arith}
@@ -27,10 +27,13 @@ use Rattle.stage_needed.proofs.Laws.Collecting.{asking-frame, step-needed}
 use Rattle.stage_walk.proofs.Contexts.{level-below, work}
 use Rattle.stage_tree.specs.Bits.{Standing}
 use Rattle.stage_tree.proofs.Bits.Standing.{first-stands}
+use Rattle.stage_notes.specs.Notes.{notes, leanNotes, stageNotes}
+use Rattle.stage_notes.proofs.Noting.{notes-same}
+use Rattle.stage_notes.proofs.Turns.{notes-low}
 use Rattle.stage_loop.specs.Loop.{Changed, LeanAt, Leaned}
 use Rattle.stage_loop.specs.Filling.{RowAt, GrowAt, Grown, FillAt, FilledTree}
 use Rattle.stage_tree.proofs.Counts.Kept.{tally-frame}
-use Rattle.stage_loop.proofs.Laws.Tries.{kept-none, kept-changed, changed-then, set-kept}
+use Rattle.stage_loop.proofs.Laws.Tries.{moved-none, moved-changed, changed-then, set-kept}
 
 -- a row's start, from what a height answers
 pub row-there : {K h r : ℕ} → RowAt K h → r ≡ orZero (hasLevel K h) (rowAt K h) → r ≡ rowAt K h
@@ -59,6 +62,10 @@ module _ {C : Context} {m n k h K : ℕ} {gates pl w : List ℕ} (A : GrowAt C m
   unfolding leanPlan
   plan-is = rw (A .level, A .first)
 
+  notes-are : leanNotes (C .X) h b₀ pl (notes m w) ≡ stageNotes (C .X) (notes m w)
+  unfolding stageNotes
+  notes-are = rw (A .level, A .first)
+
   -- the level to start at is one of the height
   pub row-at : RowAt K h
   row-at = record { least = omega (arith, A .height, C .low); most = omega (arith, A .height, C .high); level = omega (arith, A .level, A .height) }
@@ -78,7 +85,11 @@ module _ {C : Context} {m n k h K : ℕ} {gates pl w : List ℕ} (A : GrowAt C m
 
   module _ {w1 : List ℕ} {c : Counts} {wd half : ℕ} (N : Noted C pl m w w1 c) (row : wd ≡ rowAt K h) (one : half ≡ orZero (isHeight K) (levelOneSize K)) where
     noting : Changed m w w1
-    noting = record { frame = frame-more refl (N .frame); rest = λ j a b c d. N .frame .past refl j a }
+    noting = record { frame = frame-more refl (N .frame); low = λ j h. N .frame .past refl (16 * m + j) (omega arith); past = λ j h. N .frame .past refl (16 * m + j) (omega arith) }
+
+    -- the notes are those before
+    noted-before : notes m w1 ≡ notes m w
+    noted-before = notes-same m w w1 (λ j a b. N .frame .past refl (16 * m + j) (omega arith))
 
     up : suc (h - 1) ≡ h
     up = omega (arith, A .low)
@@ -105,7 +116,8 @@ module _ {C : Context} {m n k h K : ℕ} {gates pl w : List ℕ} (A : GrowAt C m
     pub grown : {pl2 w2 : List ℕ} → Leaned C m (h - 1) pl w1 (c .needed) pl2 w2 → Grown C m w (c .noted) pl2 w2
     grown L = record {
       is = L .same ∙ rw (up, ← N .list .count) (let z : length (wanted (C .X) pl) ≡ b₀ = rw (A .first) refl in rw z (sym plan-is));
-      kept = changed-then noting (kept-changed (L .kept));
+      told = L .told ∙ rw (up, ← N .list .count, noted-before) (let z : length (wanted (C .X) pl) ≡ b₀ = rw (A .first) refl in rw z notes-are);
+      kept = changed-then noting (moved-changed (L .kept));
       tally = L .tally;
       asking = asking-frame (N .asking) (L .kept .frame) refl;
     }
@@ -136,10 +148,11 @@ module _ {C : Context} {m n k top K : ℕ} {gates pl w : List ℕ} (A : FillAt C
   pub fill-none : NeededAt C pl m n k gates w
   fill-none = step-needed (A .set) pl (stands 1 .tally .cells) (clear-marks (A .clear))
 
-  module _ {pl1 w1 : List ℕ} (plan : pl1 ≡ leanPlan (C .X)) (change : Changed m w w1) (tally : Tally C m pl1 w1) where
+  module _ {pl1 w1 : List ℕ} (plan : pl1 ≡ leanPlan (C .X)) (tells : notes m w1 ≡ stageNotes (C .X) (notes m w)) (change : Changed m w w1) (tally : Tally C m pl1 w1) where
     listed : {w2 : List ℕ} {q : ℕ} → Needed C pl1 m w1 w2 q → FilledTree C m gates pl w q pl1 w2
     listed {w2} {q} N = record {
       is = plan ∙ lean-plan (work C);
+      told = notes-same m w1 w2 (λ j a b. N .frame .past refl (16 * m + j) (omega arith)) ∙ tells;
       size = fair .len ∙ sym (stands 1 .fair .len);
       kept = kept;
       stands = record { base = last .begun .base; levelled = last .levelled; tally = tally-frame (N .frame) refl refl tally; fair = fair };
@@ -153,15 +166,15 @@ module _ {C : Context} {m n k top K : ℕ} {gates pl w : List ℕ} (A : FillAt C
         needs = same-needed (work C) fair
 
         kept : Changed m w w2
-        kept = changed-then change (record { frame = frame-more refl (N .frame); rest = λ j a b c d. N .frame .past refl j a })
+        kept = changed-then change (record { frame = frame-more refl (N .frame); low = λ j h. N .frame .past refl (16 * m + j) (omega arith); past = λ j h. N .frame .past refl (16 * m + j) (omega arith) })
 
         last : Set C m n k gates w2
         last = set-kept kept (A .set)
 
   -- below level 2 nothing is placed
   pub filled-none : {h q : ℕ} {w2 : List ℕ} → h ≡ min top K → h < 2 → Needed C pl m w w2 q → FilledTree C m gates pl w q pl w2
-  unfolding leanPlan
-  filled-none {h} e l = listed (rw (← level-is e, ← A .first) (sym (lean-low (C .X) h (length (wanted (C .X) pl)) pl l))) (kept-changed (kept-none m w)) (stands 1 .tally)
+  unfolding leanPlan stageNotes
+  filled-none {h} e l = listed (rw (← level-is e, ← A .first) (sym (lean-low (C .X) h (length (wanted (C .X) pl)) pl l))) (rw (← level-is e, ← A .first) (sym (notes-low (C .X) h (length (wanted (C .X) pl)) pl (notes m w) l))) (moved-changed (moved-none m w)) (stands 1 .tally)
 
   module _ {s : ℕ} {pl1 w1 : List ℕ} (G : Grown C m w s pl1 w1) where
     -- the needed pins of the plan may be listed by the noted pins
@@ -172,4 +185,4 @@ module _ {C : Context} {m n k top K : ℕ} {gates pl w : List ℕ} (A : FillAt C
 
     -- the plan of rules 2 to 7, with its counts and its needed pins
     pub filled-tree : {w2 : List ℕ} {q : ℕ} → Needed C pl1 m w1 w2 q → FilledTree C m gates pl w q pl1 w2
-    filled-tree = listed (G .is) (G .kept) (G .tally)
+    filled-tree = listed (G .is) (G .told) (G .kept) (G .tally)

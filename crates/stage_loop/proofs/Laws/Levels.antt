@@ -16,8 +16,10 @@ use Rattle.rules.proofs.Lean.Turns.{onward-level}
 use Rattle.columns.specs.Fields.{STARTS, ENDS}
 use Rattle.stage_walk.specs.Stands.{Context, ranked}
 use Rattle.stage_walk.proofs.Contexts.{work}
+use Rattle.stage_notes.specs.Notes.{notes}
+use Rattle.stage_notes.proofs.Turns.{notes-level, notes-low}
 use Rattle.stage_loop.specs.Loop.{At, Ended, LeanAt, Leaned, Leaning}
-use Rattle.stage_loop.proofs.Laws.Tries.{kept-none, kept-then, noted-kept, clear-kept}
+use Rattle.stage_loop.proofs.Laws.Tries.{moved-none, moved-then, noted-kept, clear-kept}
 
 -- ---- the loop over levels
 lean-one : (X : Setting) (b : ℕ) (pl : List ℕ) (l : ℕ) → l ≡ 0 → lean X (suc l) b pl ≡ pl
@@ -35,7 +37,7 @@ row-up K l a b = let z : K - suc (l - 1) ≡ suc (K - suc l) = omega arith in rw
 module _ {C : Context} {m n k l wd half : ℕ} {gates pl w : List ℕ} {b : ℕ} (A : LeanAt C m n k l wd half gates pl w b) where
   -- before the first level the loop stands at its start
   pub leaning-none : Leaning C m n k l wd half gates pl w b l pl w b
-  leaning-none = record { same = refl; kept = kept-none m w; at = A }
+  leaning-none = record { same = refl; told = refl; kept = moved-none m w; at = A }
 
   -- the level's row stands in the stage
   pub lean-width : wd + wd ≤ length pl
@@ -68,6 +70,7 @@ module _ {C : Context} {m n k l wd half : ℕ} {gates pl w : List ℕ} {b : ℕ}
         let z : suc (l - 1) ≡ l = omega arith in
         record {
           same = lean-two (C .X) b pl l pos ∙ rw (← list-is, z) (E .same);
+          told = notes-level (C .X) l b pl (notes m w) pos ∙ rw (← list-is, z) (E .told);
           kept = E .kept;
           at = record {
             plan = record { set = noted-kept (E .kept) (A .plan .set); clear = clear-kept (E .kept) (A .plan .clear); tally = E .tally; fair = rw z (E .fair) };
@@ -82,12 +85,13 @@ module _ {C : Context} {m n k l wd half : ℕ} {gates pl w : List ℕ} {b : ℕ}
 -- some levels and some more
 pub leaning-then : {C : Context} {m n k top wd half : ℕ} {gates pl w : List ℕ} {most : ℕ} {l : ℕ} {pl′ w′ : List ℕ} {b : ℕ} {wd2 d : ℕ} {pl2 w2 : List ℕ} {b2 : ℕ} →
     Leaning C m n k top wd half gates pl w most l pl′ w′ b → Leaning C m n k l wd2 half gates pl′ w′ b d pl2 w2 b2 → Leaning C m n k top wd2 half gates pl w most d pl2 w2 b2
-leaning-then a c = record { same = a .same ∙ c .same; kept = kept-then (a .kept) (c .kept); at = c .at }
+leaning-then a c = record { same = a .same ∙ c .same; told = a .told ∙ c .told; kept = moved-then (a .kept) (c .kept); at = c .at }
 
 -- below level 2 the loop has ended
 pub leaned : {C : Context} {m n k top wd half : ℕ} {gates pl w : List ℕ} {most l : ℕ} {pl′ w′ : List ℕ} {b : ℕ} → Leaning C m n k top wd half gates pl w most l pl′ w′ b → l ≡ 0 → Leaned C m top pl w most pl′ w′
-leaned {C} {l = l} {pl′ = pl′} {b = b} L z = record {
+leaned {C} {m} {l = l} {pl′ = pl′} {w′ = w′} {b = b} L z = record {
   same = sym (L .same ∙ lean-one (C .X) b pl′ l z);
+  told = sym (L .told ∙ notes-low (C .X) (suc l) b pl′ (notes m w′) (omega arith));
   kept = L .kept;
   tally = L .at .plan .tally;
 }

@@ -2,7 +2,7 @@
 use Prim.Native.Nat.{ℕ, _+_, _-_, _*_, _≤_, _<_}
 use mathlib.Core.Path.{_≡_, refl, sym, ap, _∙_}
 use mathlib.Core.Bool.{true, false}
-use mathlib.Core.List.{List, []}
+use mathlib.Core.List.{List, [], _∷_}
 use native.Mathlib.Omega.{arith}
 use lib.ListN.{length, getD}
 use Rattle.rules.specs.Lists.{nothing, found}
@@ -14,7 +14,7 @@ use Rattle.rules.proofs.Lists.Parts.{part-same}
 use Rattle.rules.proofs.Tree.Fair.{fair-kept, bare}
 use Rattle.rules.proofs.Tree.Back.{taken-back}
 use Rattle.rules.proofs.Lean.Turns.{recount-bound, recount-count, recount-full}
-use Rattle.columns.specs.Area.{Frame, among}
+use Rattle.columns.specs.Area.{Room, Frame, among}
 use Rattle.columns.specs.Fields.{CELLS, RANKED, STARTS, ENDS, STACK, MARK, ONES, PINS, FILLED}
 use Rattle.columns.specs.Lists.{Marks}
 use Rattle.stage_needed.specs.Needed.{CountAt, Needed}
@@ -29,7 +29,11 @@ use Rattle.stage_tree.specs.Counts as counts
 use Rattle.stage_tree.specs.Counts.{roomIn}
 use Rattle.stage_tree.specs.Bits as bits
 use Rattle.stage_tree.proofs.Counts.Kept.{tally-frame, counts as counts-of}
-use Rattle.stage_loop.specs.Loop.{Kept, Changed, NotedSet, Counted, SettleAt, Settled, TryAt, Tried}
+use Rattle.stage_notes.specs.Taken.{Taken}
+use Rattle.stage_notes.specs.Notes.{notes, weighed, NoteAt, Noted, telling}
+use Rattle.stage_notes.proofs.Noting.{notes-same}
+use Rattle.stage_loop.specs.declared.lean.Bound.the-variants.{AtMost, NoRoom}
+use Rattle.stage_loop.specs.Loop.{Kept, Moved, Changed, NotedSet, Counted, SettleAt, Settled, TryAt, Tried}
 
 -- ---- the frame
 
@@ -51,17 +55,41 @@ unfolding ranked
 ranked-frame {m = m} {w = w} {w′ = w′} f n i e a b = part-same (e - i) (RANKED * m + i) w′ w (f .len)
     (λ j c d. let z : j ≡ RANKED * m + (j - RANKED * m) = omega arith in ap (λ (x : ℕ). getD w′ x 0) z ∙ f .cell RANKED n (omega arith) (j - RANKED * m) (omega arith) ∙ sym (ap (λ (x : ℕ). getD w x 0) z))
 
--- a change of counts and needed pins leaves the ranked lists
-pub ranked-kept : {m : ℕ} {w w′ : List ℕ} → Kept m w w′ → (i e : ℕ) → i ≤ e → e ≤ m → ranked m w′ i e ≡ ranked m w i e
+-- a change of counts, needed pins and notes leaves the ranked lists
+pub ranked-kept : {m : ℕ} {w w′ : List ℕ} → Moved m w w′ → (i e : ℕ) → i ≤ e → e ≤ m → ranked m w′ i e ≡ ranked m w i e
 ranked-kept k = ranked-frame (k .frame) refl
 
--- the noted pins may change too
-pub kept-changed : {m : ℕ} {w w′ : List ℕ} → Kept m w w′ → Changed m w w′
-kept-changed k = record { frame = frame-more refl (k .frame); rest = k .rest }
+-- the notes of pins taken back may change too
+pub kept-moved : {m : ℕ} {w w′ : List ℕ} → Kept m w w′ → Moved m w w′
+kept-moved {m} k = record {
+  frame = k .frame;
+  low = λ j h. k .rest (16 * m + j) (omega arith) (λ e. omega arith) (λ e. omega arith) (λ e. omega arith);
+  past = λ j h. k .rest (16 * m + j) (omega arith) (λ e. omega arith) (λ e. omega arith) (λ e. omega arith);
+}
+
+-- where only the counts and the needed pins changed, they stay
+pub notes-kept : {m : ℕ} {w w′ : List ℕ} → Kept m w w′ → notes m w′ ≡ notes m w
+notes-kept {m} {w} {w′} k = notes-same m w w′ (λ j a b. k .rest (16 * m + j) (omega arith) (λ e. omega arith) (λ e. omega arith) (λ e. omega arith))
+
+-- a note is such a change
+noted-moved : {m h : ℕ} {ts : List Taken} {w w′ : List ℕ} → Noted m h ts w w′ → Moved m w w′
+noted-moved k = record { frame = frame-more refl (k .frame); low = λ j h. k .low j (omega arith); past = k .past }
+
+-- nothing changed
+pub moved-none : (m : ℕ) (w : List ℕ) → Moved m w w
+moved-none m w = kept-moved (kept-none m w)
+
+-- two such changes are one
+pub moved-then : {m : ℕ} {u v w : List ℕ} → Moved m u v → Moved m v w → Moved m u w
+moved-then a b = record { frame = frame-then (a .frame) (b .frame); low = λ j h. b .low j h ∙ a .low j h; past = λ j h. b .past j h ∙ a .past j h }
+
+-- the pins noted for rule 6 may change too
+pub moved-changed : {m : ℕ} {w w′ : List ℕ} → Moved m w w′ → Changed m w w′
+moved-changed k = record { frame = frame-more refl (k .frame); low = k .low; past = k .past }
 
 -- two changes are one
 pub changed-then : {m : ℕ} {u v w : List ℕ} → Changed m u v → Changed m v w → Changed m u w
-changed-then a b = record { frame = frame-then (a .frame) (b .frame); rest = λ j x y z t. b .rest j x y z t ∙ a .rest j x y z t }
+changed-then a b = record { frame = frame-then (a .frame) (b .frame); low = λ j h. b .low j h ∙ a .low j h; past = λ j h. b .past j h ∙ a .past j h }
 
 -- what the stage starts from stays
 module _ {m : ℕ} {w w′ : List ℕ} (f : Changed m w w′) {C : Context} where
@@ -93,17 +121,17 @@ set-kept f S = record {
   listed = listed-changed f (S .listed);
 }
 
--- where the noted pins stay, what the loop reads does
-pub noted-kept : {C : Context} {m n k : ℕ} {gates w w′ : List ℕ} → Kept m w w′ → NotedSet C m n k gates w → NotedSet C m n k gates w′
+-- where the pins noted for rule 6 stay, what the loop reads does
+pub noted-kept : {C : Context} {m n k : ℕ} {gates w w′ : List ℕ} → Moved m w w′ → NotedSet C m n k gates w → NotedSet C m n k gates w′
 noted-kept k S = record {
-  begun = begun-changed (kept-changed k) (S .begun);
-  levelled = levelled-changed (kept-changed k) (S .levelled);
-  listed = listed-changed (kept-changed k) (S .listed);
+  begun = begun-changed (moved-changed k) (S .begun);
+  levelled = levelled-changed (moved-changed k) (S .levelled);
+  listed = listed-changed (moved-changed k) (S .listed);
   asking = asking-frame (S .asking) (k .frame) refl;
 }
 
 -- and marks that mark nothing
-pub clear-kept : {m : ℕ} {w w′ : List ℕ} → Kept m w w′ → Marks MARK m [] w → Marks MARK m [] w′
+pub clear-kept : {m : ℕ} {w w′ : List ℕ} → Moved m w w′ → Marks MARK m [] w → Marks MARK m [] w′
 clear-kept k c = marks-frame c (k .frame) refl (omega arith)
 
 -- ---- the needed pins
@@ -137,28 +165,32 @@ found-is e = cc
 pub not-found : {a : ℕ} {P : Type 0} → found a ≡ nothing → P
 not-found e = absurd (let z : _≡_ {A = ℕ} 0 1 = cc in omega arith)
 
+-- a bound is not none
+not-room : {a b : ℕ} {P : Type 0} → AtMost a ≡ NoRoom b → P
+not-room e = absurd (let z : _≡_ {A = ℕ} 0 1 = cc in omega arith)
+
 module _ {C : Context} {m n k half most : ℕ} {gates pl w : List ℕ} (A : SettleAt C m n k half most gates pl w) where
   -- room for the bound: it serves again
-  pub settled-bound : roomIn m half most w ≡ true → Settled C m most pl w w (found most)
+  pub settled-bound : roomIn m half most w ≡ true → Settled C m most pl w w (AtMost most)
   settled-bound t =
       let e : recount (C .X) most pl ≡ found most = recount-bound (C .X) most pl (sym (room-is C m half most pl w (A .tally) (A .cap)) ∙ t) in
-      record { is = sym e; few = λ b d. omega (arith, found-is d, A .few); kept = kept-none m w; tally = A .tally }
+      record { is = sym e; count = λ d e. not-room e; few = λ b d. omega (arith, found-is d, A .few); kept = kept-none m w; tally = A .tally }
 
   module _ {w′ : List ℕ} {c : ℕ} (t : roomIn m half most w ≡ false) (N₀ : Counted C m pl w w′ c) where
     no-bound : roomFor (C .X) most pl ≡ false
     no-bound = sym (room-is C m half most pl w (A .tally) (A .cap)) ∙ t
 
     -- no room for the bound, but for the count: the count is the new bound
-    pub settled-count : roomIn m half c w′ ≡ true → Settled C m most pl w w′ (found c)
+    pub settled-count : roomIn m half c w′ ≡ true → Settled C m most pl w w′ (AtMost c)
     settled-count s =
         let e : recount (C .X) most pl ≡ found (length (wanted (C .X) pl)) = recount-count (C .X) most pl no-bound (rw (N₀ .count) at (sym (room-is C m half c pl w′ (N₀ .tally) (A .cap)) ∙ s)) in
-        record { is = rw (N₀ .count) (sym e); few = λ b d. omega (arith, found-is d, N₀ .few); kept = N₀ .kept; tally = N₀ .tally }
+        record { is = rw (N₀ .count) (sym e); count = λ d e. not-room e; few = λ b d. omega (arith, found-is d, N₀ .few); kept = N₀ .kept; tally = N₀ .tally }
 
     -- no room for the count either: the pin must go
-    pub settled-full : roomIn m half c w′ ≡ false → Settled C m most pl w w′ nothing
+    pub settled-full : roomIn m half c w′ ≡ false → Settled C m most pl w w′ (NoRoom c)
     settled-full s =
         let e : recount (C .X) most pl ≡ nothing = recount-full (C .X) most pl no-bound (rw (N₀ .count) at (sym (room-is C m half c pl w′ (N₀ .tally) (A .cap)) ∙ s)) in
-        record { is = sym e; few = λ b d. not-found (sym d); kept = N₀ .kept; tally = N₀ .tally }
+        record { is = sym e; count = λ d e. let z : c ≡ d = cc in (sym z ∙ N₀ .count, omega (arith, N₀ .few)); few = λ b d. not-found (sym d); kept = N₀ .kept; tally = N₀ .tally }
 
 -- ---- one try
 
@@ -198,39 +230,71 @@ module _ {C : Context} {m n k h wd half p q most : ℕ} {gates pl w : List ℕ} 
 
     -- the pin placed, the needed pins may be settled
     pub after-place : SettleAt C m n k half most gates pl1 w1
-    after-place = record { set = noted-kept (kept-counts (P .kept)) (A .plan .set); clear = clear-kept (kept-counts (P .kept)) (A .plan .clear); tally = P .tally; cap = A .cap; few = A .few }
+    after-place = record { set = noted-kept (kept-moved (kept-counts (P .kept))) (A .plan .set); clear = clear-kept (kept-moved (kept-counts (P .kept))) (A .plan .clear); tally = P .tally; cap = A .cap; few = A .few }
 
     -- where the needed pins have room the pin stays
-    pub tried-some : {w2 : List ℕ} {b : ℕ} → Settled C m most pl1 w1 w2 (found b) → Tried C m h p q most pl w pl1 w2 (found b)
-    tried-some T = record { is = rw plan-is at (T .is); few = T .few; none = λ e. not-found e; some = λ d e. plan-is; kept = kept-then (kept-counts (P .kept)) (T .kept); tally = T .tally }
+    pub tried-some : {w2 : List ℕ} {b : ℕ} → Settled C m most pl1 w1 w2 (AtMost b) → Tried C m h p q most pl w pl1 w2 (found b)
+    tried-some T = record {
+      is = rw plan-is at (T .is);
+      few = T .few;
+      none = λ e. not-found e;
+      some = λ d e. plan-is;
+      noted = λ e. not-found e;
+      unnoted = λ d e. notes-kept (kept-then (kept-counts (P .kept)) (T .kept));
+      kept = kept-moved (kept-then (kept-counts (P .kept)) (T .kept));
+      tally = T .tally;
+    }
 
-    module _ {w2 : List ℕ} (T : Settled C m most pl1 w1 w2 nothing) where
-      -- where they have none the pin may be taken back
-      pub back-at : bits.PurgeAt C m h wd p pl1 w2
-      back-at = record {
-        back = record {
-          spot = record {
-            area = noted-kept (T .kept) (noted-kept (kept-counts (P .kept)) (A .plan .set)) .begun .base .area;
-            size = A .plan .set .begun .base .size;
-            tally = counts-of (T .tally);
-            len = fair-after .len;
-            high = A .wide .high;
-            from = A .able .row;
-            to = A .able .end;
+    module _ {w2 : List ℕ} {c : ℕ} (T : Settled C m most pl1 w1 w2 (NoRoom c)) where
+      there : Room m w2
+      there = noted-kept (kept-moved (T .kept)) (noted-kept (kept-moved (kept-counts (P .kept))) (A .plan .set)) .begun .base .area
+
+      -- where they have none the pin may be noted
+      pub note-at : NoteAt m h c w2
+      note-at = record { area = there; level = omega (arith, A .wide .high, C .high); few = omega (arith, T .count c refl .1, there .small) }
+
+      module _ {w3 : List ℕ} (N : Noted m h (telling m q c w2 ∷ []) w2 w3) where
+        tally-noted : Tally C m pl1 w3
+        tally-noted = record {
+          cells = λ x b. N .frame .cell CELLS refl (omega arith) x b ∙ T .tally .cells x b;
+          ones = N .low ONES (omega arith) ∙ T .tally .ones;
+          pins = N .low PINS (omega arith) ∙ T .tally .pins;
+          total = N .low FILLED (omega arith) ∙ T .tally .total;
+        }
+
+        -- and taken back
+        pub back-at : bits.PurgeAt C m h wd p pl1 w3
+        back-at = record {
+          back = record {
+            spot = record {
+              area = frame-room (N .frame) there;
+              size = A .plan .set .begun .base .size;
+              tally = counts-of tally-noted;
+              len = fair-after .len;
+              high = A .wide .high;
+              from = A .able .row;
+              to = A .able .end;
+            };
+            row = A .wide .row;
+            tall = fair-after .tall;
           };
-          row = A .wide .row;
-          tall = fair-after .tall;
-        };
-        total = T .tally .total;
-      }
+          total = tally-noted .total;
+        }
 
-      -- the pin taken back, the plan is as before
-      pub tried-none : {pl3 w3 : List ℕ} → bits.Purged C m h wd p pl1 w2 pl3 w3 → Tried C m h p q most pl w pl3 w3 nothing
-      tried-none B = record {
-        is = rw plan-is at (T .is);
-        few = T .few;
-        none = λ e. B .plan ∙ rw (plan-is, A .wide .row) (taken-back (work C) h p q (A .plan .fair) (A .able));
-        some = λ d e. not-found (sym e);
-        kept = kept-then (kept-counts (P .kept)) (kept-then (T .kept) (kept-counts (B .kept)));
-        tally = B .tally;
-      }
+        -- the note tells what the rules count
+        note-is : telling m q c w2 ≡ weighed (C .X) q (placed (C .X) h p q pl)
+        unfolding telling weighed
+        note-is = rw (T .tally .ones, T .tally .pins, T .count c refl .0, plan-is)
+
+        -- the pin taken back, the plan is as before
+        pub tried-none : {pl3 w4 : List ℕ} → bits.Purged C m h wd p pl1 w3 pl3 w4 → Tried C m h p q most pl w pl3 w4 nothing
+        tried-none B = record {
+          is = rw plan-is at (T .is);
+          few = T .few;
+          none = λ e. B .plan ∙ rw (plan-is, A .wide .row) (taken-back (work C) h p q (A .plan .fair) (A .able));
+          some = λ d e. not-found (sym e);
+          noted = λ e. notes-kept (kept-counts (B .kept)) ∙ N .is ∙ rw (note-is, notes-kept (kept-then (kept-counts (P .kept)) (T .kept))) refl;
+          unnoted = λ d e. not-found (sym e);
+          kept = moved-then (kept-moved (kept-then (kept-counts (P .kept)) (T .kept))) (moved-then (noted-moved N) (kept-moved (kept-counts (B .kept))));
+          tally = B .tally;
+        }

@@ -30,9 +30,11 @@ use Rattle.stage_walk.proofs.Contexts.{work}
 use Rattle.stage_walk.proofs.Ranked.{ranked-cons, ranked-end}
 use Rattle.stage_tree.specs.Search.{First}
 use Rattle.stage_tree.proofs.Search.{cell-found, cell-none, cursor-first, cursor-behind}
+use Rattle.stage_notes.specs.Notes.{notes, leanNotes}
+use Rattle.stage_notes.proofs.Turns.{notes-end, notes-skip, notes-no-cell, notes-no-room, notes-placed}
 use Rattle.stage_loop.specs.Loop.{NotedSet, TryAt, Tried, At, Next, Ended, Gone, Turned}
 use Rattle.stage_loop.specs.declared.lean.Step.the-variants.{On, Stop}
-use Rattle.stage_loop.proofs.Laws.Tries.{kept-none, kept-then, ranked-kept, noted-kept, clear-kept}
+use Rattle.stage_loop.proofs.Laws.Tries.{moved-none, moved-then, ranked-kept, noted-kept, clear-kept}
 
 -- a step on is that step
 on-is : {a b f g : ℕ} → On a f ≡ On b g → (a ≡ b) × (f ≡ g)
@@ -72,7 +74,8 @@ module _ {C : Context} {m n k l wd half : ℕ} {gates pl w : List ℕ} {i e b fr
         stop = λ x. not-on (sym x);
         on = λ d f x. record {
           same = rw (now-list, ← on-is x .0) (onward-skip (C .X) l b pl q (ranked m w (i + 1) e) t);
-          kept = kept-none m w;
+          told = rw (now-list, ← on-is x .0) (notes-skip (C .X) l b pl (notes m w) q (ranked m w (i + 1) e) t);
+          kept = moved-none m w;
           at = record {
             set = R;
             clear = N .at .clear;
@@ -100,10 +103,11 @@ module _ {C : Context} {m n k l wd half : ℕ} {gates pl w : List ℕ} {i e b fr
     turned-no-cell none = record {
       stop = λ x. record {
         same = rw now-list (onward-no-cell (C .X) l b pl q (ranked m w (i + 1) e) not-in (cell-none (C .X) (suc l) wd (N .at .wide .row) pl p F none));
+        told = rw now-list (notes-no-cell (C .X) l b pl (notes m w) q (ranked m w (i + 1) e) not-in (cell-none (C .X) (suc l) wd (N .at .wide .row) pl p F none));
         fair = fair-down (work C) l (N .at .going .fair);
         enough = N .at .going .enough;
         few = N .at .few;
-        kept = kept-none m w;
+        kept = moved-none m w;
         tally = N .at .tally;
       };
       on = λ d f x. not-on x;
@@ -130,6 +134,7 @@ module _ {C : Context} {m n k l wd half : ℕ} {gates pl w : List ℕ} {i e b fr
         turned-full T = record {
           stop = λ x. record {
             same = rw (now-list, T .none refl) (onward-no-room (C .X) l b pl q (ranked m w (i + 1) e) p not-in at-cell (rw (add-one l) at (sym (T .is))));
+            told = rw (now-list, T .none refl) (notes-no-room (C .X) l b pl (notes m w) q (ranked m w (i + 1) e) p not-in at-cell (rw (add-one l) at (sym (T .is))) ∙ ap (leanNotes (C .X) l b pl) (sym (rw (add-one l) at (T .noted refl))));
             fair = rw (T .none refl) (fair-down (work C) l (N .at .going .fair));
             enough = rw (T .none refl) (N .at .going .enough);
             few = N .at .few;
@@ -163,6 +168,7 @@ module _ {C : Context} {m n k l wd half : ℕ} {gates pl w : List ℕ} {i e b fr
                 let enough = recount-found (work C) (fair-kept (work C) (suc l) p q (N .at .going .fair) able) b d few-one bound in
                 record {
                   same = rw (now-list, same-list, plan) (onward-placed (C .X) l b pl q (ranked m w (i + 1) e) p d not-in at-cell bound);
+                  told = rw (now-list, same-list, plan, T .unnoted d refl) (notes-placed (C .X) l b pl (notes m w) q (ranked m w (i + 1) e) p d not-in at-cell bound);
                   kept = T .kept;
                   at = record {
                     set = noted-kept (T .kept) R;
@@ -190,7 +196,8 @@ module _ {C : Context} {m n k l wd half : ℕ} {gates pl w : List ℕ} {i e b : 
   pub gone-none : At C m n k l wd half gates pl w i e b → Gone C m n k l wd half gates pl w i e b pl w i b wd
   gone-none A = record {
     same = refl;
-    kept = kept-none m w;
+    told = refl;
+    kept = moved-none m w;
     at = A;
     cursor = record {
       row = A .wide .row;
@@ -208,16 +215,17 @@ module _ {C : Context} {m n k l wd half : ℕ} {gates pl w : List ℕ} {i e b : 
 
     -- some turns and some more
     pub gone-then : {pl2 w2 : List ℕ} {d b2 f2 : ℕ} → Gone C m n k l wd half gates pl′ w′ j e b′ pl2 w2 d b2 f2 → Gone C m n k l wd half gates pl w i e b pl2 w2 d b2 f2
-    gone-then B = record { same = A .same ∙ B .same; kept = kept-then (A .kept) (B .kept); at = B .at; cursor = B .cursor }
+    gone-then B = record { same = A .same ∙ B .same; told = A .told ∙ B .told; kept = moved-then (A .kept) (B .kept); at = B .at; cursor = B .cursor }
 
     -- a turn that ends the level ends the sweep
     pub gone-stop : {pl2 w2 : List ℕ} → Ended C m l pl′ w′ j e b′ pl2 w2 b′ → Ended C m l pl w i e b pl2 w2 b′
-    gone-stop E = record { same = A .same ∙ E .same; fair = E .fair; enough = E .enough; few = E .few; kept = kept-then (A .kept) (E .kept); tally = E .tally }
+    gone-stop E = record { same = A .same ∙ E .same; told = A .told ∙ E .told; fair = E .fair; enough = E .enough; few = E .few; kept = moved-then (A .kept) (E .kept); tally = E .tally }
 
     -- a sweep ends with the last candidate too
     pub gone-end : e ≤ j → Ended C m l pl w i e b pl′ w′ b′
     gone-end t = record {
       same = A .same ∙ rw (ranked-end m w′ j e t) (onward-end (C .X) l b′ pl′);
+      told = A .told ∙ rw (ranked-end m w′ j e t) (notes-end (C .X) l b′ pl′ (notes m w′));
       fair = fair-down (work C) l (A .at .going .fair);
       enough = A .at .going .enough;
       few = A .at .few;

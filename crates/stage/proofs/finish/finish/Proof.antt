@@ -1,30 +1,29 @@
 -- `stage::finish::finish` meets its contract: where the runs' words are over the tally the stage is refused, else the other rules follow. Assumes nothing.
-use Rattle.stage.proofs.Laws.Finish.{room-as, finished-as, fits-as}
-use Rattle.stage_tally.proofs.Laws.Tests.{within-still, over-room, fits-room}
 use native.Mathlib.Omega.{arith}
-use Rattle.stage.proofs.Laws.Finish.{end-at, finished-seven, resting-at, finished}
+use Prim.Native.Nat.{_+_, _*_}
+use Rattle.stage.proofs.Laws.Finish.{room-as, finished-as, fits-as, end-at, finished-seven, resting-at, finished}
+use Rattle.stage_tally.proofs.Laws.Tests.{within-still, over-room, fits-room}
 use borrow.Author.Needs.{needs}
 use Rattle.stage.proofs.finish.finish.Statement.{statement}
 use Rattle.stage.proofs.finish.finish.Tie as tie
-use Rattle.stage.proofs.finish.finish.Reads as reads
-use Rattle.stage.proofs.finish.finish.Lts as lts
-use Rattle.stage_runs.proofs.write_runs.Reads as write-runs-reads
-use Rattle.stage.proofs.finish.finish_rest.Reads as finish-rest-reads
-use Rattle.stage_tally.proofs.is_over.Reads as is-over-reads
-use Rattle.stage_tally.proofs.left.Reads as left-reads
-use Rattle.stage_tally.proofs.spend.Reads as spend-reads
 
 left-requires : tie.Need-left-requires
 left-requires c κs = c .before .before .before .before .pre .0
 
+tail-get-requires : tie.Need-tail-get-requires
+tail-get-requires c κs = search needs
+
+add-many : tie.Need-add-many
+add-many c = let A = c .before .before .before .before .before .before .before .pre .1 .at in record { fits = omega (arith, c .tail-get .ensures, c .before .before .before .before .slice-known2 .given (16 * c .before .before .before .before .before .before .before .args .m + 256), A .needed .few, A .set .begun .base .area .small) }
+
 write-runs-requires : tie.Need-write-runs-requires
-write-runs-requires c κs = record { it = c .before .before .before .before .before .before .before .before .pre .1 .it; at = end-at (room-as (c .before .before .before .before .before .before .before .before .pre .1 .at) (c .before .before .before .left .ensures)) }
+write-runs-requires c κs = record { it = c .before .before .before .before .before .before .before .before .before .before .pre .1 .it; at = end-at (room-as (c .before .before .before .before .before .before .before .before .before .before .pre .1 .at) (c .before .before .before .before .before .left .ensures)) }
 
 spend-requires : tie.Need-spend-requires
-spend-requires c κs = let A = c .before .before .before .before .before .before .before .before .before .before .before .before .before .before .before .pre .0 in omega (arith, A .small, A .within, A .spent, c .before .before .before .before .before .before .write-runs .ensures .all _ (end-at (room-as (c .before .before .before .before .before .before .before .before .before .before .before .before .before .before .before .pre .1 .at) (c .before .before .before .before .before .before .before .before .before .before .left .ensures))) .few)
+spend-requires c κs = let A = c .before .before .before .before .before .before .before .before .before .before .before .before .before .before .before .before .before .pre .0 in omega (arith, A .small, A .within, A .spent, c .before .before .before .before .before .before .write-runs .ensures .all _ (end-at (room-as (c .before .before .before .before .before .before .before .before .before .before .before .before .before .before .before .before .before .pre .1 .at) (c .before .before .before .before .before .before .before .before .before .before .before .before .left .ensures))) .few)
 
 is-over-requires : tie.Need-is-over-requires
-is-over-requires c κs = within-still (c .before .before .before .before .before .before .before .before .before .before .before .before .before .before .before .before .pre .0) _ (c .spend .ensures)
+is-over-requires c κs = within-still (c .before .before .before .before .before .before .before .before .before .before .before .before .before .before .before .before .before .before .pre .0) _ (c .spend .ensures)
 
 same-length : tie.Need-same-length
 same-length c = search needs
@@ -36,10 +35,10 @@ same-length-3 : tie.Need-same-length-3
 same-length-3 c = search needs
 
 returns : tie.Need-returns
-returns c = record { all = λ C A. let e = c .before .before .before .before .before .before .before .before .before .before .before .before .before .left .ensures in let B = room-as A e in finished-as e (finished-seven B (c .before .before .before .before .before .before .before .before .before .write-runs .ensures .all C (end-at B)) (omega (arith, e, over-room (c .before .before .before .before .before .before .before .before .before .before .before .before .before .before .before .before .before .before .pre .0) _ (c .before .before .spend .ensures) (c .before .is-over .ensures) (c .if1 .taken)))) }
+returns c = record { all = λ C A. let e = c .before .before .before .before .before .before .before .before .before .before .before .before .before .before .before .left .ensures in let B = room-as A e in finished-as e (finished-seven B (c .before .before .before .before .before .before .before .before .before .write-runs .ensures .all C (end-at B)) (omega (arith, e, over-room (c .before .before .before .before .before .before .before .before .before .before .before .before .before .before .before .before .before .before .before .before .pre .0) _ (c .before .before .spend .ensures) (c .before .is-over .ensures) (c .if1 .taken)))) }
 
 finish-rest-requires : tie.Need-finish-rest-requires
-finish-rest-requires c κs = let e = c .before .before .before .before .before .before .before .before .before .before .before .before .before .before .before .before .left .ensures in let B = room-as (c .before .before .before .before .before .before .before .before .before .before .before .before .before .before .before .before .before .before .before .before .before .pre .1 .at) e in record { it = record { C = _; pl = _ }; at = resting-at B (c .before .before .before .before .before .before .before .before .before .before .before .before .write-runs .ensures .all _ (end-at B)) (omega (arith, e, fits-room (c .before .before .before .before .before .before .before .before .before .before .before .before .before .before .before .before .before .before .before .before .before .pre .0) _ (c .before .before .before .before .before .spend .ensures) (c .before .before .before .before .is-over .ensures) (c .before .before .before .if1 .left))) }
+finish-rest-requires c κs = let e = c .before .before .before .before .before .before .before .before .before .before .before .before .before .before .before .before .before .before .left .ensures in let B = room-as (c .before .before .before .before .before .before .before .before .before .before .before .before .before .before .before .before .before .before .before .before .before .before .before .pre .1 .at) e in record { it = record { C = _; pl = _ }; at = resting-at B (c .before .before .before .before .before .before .before .before .before .before .before .before .write-runs .ensures .all _ (end-at B)) (omega (arith, e, fits-room (c .before .before .before .before .before .before .before .before .before .before .before .before .before .before .before .before .before .before .before .before .before .before .before .pre .0) _ (c .before .before .before .before .before .spend .ensures) (c .before .before .before .before .is-over .ensures) (c .before .before .before .if1 .left))) (c .before .before .before .before .before .before .before .before .before .before .before .before .before .before .before .before .tail-get .ensures) }
 
 same-length-4 : tie.Need-same-length-4
 same-length-4 c = search needs
@@ -51,13 +50,15 @@ same-length-6 : tie.Need-same-length-6
 same-length-6 c = search needs
 
 returns-2 : tie.Need-returns-2
-returns-2 c = record { all = λ C A. let e = c .before .before .before .before .before .before .before .before .before .before .before .before .before .before .before .before .before .before .before .before .before .before .before .left .ensures in let B = room-as A e in let R = c .before .before .before .before .before .before .before .before .before .before .before .before .before .before .before .before .before .before .before .write-runs .ensures .all C (end-at B) in let h = fits-as e (fits-room (c .before .before .before .before .before .before .before .before .before .before .before .before .before .before .before .before .before .before .before .before .before .before .before .before .before .before .before .before .pre .0) _ (c .before .before .before .before .before .before .before .before .before .before .before .before .spend .ensures) (c .before .before .before .before .before .before .before .before .before .before .before .is-over .ensures) (c .before .before .before .before .before .before .before .before .before .before .if1 .left)) in finished-as e (finished B R h (c .before .before .before .before .before .before .finish-rest .ensures .all (record { C = C; pl = _ }) (resting-at B R h))) }
+returns-2 c = record { all = λ C A. let e = c .before .before .before .before .before .before .before .before .before .before .before .before .before .before .before .before .before .before .before .before .before .before .before .before .before .left .ensures in let B = room-as A e in let R = c .before .before .before .before .before .before .before .before .before .before .before .before .before .before .before .before .before .before .before .write-runs .ensures .all C (end-at B) in let h = fits-as e (fits-room (c .before .before .before .before .before .before .before .before .before .before .before .before .before .before .before .before .before .before .before .before .before .before .before .before .before .before .before .before .before .before .pre .0) _ (c .before .before .before .before .before .before .before .before .before .before .before .before .spend .ensures) (c .before .before .before .before .before .before .before .before .before .before .before .is-over .ensures) (c .before .before .before .before .before .before .before .before .before .before .if1 .left)) in finished-as e (finished B R h (c .before .before .before .before .before .before .finish-rest .ensures .all (record { C = C; pl = _ }) (resting-at B R h (c .before .before .before .before .before .before .before .before .before .before .before .before .before .before .before .before .before .before .before .before .before .before .before .tail-get .ensures)))) }
 
 pub finish-spec : {M : Type 1} → statement M
 finish-spec =
     tie.close
     (tie.spec
     left-requires
+    tail-get-requires
+    add-many
     write-runs-requires
     spend-requires
     is-over-requires

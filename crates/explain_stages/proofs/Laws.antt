@@ -1,0 +1,3 @@
+pub mod Over
+pub mod Telling
+pub mod All

@@ -1,0 +1,5 @@
+pub mod Taken
+pub mod Same
+pub mod Turns
+pub mod Noting
+pub mod Reading

@@ -1,0 +1,4 @@
+pub mod Lines
+pub mod Told
+pub mod Table
+pub mod Calls
