@@ -12,7 +12,8 @@
  * Stack.   Where the gates are not in order (a gate has an operand above it), a build or a merge takes up to 1 MiB of stack, and so does
  *          placer_depth: the search for a loop has its marks there, since what is lent must stay unchanged. Else a call takes a few
  *          kilobytes; for the same reason reading an AIGER file takes 600 kB more, writing one 70 kB, a replay 330 kB, reading a plan
- *          sheet 64 kB, and checking a plan 1 MiB, a replay over one and mending one too; an explanation takes up to 1 MiB.
+ *          sheet 64 kB, and checking a plan 1 MiB, a replay over one too; mending one takes up to 2 MiB in all, an
+ *          explanation up to 1 MiB.
  * Rooms.   A room is the memory of one stage: 2^(height + 1) numbers of the plan and one of counts. A build fills as many as it has stages.
  *          Lend D + 1 rooms, and a refusal is about capacity (6, 7 or 8), never about rooms (9). D is the most gates on a way from an
  *          endpoint down to a leaf or a given pin, and placer_depth tells it. */

@@ -8,7 +8,8 @@
 //!
 //! The library keeps nothing between calls, so threads may call it at once. Where the gates are not in order (a gate has an operand above it) a
 //! build, depth or merge takes up to 1 MiB of its thread's stack, else a few kilobytes; reading an AIGER file takes 600 kB more, writing one 70 kB, a
-//! replay 330 kB, reading a plan sheet 64 kB, checking a plan 1 MiB, a replay over one and mending one too; an explanation takes up to 1 MiB.
+//! replay 330 kB, reading a plan sheet 64 kB, checking a plan 1 MiB, a replay over one too; mending one takes up to 2 MiB in all, an
+//! explanation up to 1 MiB.
 
 use core::fmt;
 
