@@ -1,10 +1,13 @@
-/* Builds, checks and replays plans that stand on its standard input, in one run, and answers on its standard output; numbers of 32 bits, lowest byte first.
+/* Builds, checks, replays, mends and explains plans that stand on its standard input, in one run, and answers on its standard output; numbers of 32 bits, lowest
+ * byte first.
  *
- * A question begins with fourteen: 0 for a build, 1 for a check, 2 for a replay over a plan; the height; for a build the word rule, else the stages; for a build
- * the rooms, for a replay the lines; for a replay the bytes that are lent for what comes out; how many numbers gates, given, records, plan, words, counts, driven,
- * start and recording have (0 for those that aren't asked for); then these lists.
- * A build is answered with its number, stages and words, and after 0 with plan, words and counts of that size. The others are answered with number, stage,
- * position and pin, and a 1 where something lent is not as the header says afterwards, 0 where all is; a replay after 0 also with what came out and the end bits.
+ * A question begins with fourteen: 0 for a build, 1 for a check, 2 for a replay over a plan, 3 for a plan mended, 4 for a build explained; the height; for a build
+ * and an explained one the word rule, else the stages; for these two the rooms, for a replay the lines, for a plan mended the numbers of its list; for a replay the
+ * bytes that are lent for what comes out, for a plan mended the numbers of its work, for a build explained those of its list; how many numbers gates, given,
+ * records, plan, words, counts, driven, start and recording have (0 for those that aren't asked for); then these lists.
+ * A build is answered with its number, stages and words, and after 0 with plan, words and counts of that size. The others are answered with the numbers of their
+ * answer, and a 1 where something lent is not as the header says afterwards, 0 where all is; a replay after 0 also with what came out and the end bits, a plan
+ * mended after 0 with plan and changes, a build explained with its lines.
  * Status 2 where the input ends within a question or there is no memory. */
 #include "placer.h"
 #include <stdio.h>
@@ -120,6 +123,57 @@ static void check(uint32_t height, size_t stages, uint32_t *const list[], const 
     say(number, answer, same);
 }
 
+/* An answer of so many numbers, and whether all is as it should be. */
+static void tell(const size_t *answer, size_t count, int right) {
+    for (size_t i = 0; i < count; i++)
+        give(&(uint32_t){(uint32_t)answer[i]}, 1);
+    give(&(uint32_t){!right}, 1);
+}
+
+static void mend(uint32_t height, size_t stages, size_t list_len, size_t work_len, uint32_t *const list[], const uint32_t *size) {
+    size_t answer[PLACER_MEND_LEN], plan_len = size[3];
+    uint32_t *plan = list[3], *before = numbers(plan_len), *changes = numbers(list_len), *work = numbers(work_len);
+    memcpy(before, plan, plan_len * sizeof *plan);
+    uint32_t number = mend_plan(height, list[0], size[0], list[1], size[1], list[2], size[2], plan, plan_len, list[4], size[4], list[5], size[5], stages,
+                                changes, list_len, work, work_len, answer, PLACER_MEND_LEN);
+    size_t count = answer[PLACER_MEND_COUNT];
+    int done = number == PLACER_DONE, looked = done || number == PLACER_WRONG_PLAN || number == PLACER_SHORT_LIST;
+    int right = answer[PLACER_MEND_NUMBER] == number && count <= list_len / PLACER_CHANGE && (done || count == 0);
+    if (right)
+        right = holds(work, looked ? 4 * plan_len : 0, 0, 4 * (work_len + BEHIND)) && holds(plan + plan_len, 0, 0, 4 * BEHIND) &&
+                holds(changes + PLACER_CHANGE * count, 0, 0, 4 * (list_len + BEHIND - PLACER_CHANGE * count)) &&
+                (done || memcmp(before, plan, plan_len * sizeof *plan) == 0);
+    tell(answer, PLACER_MEND_LEN, right);
+    if (done)
+        give(plan, plan_len), give(changes, right ? PLACER_CHANGE * count : 0);
+    free(work), free(changes), free(before);
+}
+
+/* A build, and the same explained: their areas and answers are the same, but where the list is too short. */
+static void explain(uint32_t height, uint32_t rule, size_t rooms, size_t list_len, uint32_t *const list[], const uint32_t *size) {
+    size_t answer[PLACER_EXPLAIN_LEN], built[PLACER_BUILD_LEN], length[4] = {placer_plan_size(height, rooms), placer_words_size(height), rooms,
+                                                                             placer_build_work_size(size[0], size[2])};
+    uint32_t *area[4], *same[4], *lines = numbers(list_len);
+    for (int i = 0; i < 4; i++)
+        area[i] = numbers(length[i]), same[i] = numbers(length[i]);
+    uint32_t number = explain_build_by(rule, height, list[0], size[0], list[1], size[1], list[2], size[2], area[0], length[0], area[1], length[1], area[2],
+                                       length[2], area[3], length[3], lines, list_len, answer, PLACER_EXPLAIN_LEN);
+    uint32_t alone = placer_build_by(rule, height, list[0], size[0], list[1], size[1], list[2], size[2], same[0], length[0], same[1], length[1], same[2],
+                                     length[2], same[3], length[3], built, PLACER_BUILD_LEN);
+    size_t told = answer[PLACER_EXPLAIN_LINES] * PLACER_LINE;
+    int right = answer[PLACER_EXPLAIN_NUMBER] == number && told <= list_len && holds(lines + told, 0, 0, 4 * (list_len + BEHIND - told));
+    for (int i = 0; i < 4; i++) {
+        if (number == PLACER_SHORT_LINES)
+            right = right && answer[i + 1] == 0 && told == 0 && holds(area[i], 4 * length[i], i < 2 ? 0xff : 0, 4 * (length[i] + BEHIND));
+        else
+            right = right && number == alone && memcmp(area[i], same[i], 4 * (length[i] + BEHIND)) == 0;
+        free(area[i]), free(same[i]);
+    }
+    tell(answer, PLACER_EXPLAIN_LEN, right && (number == PLACER_SHORT_LINES || memcmp(answer, built, sizeof built) == 0));
+    give(lines, right ? told : 0);
+    free(lines);
+}
+
 int main(void) {
     uint32_t head[HEAD + LISTS], *list[LISTS];
     while (fread(head, sizeof *head, 1, stdin) == 1) {
@@ -132,8 +186,12 @@ int main(void) {
             build(head[1], head[2], head[3], list, head + HEAD);
         else if (head[0] == 1)
             check(head[1], head[2], list, head + HEAD);
-        else
+        else if (head[0] == 2)
             replay(head[1], head[2], head[3], head[4], list, head + HEAD);
+        else if (head[0] == 3)
+            mend(head[1], head[2], head[3], head[4], list, head + HEAD);
+        else
+            explain(head[1], head[2], head[3], head[4], list, head + HEAD);
         if (fflush(stdout) != 0)
             stop("nobody reads on");
         for (int i = 0; i < LISTS; i++)

@@ -7,7 +7,11 @@ sys.path[:0] = [str(ROOT / "aiger"), str(ROOT / "examples")]
 import jobs  # noqa: E402
 import reader  # noqa: E402
 
-KINDS = {"output": 1, "flipflop": 2, "memory": 3, "staged": 4}
+
+def lists(job):
+    """Of a job as examples/jobs.py has it."""
+    gates = [literal for pin in range(job.pins + 1) for literal in (job.gates[pin][1] if pin in job.gates else [reader.EMPTY] * 2)]
+    return gates, [pin for _, pin in job.given], [number for _, word, numbers in job.records for number in (jobs.KINDS[word], *numbers)]
 
 
 def of(path):
@@ -16,6 +20,4 @@ def of(path):
     if path.suffix == ".aag":
         gates, records, _ = reader.read(path.read_bytes())
         return list(gates), [], list(records)
-    job = jobs.parsed(path.read_text())
-    gates = [literal for pin in range(job.pins + 1) for literal in (job.gates[pin][1] if pin in job.gates else [reader.EMPTY] * 2)]
-    return gates, [pin for _, pin in job.given], [number for _, word, numbers in job.records for number in (KINDS[word], *numbers)]
+    return lists(jobs.parsed(path.read_text()))

@@ -3,8 +3,9 @@
  * too few counts, and under a number that names no rule. D of a chain of 60 gates, and with a given pin near its end. A merge: the leaf outputs 2 and 4, a
  * partition each, no extra stages. The first example's plan as a sheet, which is read back and listed again, into too few words, cut, and of an unknown
  * number; and its sheet 1, as earlier versions wrote it, with its graph and without. The same plan checked, whole, with a cell damaged and with its word not
- * written, and replayed, with a flip-flop from pin 7 to leaf 4. And the AIGER document's half adder, read whole and cut, and written
- * again, with its two unused variables as inputs. */
+ * written, and replayed, with a flip-flop from pin 7 to leaf 4; and mended, as it is, with cells damaged, with too short a list, and with a top that nothing tells.
+ * Builds explained: 30 and 31 leaf outputs with a gate of level 2, a list that is too short, words that run out, a memory. And the AIGER document's half adder,
+ * read whole and cut, and written again, with its two unused variables as inputs. */
 #include "placer.h"
 #include <stdio.h>
 #include <stdlib.h>
@@ -210,6 +211,76 @@ static uint32_t checking(void) {
     return number;
 }
 
+/* The plan of the sheet after some damage, mended in a list of so many numbers. */
+static uint32_t mending(const char *what, const uint32_t *damaged, const uint32_t *words, const uint32_t *counts, size_t list_len) {
+    uint32_t plan[128], list[4 * 128], work[128];
+    size_t answer[PLACER_MEND_LEN];
+    memcpy(plan, damaged, sizeof plan);
+    uint32_t number = mend_plan(6, gates, 16, given, 0, machine, 5, plan, 128, words, 1, counts, 1, 1, list, list_len, work, placer_mend_work_size(128), answer,
+                                PLACER_MEND_LEN);
+    if (number == PLACER_DONE)
+        printf("%s: %zu changes\n", what, answer[PLACER_MEND_COUNT]);
+    else
+        judged(what, number, answer); /* stage and position stand where those of a check do */
+    for (size_t i = 0; i < answer[PLACER_MEND_COUNT]; i++) {
+        const uint32_t *change = list + PLACER_CHANGE * i;
+        printf("stage %u position %u: %u becomes %u\n", change[PLACER_CHANGE_STAGE], change[PLACER_CHANGE_POSITION], change[PLACER_CHANGE_OLD],
+               change[PLACER_CHANGE_NEW]);
+    }
+    return number;
+}
+
+static int wet(void) {
+    uint32_t plan[128], words[2], counts[1];
+    size_t read[PLACER_SHEET_LEN], enough = placer_mend_list_size(6, 1);
+    read_sheet(gates, 16, sheet_one, sizeof sheet_one, plan, 128, words, 2, counts, 1, read, PLACER_SHEET_LEN);
+    int fine = mending("mending the plan", plan, words, counts, 0) == PLACER_DONE;
+    plan[48] = placer_cell_and(5, 1, 0), plan[80] = E, plan[112] = placer_cell_plain(9); /* under pin 7, which tells what they were */
+    fine = fine && mending("mending three cells", plan, words, counts, enough) == PLACER_DONE;
+    fine = fine && mending("in a list for two", plan, words, counts, 2 * PLACER_CHANGE) == PLACER_SHORT_LIST;
+    plan[16] = placer_cell_and(6, 0, 1); /* a top: pin 6 stands here as well, and nothing tells that it was pin 7 */
+    return fine && mending("mending without its top", plan, words, counts, enough) == PLACER_WRONG_PLAN;
+}
+
+/* A build explained in two rooms, in a list of so many numbers. */
+static uint32_t explaining(const char *what, const uint32_t *g, size_t gs, const uint32_t *r, size_t rs, size_t list_len) {
+    uint32_t plan[256], words[2], counts[2], list[6 * 11], *work = numbers(placer_build_work_size(gs, rs));
+    size_t answer[PLACER_EXPLAIN_LEN];
+    uint32_t number = explain_build(6, g, gs, given, 0, r, rs, plan, placer_plan_size(6, 2), words, 2, counts, 2, work, placer_build_work_size(gs, rs), list,
+                                    list_len, answer, PLACER_EXPLAIN_LEN);
+    printf("%s: number %u, %zu lines\n", what, number, answer[PLACER_EXPLAIN_LINES]);
+    for (size_t i = 0; i < answer[PLACER_EXPLAIN_LINES]; i++) {
+        const uint32_t *line = list + PLACER_LINE * i;
+        if (line[PLACER_LINE_KIND] == PLACER_TAKEN_BACK)
+            printf("stage %u: pin %u taken back, needed %u, filled %u, distinct %u\n", line[PLACER_LINE_STAGE], line[PLACER_LINE_PIN], line[PLACER_LINE_NEEDED],
+                   line[PLACER_LINE_FILLED], line[PLACER_LINE_DISTINCT]);
+        else
+            printf("stage %u: refused %u, %u over %u, of %u and %u\n", line[PLACER_LINE_STAGE], line[PLACER_LINE_KIND], line[PLACER_LINE_COUNT],
+                   line[PLACER_LINE_LIMIT], line[PLACER_LINE_FIRST], line[PLACER_LINE_SECOND]);
+    }
+    free(work);
+    return number;
+}
+
+static int why(void) {
+    uint32_t g[2 * 34], r[2 * 32];
+    const uint32_t words[6] = {1, 14, 1, 15, 1, 2}, memory[92] = {3};
+    const size_t enough = placer_explain_size(6, 2);
+    uint32_t numbers[6];
+    for (uint32_t leaves = 30; leaves <= 31; leaves++) { /* each an output; behind them a gate of leaves 1 and 2, and one of that and leaf 3, an output too */
+        for (uint32_t p = 0; p <= leaves; p++)
+            g[2 * p] = g[2 * p + 1] = E, r[2 * p] = 1, r[2 * p + 1] = 2 * (p + 1);
+        r[2 * leaves + 1] = 2 * (leaves + 2);
+        g[2 * leaves + 2] = 2, g[2 * leaves + 3] = 4, g[2 * leaves + 4] = 2 * (leaves + 1), g[2 * leaves + 5] = 6;
+        numbers[leaves - 30] = explaining(leaves == 30 ? "30 leaves" : "31 leaves", g, 2 * (leaves + 3), r, 2 * (leaves + 1), enough);
+        numbers[leaves - 28] = explaining("in a list for less", g, 2 * (leaves + 3), r, 2 * (leaves + 1), (leaves - 29) * PLACER_LINE - 1);
+    }
+    numbers[4] = explaining("words", gates, 16, words, 6, enough);
+    numbers[5] = explaining("a memory", gates, 16, memory, 92, enough);
+    return numbers[0] == PLACER_DONE && numbers[1] == PLACER_NO_CELL && numbers[2] == PLACER_SHORT_LINES && numbers[3] == PLACER_SHORT_LINES &&
+           numbers[4] == PLACER_OVER_WORDS && numbers[5] == PLACER_OVER_RESERVED;
+}
+
 /* The chain of examples/split.txt: pins 1 and 2 are leaves, 3 = (2, 4), and each pin p after it (2 * (p - 1), 2). */
 static uint32_t splitting(void) {
     uint32_t chain[126] = {E, E, E, E, E, E, 2, 4}, work[16 * 63 + 8 * 2 + 512];
@@ -264,7 +335,7 @@ int main(void) {
     size_t answer[PLACER_BUILD_LEN];
     uint32_t whole = job(), every = show(PLACER_EVERY_RUN, 1), small = show(PLACER_NEEDED_RUNS, 0), none = first(2, 1, answer), deep = splitting();
     merging();
-    if (sheet() != PLACER_DONE || checking() != PLACER_DONE || aiger() != PLACER_DONE)
+    if (sheet() != PLACER_DONE || checking() != PLACER_DONE || !wet() || !why() || aiger() != PLACER_DONE)
         return 1;
     return whole != PLACER_DONE || deep != PLACER_DONE || every != PLACER_DONE || small != PLACER_WRONG_SIZE || none != PLACER_WRONG_SIZE;
 }

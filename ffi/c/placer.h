@@ -1,4 +1,5 @@
-/* The placer, for C: builds, merges, folds, replays, plans checked, listings, plan sheets, job files and AIGER files. Link libentries.a, which ffi/library writes (x86-64, Linux).
+/* The placer, for C: builds, also explained, merges, folds, replays, plans checked and mended, listings, plan sheets, job files and AIGER files. Link
+ * libentries.a, which ffi/library writes (x86-64, Linux).
  *
  * Every call returns, whatever numbers it is handed: it answers, or refuses with a number, and each contract says for all of them what is
  * returned and left. The caller checks nothing beforehand. What the caller owes is the memory:
@@ -11,7 +12,8 @@
  * Stack.   Where the gates are not in order (a gate has an operand above it), a build or a merge takes up to 1 MiB of stack, and so does
  *          placer_depth: the search for a loop has its marks there, since what is lent must stay unchanged. Else a call takes a few
  *          kilobytes; for the same reason reading an AIGER file takes 600 kB more, writing one 70 kB, a replay 330 kB, reading a plan
- *          sheet 64 kB, and checking a plan 1 MiB, a replay over one too.
+ *          sheet 64 kB, and checking a plan 1 MiB, a replay over one too; mending one takes up to 2 MiB in all, an
+ *          explanation up to 1 MiB.
  * Rooms.   A room is the memory of one stage: 2^(height + 1) numbers of the plan and one of counts. A build fills as many as it has stages.
  *          Lend D + 1 rooms, and a refusal is about capacity (6, 7 or 8), never about rooms (9). D is the most gates on a way from an
  *          endpoint down to a leaf or a given pin, and placer_depth tells it. */
@@ -26,15 +28,16 @@ extern "C" {
 #endif
 
 /* The version of this header and of the library that it is for: CHANGELOG.md. */
-#define PLACER_VERSION "0.8.0"
+#define PLACER_VERSION "0.9.0"
 
 /* An empty cell of a plan, an unused word, and each literal of a leaf. */
 #define PLACER_EMPTY 4294967295u
 
-/* What a call returns. 6 to 9 leave plan and words as empty marks, counts and work 0; every other refusal leaves everything lent as it was, but
- * for the answer. The first that applies is given, in the order 1, 2, 3, 23, 4, 5, 10, 6, then for each stage 9, 7, 8; of a job file 11, then 2; of
- * an AIGER file read 12, 13, 2, 3, 23, 4, and of one written 14, then 2; of a plan sheet read 16, 15, 17, and of one written 15, then 17; a replay has
- * 18, 19, 20, 17 between 5 and 6; a plan checked has 22 after 5, and a replay over a plan has it after 17. */
+/* What a call returns. 6 to 9 leave plan and words as empty marks, counts and work 0, and so does 21, which leaves the list as it was; every other
+ * refusal leaves everything lent as it was, but for the answer, and for 22 and 24 the work of a plan mended, which is 0. The first that applies is given,
+ * in the order 1, 2, 3, 23, 4, 5, 10, 6, then for each stage 9, 7, 8; of a job file 11, then 2; of an AIGER file read 12, 13, 2, 3, 23, 4, and of one written
+ * 14, then 2; of a plan sheet read 16, 15, 17, and of one written 15, then 17; a replay has 18, 19, 20, 17 between 5 and 6; a plan checked has 22 after 5, and
+ * a replay over a plan has it after 17; a plan mended has 22 after 5, then 24; an explanation has 21 after 5, where its lines, of whatever answer, don't fit. */
 enum placer_refusal {
     PLACER_DONE = 0,          /* not refused */
     PLACER_NO_HEIGHT = 1,     /* the height is not 6 to 13 */
@@ -57,8 +60,10 @@ enum placer_refusal {
     PLACER_NOT_PLAIN = 18,    /* a replay has a memory or a given pin */
     PLACER_NOT_DRIVEN = 19,   /* a driven pin is no leaf, or is driven twice */
     PLACER_WRONG_LENGTH = 20, /* driven pins, starting bits or recording have not the length that records and lines state */
-    PLACER_WRONG_PLAN = 22,   /* a plan made elsewhere has a fault; the answer has the place of the first */
-    PLACER_LOOP = 23          /* a loop of gates, given or not; the answer shows the smallest pin on any */
+    PLACER_SHORT_LINES = 21,  /* the list is too short for the lines of an explanation */
+    PLACER_WRONG_PLAN = 22,   /* a plan made elsewhere, or a mended one, has a fault; the answer has the place of the first */
+    PLACER_LOOP = 23,         /* a loop of gates, given or not; the answer shows the smallest pin on any */
+    PLACER_SHORT_LIST = 24    /* the list is too short for the changes of a plan mended */
 };
 
 /* A line on a number that a call returned, for people. */
@@ -85,8 +90,10 @@ static inline const char *placer_describe(uint32_t number) {
     case PLACER_NOT_PLAIN: return "a memory or a given pin, which no recording replays";
     case PLACER_NOT_DRIVEN: return "a driven pin is no leaf, or is driven twice";
     case PLACER_WRONG_LENGTH: return "driven pins, starting bits or recording have another length than stated";
+    case PLACER_SHORT_LINES: return "the list is too short for the explanation's lines";
     case PLACER_WRONG_PLAN: return "the plan has a fault";
     case PLACER_LOOP: return "a loop of gates";
+    case PLACER_SHORT_LIST: return "the list is too short for the changes";
     default: return "no number of the placer";
     }
 }
@@ -168,6 +175,17 @@ static inline size_t placer_replay_bits_size(size_t gates_len, size_t plan_len) 
 /* work of a replay over a plan: at least this. */
 static inline size_t placer_replay_plan_work_size(size_t gates_len, size_t records_len) { return placer_sum(gates_len / 2, records_len); }
 
+/* work of a plan mended: at least this, a copy of the plan. */
+static inline size_t placer_mend_work_size(size_t plan_len) { return plan_len; }
+
+/* list of a plan mended: this is always long enough, a change at every position of so many stages. */
+static inline size_t placer_mend_list_size(uint32_t height, size_t stages) { return placer_product(4, placer_plan_size(height, stages)); }
+
+/* list of an explanation: this is always long enough, a line for each level from 2 on of each room, and one for the refusal. */
+static inline size_t placer_explain_size(uint32_t height, size_t rooms) {
+    return height < 6 || height > 13 ? SIZE_MAX : placer_product(6, placer_sum(placer_product(rooms, height - 1), 1));
+}
+
 /* The bytes that hold any listing of so many stages and words, and any refusal's line: 17 a position, 11 a word, and what stands around them. */
 static inline size_t placer_listing_size(uint32_t height, size_t stages, size_t words) {
     size_t stage = placer_sum(48, placer_product(17, placer_stage_size(height)));
@@ -233,6 +251,66 @@ static inline uint32_t placer_build(uint32_t height, const uint32_t *gates, size
                                     size_t *answer, size_t answer_len) {
     return placer_build_by(PLACER_NEEDED_RUNS, height, gates, gates_len, given, given_len, records, records_len, plan, plan_len, words,
                            words_len, counts, counts_len, work, work_len, answer, answer_len);
+}
+
+/* ---- A build explained */
+
+/* The answer of an explanation: that of the build, and how many lines the list has, 0 with 21. */
+enum placer_explain_answer {
+    PLACER_EXPLAIN_NUMBER,
+    PLACER_EXPLAIN_STAGES,
+    PLACER_EXPLAIN_WORDS,
+    PLACER_EXPLAIN_STAGE,
+    PLACER_EXPLAIN_PIN,
+    PLACER_EXPLAIN_CELLS,
+    PLACER_EXPLAIN_LINES,
+    PLACER_EXPLAIN_LEN
+};
+
+/* A line is six numbers. The first says what it tells: PLACER_TAKEN_BACK, or the number of the refusal, 6, 7 or 8. The second is the stage, from 1; 0 with 6.
+ *
+ * Of a pin taken back the others are the pin and the three counts by which rule 7 takes it back, needed + max(filled, distinct) >= 2^(height - 1): the
+ * needed pins, the filled cells of level 1, the distinct pins above level 0.
+ * Of a refusal they are the limit, the count that is over it, and two parts:
+ * 6  the words reserved, over 2^(height - 5) - 1; else four times the memories and the duplicates, over 2^(height - 5). The parts are memories and duplicates
+ * 7  the words that the stage wants, over those that are left. No parts: 0 each
+ * 8  the filled cells of level 1 and the needed pins left, over 2^(height - 1) - 1, since one cell stays empty. The parts are these two */
+enum placer_line {
+    PLACER_LINE_KIND,
+    PLACER_LINE_STAGE,
+    PLACER_LINE_PIN,
+    PLACER_LINE_NEEDED,
+    PLACER_LINE_FILLED,
+    PLACER_LINE_DISTINCT,
+    PLACER_LINE_LIMIT = PLACER_LINE_PIN,
+    PLACER_LINE_COUNT,
+    PLACER_LINE_FIRST,
+    PLACER_LINE_SECOND,
+    PLACER_LINE
+};
+enum { PLACER_TAKEN_BACK = 1 };
+
+/* As placer_build_by, and says why: a line for each pin that rule 7 takes back, in the order of the stages and, within one, as the rules reach them; then,
+ * with 6, 7 and 8, the line that says what is over. A stage that is refused with 7 or 8 has its pins before that line. With 0 and 9 there are only pins.
+ * list:    the lines stand at its front, numbers behind them stay; placer_explain_size(height, rooms) numbers are always enough. With fewer, down to none, what
+ *          is needed is measured first, which takes a second build
+ * answer:  at least PLACER_EXPLAIN_LEN numbers
+ * all others as for placer_build_by
+ *
+ * Returns the number, as placer_build_by does; but 21 where the lines don't fit the list, which is then unchanged, the other areas as after 6. Where
+ * `answer` is too short that is 2, and nothing is changed. */
+uint32_t explain_build_by(uint32_t rule, uint32_t height, const uint32_t *gates, size_t gates_len, const uint32_t *given, size_t given_len,
+                          const uint32_t *records, size_t records_len, uint32_t *plan, size_t plan_len, uint32_t *words, size_t words_len,
+                          uint32_t *counts, size_t counts_len, uint32_t *work, size_t work_len, uint32_t *list, size_t list_len, size_t *answer,
+                          size_t answer_len);
+
+/* The same under PLACER_NEEDED_RUNS: what explains placer_build. */
+static inline uint32_t explain_build(uint32_t height, const uint32_t *gates, size_t gates_len, const uint32_t *given, size_t given_len,
+                                     const uint32_t *records, size_t records_len, uint32_t *plan, size_t plan_len, uint32_t *words,
+                                     size_t words_len, uint32_t *counts, size_t counts_len, uint32_t *work, size_t work_len, uint32_t *list,
+                                     size_t list_len, size_t *answer, size_t answer_len) {
+    return explain_build_by(PLACER_NEEDED_RUNS, height, gates, gates_len, given, given_len, records, records_len, plan, plan_len, words, words_len,
+                            counts, counts_len, work, work_len, list, list_len, answer, answer_len);
 }
 
 /* ---- Rooms */
@@ -402,6 +480,34 @@ uint32_t replay_plan(uint32_t height, const uint32_t *gates, size_t gates_len, c
                      const uint32_t *plan, size_t plan_len, const uint32_t *words, size_t words_len, const uint32_t *counts, size_t counts_len,
                      size_t stages, uint32_t *work, size_t work_len, uint32_t *tape, size_t tape_len, uint32_t *slots, size_t slots_len,
                      uint8_t *bits, size_t bits_len, size_t *answer, size_t answer_len);
+
+/* ---- A damaged plan mended */
+
+/* The answer of a plan mended: what is returned; with 22 the stage and position of the mended plan's first fault, as for check_plan; with 23 the pin; after 0
+ * how many changes the list has. What does not apply is 0. */
+enum placer_mend_answer { PLACER_MEND_NUMBER, PLACER_MEND_STAGE, PLACER_MEND_POSITION, PLACER_MEND_PIN, PLACER_MEND_COUNT, PLACER_MEND_LEN };
+
+/* A change is four numbers: the stage, from 1, the position, the cell that stood there and the one that stands there now. */
+enum placer_change { PLACER_CHANGE_STAGE, PLACER_CHANGE_POSITION, PLACER_CHANGE_OLD, PLACER_CHANGE_NEW, PLACER_CHANGE };
+
+/* Mends a plan of which some cells came back wrong, by the graph and the given pins. A plan that check_plan accepts stays as it is. Any other is rebuilt stage
+ * by stage, in each from the top down: a cell's pin is what a cell above it says, else its own. Where the pin's level is below the cell's it copies, where it
+ * is the cell's it ANDs as its gate says, which says what stands under it; levels stop at given pins and at those that earlier stages hold above level 0. A
+ * cell that no cell above speaks of, and whose pin is deeper than its level or not in the graph, is kept as it is. What comes of it must pass check_plan.
+ * So damage to cells that stand under others, and to kinds and inversions anywhere, gives the placer's plan back. The words are not mended.
+ * gates, given, records, words, counts, stages: as for check_plan
+ * plan:    as for check_plan, of less than 2^32 rooms; after 0 it is the mended one. Cells past the stages stay
+ * list:    the changes stand at its front, by stage and position, and are exactly the places that differ; numbers behind them stay.
+ *          placer_mend_list_size(height, stages) numbers are always enough; where there are fewer, what is needed isn't told: lend more
+ * work:    at least placer_mend_work_size(plan_len) numbers; scratch, these 0 afterwards but with 1 to 5 and 23, which leave it
+ * answer:  at least PLACER_MEND_LEN numbers
+ *
+ * Returns the number: 22 where the mended plan has a fault, with its place; 24 where the list is too short for the changes. No refusal changes plan or list.
+ * Where `answer` is too short that is 2, and nothing is changed. */
+uint32_t mend_plan(uint32_t height, const uint32_t *gates, size_t gates_len, const uint32_t *given, size_t given_len, const uint32_t *records,
+                   size_t records_len, uint32_t *plan, size_t plan_len, const uint32_t *words, size_t words_len, const uint32_t *counts,
+                   size_t counts_len, size_t stages, uint32_t *list, size_t list_len, uint32_t *work, size_t work_len, size_t *answer,
+                   size_t answer_len);
 
 /* ---- A listing */
 

@@ -3,13 +3,16 @@
 //! with too few counts. D of a chain of 60 gates, and with a given pin near its end. A merge: the leaf outputs 2 and 4, a partition each, no extra stages.
 //! The first example's plan as a sheet, which is read back and listed again, into too few words, cut, and of an unknown number; and its sheet 1, as earlier
 //! versions wrote it, with its graph and without. The same plan checked, whole, with a cell damaged and with its word not written, and replayed, with a
-//! flip-flop from pin 7 to leaf 4. And the AIGER document's half adder, read whole and cut, and written again, with its two unused variables as inputs.
+//! flip-flop from pin 7 to leaf 4; and mended, as it is, with cells damaged, with too short a list, and with a top that nothing tells. Builds explained: 30 and 31
+//! leaf outputs with a gate of level 2, a list that is too short, words that run out, a memory. And the AIGER document's half adder, read whole and cut, and
+//! written again, with its two unused variables as inputs.
 #[allow(dead_code)] // not all of it is shown
 #[path = "placer.rs"]
 mod placer;
 
-use placer::{build, build_by, check_plan, depth, fold, list_answer, merge, read_aiger, read_job, read_sheet, replay_plan, reserved, write_aiger, write_job, write_sheet};
-use placer::{Answer, Areas, Cell, Checked, Groups, Plan, Recording, Refusal, Run, Tape, WordRule, EMPTY as E};
+use placer::{build, build_by, changes, check_plan, depth, explain, fold, lines, list_answer, mend_plan, merge, read_aiger, read_job, read_sheet, replay_plan};
+use placer::{reserved, write_aiger, write_job, write_sheet};
+use placer::{Answer, Areas, Cell, Checked, Damaged, Groups, Line, Mended, Plan, Recording, Refusal, Run, Tape, WordRule, EMPTY as E};
 
 const GATES: [u32; 16] = [E, E, E, E, E, E, E, E, E, E, 2, 4, 6, 9, 10, 12];
 const RECORDS: [u32; 2] = [1, 14];
@@ -158,6 +161,73 @@ fn checking() {
     replaying("replay of it", plan);
 }
 
+/// The plan of the sheet after some damage, mended in a list of so many numbers.
+fn mending(what: &str, plan: Plan<'_>, list: usize) {
+    let mut cells = plan.cells.to_vec();
+    let (mut list, mut work) = (vec![0; list], vec![0; placer::mend_work_size(cells.len())]);
+    let damaged = Damaged { cells: &mut cells, words: plan.words, counts: plan.counts, stages: plan.stages };
+    let answer = mend_plan(6, &GATES, &[], &MACHINE, damaged, &mut list, &mut work);
+    let Mended { number, stage, position, pin, count } = answer;
+    match number {
+        0 => println!("{what}: {count} changes"),
+        _ => judged(what, &Checked { number, stage, position, pin }),
+    }
+    for change in changes(&list, count) {
+        println!("stage {} position {}: {} becomes {}", change.stage, change.position, change.old.0, change.new.0);
+    }
+}
+
+fn wet() {
+    let (mut cells, mut words, mut counts) = ([0; 128], [0; 2], [0; 1]);
+    read_sheet(&GATES, &SHEET_ONE, &mut cells, &mut words, &mut counts);
+    let plan = Plan { cells: &cells, words: &words[..1], counts: &counts, stages: 1 };
+    let enough = placer::mend_list_size(6, 1);
+    mending("mending the plan", plan, 0);
+    let mut damaged = cells;
+    // under pin 7, which tells what they were
+    (damaged[48], damaged[80], damaged[112]) = (Cell::and(5, true, false).0, E, Cell::plain(9).0);
+    mending("mending three cells", Plan { cells: &damaged, ..plan }, enough);
+    mending("in a list for two", Plan { cells: &damaged, ..plan }, 2 * placer::CHANGE);
+    // a top: pin 6 stands here as well, and nothing tells that it was pin 7
+    damaged[16] = Cell::and(6, false, true).0;
+    mending("mending without its top", Plan { cells: &damaged, ..plan }, enough);
+}
+
+/// A build explained in two rooms, in a list of so many numbers.
+fn explaining(what: &str, gates: &[u32], records: &[u32], list: usize) {
+    let (mut plan, mut words, mut counts) = ([0; 256], [0; 2], [0; 2]);
+    let (mut work, mut list) = (vec![0; placer::build_work_size(gates.len(), records.len())], vec![0; list]);
+    let areas = Areas { plan: &mut plan, words: &mut words, counts: &mut counts, work: &mut work };
+    let explained = explain(6, gates, &[], records, areas, &mut list);
+    println!("{what}: number {}, {} lines", explained.answer.number, explained.lines);
+    for line in lines(&list, explained.lines) {
+        match line {
+            Line::TakenBack { stage, pin, needed, filled, distinct } => {
+                println!("stage {stage}: pin {pin} taken back, needed {needed}, filled {filled}, distinct {distinct}")
+            }
+            Line::OverReserved { limit, count, memories, duplicates } => println!("stage 0: refused 6, {count} over {limit}, of {memories} and {duplicates}"),
+            Line::OverWords { stage, left, wanted } => println!("stage {stage}: refused 7, {wanted} over {left}, of 0 and 0"),
+            Line::NoCell { stage, limit, filled, needed } => println!("stage {stage}: refused 8, {} over {limit}, of {filled} and {needed}", filled + needed),
+        }
+    }
+}
+
+fn why() {
+    let enough = placer::explain_size(6, 2);
+    for leaves in 30..=31 {
+        // each an output; behind them a gate of leaves 1 and 2, and one of that and leaf 3, an output too
+        let mut gates = vec![E; 2 * (leaves + 1)];
+        gates.extend([2, 4, 2 * (leaves as u32 + 1), 6]);
+        let records: Vec<u32> = (1..=leaves as u32).chain([leaves as u32 + 2]).flat_map(|pin| [1, 2 * pin]).collect();
+        explaining(&format!("{leaves} leaves"), &gates, &records, enough);
+        explaining("in a list for less", &gates, &records, (leaves - 29) * placer::LINE - 1);
+    }
+    explaining("words", &GATES, &[1, 14, 1, 15, 1, 2], enough);
+    let mut memory = [0; 92];
+    memory[0] = 3;
+    explaining("a memory", &GATES, &memory, enough);
+}
+
 /// The chain of examples/split.txt: pins 1 and 2 are leaves, 3 = (2, 4), and each pin p after it (2 * (p - 1), 2).
 fn splitting() {
     let mut chain = vec![E, E, E, E, E, E, 2, 4];
@@ -202,5 +272,7 @@ fn main() {
     merging();
     sheet();
     checking();
+    wet();
+    why();
     aiger();
 }

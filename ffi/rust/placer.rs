@@ -1,4 +1,5 @@
-//! The placer, for Rust: builds, merges, folds, replays, plans checked, listings, plan sheets, job files and AIGER files. Link `libentries.a`, which `ffi/library` writes (x86-64, Linux).
+//! The placer, for Rust: builds, also explained, merges, folds, replays, plans checked and mended, listings, plan sheets, job files and AIGER files. Link
+//! `libentries.a`, which `ffi/library` writes (x86-64, Linux).
 //! No crate beyond `core` is needed. Every function takes any numbers and slices, and answers or refuses; none panics.
 //!
 //! A room is the memory of one stage: `stage_size(height)` numbers of the plan and one of the counts. A build fills as many as it has stages.
@@ -7,18 +8,19 @@
 //!
 //! The library keeps nothing between calls, so threads may call it at once. Where the gates are not in order (a gate has an operand above it) a
 //! build, depth or merge takes up to 1 MiB of its thread's stack, else a few kilobytes; reading an AIGER file takes 600 kB more, writing one 70 kB, a
-//! replay 330 kB, reading a plan sheet 64 kB, checking a plan 1 MiB, a replay over one too.
+//! replay 330 kB, reading a plan sheet 64 kB, checking a plan 1 MiB, a replay over one too; mending one takes up to 2 MiB in all, an
+//! explanation up to 1 MiB.
 
 use core::fmt;
 
 /// The version of this file and of the library that it is for: CHANGELOG.md.
-pub const VERSION: &str = "0.8.0";
+pub const VERSION: &str = "0.9.0";
 
 /// An empty cell of a plan, an unused word, and each literal of a leaf.
 pub const EMPTY: u32 = u32::MAX;
 
-/// Why a call was refused. All but `OverReserved` to `NoRoom` leave every slice as it was; after those plan and words are `EMPTY`, counts and
-/// work 0.
+/// Why a call was refused. All but `OverReserved` to `NoRoom` and `ShortLines` leave every slice as it was; after those plan and words are `EMPTY`, counts
+/// and work 0. `WrongPlan` and `ShortList` leave the work of a plan mended 0.
 #[derive(Clone, Copy, Debug, PartialEq, Eq)]
 #[repr(u32)]
 pub enum Refusal {
@@ -62,10 +64,14 @@ pub enum Refusal {
     NotDriven = 19,
     /// Driven pins, starting bits or recording have not the length that records and lines state.
     WrongLength = 20,
-    /// A plan made elsewhere has a fault; the answer has the place of the first.
+    /// The list is too short for the lines of an explanation.
+    ShortLines = 21,
+    /// A plan made elsewhere, or a mended one, has a fault; the answer has the place of the first.
     WrongPlan = 22,
     /// A loop of gates, given or not; the answer shows the smallest pin on any.
     Loop = 23,
+    /// The list is too short for the changes of a plan mended.
+    ShortList = 24,
 }
 
 impl Refusal {
@@ -92,8 +98,10 @@ impl Refusal {
             18 => Refusal::NotPlain,
             19 => Refusal::NotDriven,
             20 => Refusal::WrongLength,
+            21 => Refusal::ShortLines,
             22 => Refusal::WrongPlan,
             23 => Refusal::Loop,
+            24 => Refusal::ShortList,
             _ => return None,
         })
     }
@@ -121,8 +129,10 @@ impl Refusal {
             Refusal::NotPlain => "a memory or a given pin, which no recording replays",
             Refusal::NotDriven => "a driven pin is no leaf, or is driven twice",
             Refusal::WrongLength => "driven pins, starting bits or recording have another length than stated",
+            Refusal::ShortLines => "the list is too short for the explanation's lines",
             Refusal::WrongPlan => "the plan has a fault",
             Refusal::Loop => "a loop of gates",
+            Refusal::ShortList => "the list is too short for the changes",
         }
     }
 }
@@ -229,6 +239,30 @@ pub const fn replay_plan_work_size(gates: usize, records: usize) -> usize {
     (gates / 2).saturating_add(records)
 }
 
+/// The numbers of a change in the list of a plan mended.
+pub const CHANGE: usize = 4;
+
+/// The least size of the work of a plan mended, by the length of the plan, which it has a copy of.
+pub const fn mend_work_size(plan: usize) -> usize {
+    plan
+}
+
+/// A list that is always long enough for a plan mended of so many stages: a change at every position.
+pub const fn mend_list_size(height: u32, stages: usize) -> usize {
+    plan_size(height, stages).saturating_mul(CHANGE)
+}
+
+/// The numbers of a line in the list of an explanation.
+pub const LINE: usize = 6;
+
+/// A list that is always long enough for an explanation: a line for each level from 2 on of each room, and one for the refusal.
+pub const fn explain_size(height: u32, rooms: usize) -> usize {
+    if height < 6 || height > 13 {
+        return usize::MAX;
+    }
+    rooms.saturating_mul(height as usize - 1).saturating_add(1).saturating_mul(LINE)
+}
+
 /// Bytes that hold any listing of so many stages and words, and any refusal's line: 17 a position, 11 a word, and what stands around them.
 pub const fn listing_size(height: u32, stages: usize, words: usize) -> usize {
     let stage = stage_size(height).saturating_mul(17).saturating_add(48);
@@ -283,6 +317,46 @@ pub struct Answer {
     pub stage: usize,
     pub pin: usize,
     pub cells: usize,
+}
+
+/// The numbers that an explanation answers: those of the build, and how many lines the list has, 0 with `ShortLines`.
+#[derive(Clone, Copy, Debug, PartialEq, Eq)]
+pub struct Explained {
+    pub answer: Answer,
+    pub lines: usize,
+}
+
+/// A line of an explanation. Stages count from 1.
+#[derive(Clone, Copy, Debug, PartialEq, Eq)]
+pub enum Line {
+    /// A pin, and the three counts by which rule 7 takes it back, needed + max(filled, distinct) >= 2^(height - 1): the needed pins, the filled cells of
+    /// level 1, the distinct pins above level 0.
+    TakenBack { stage: u32, pin: u32, needed: u32, filled: u32, distinct: u32 },
+    /// 6: the words reserved for so many memories and duplicates, over 2^(height - 5) - 1; else four times the memories and the duplicates, over
+    /// 2^(height - 5).
+    OverReserved { limit: u32, count: u32, memories: u32, duplicates: u32 },
+    /// 7: the words that the stage wants, and those that are left.
+    OverWords { stage: u32, left: u32, wanted: u32 },
+    /// 8: the filled cells of level 1 and the needed pins left, over 2^(height - 1) - 1, since one cell stays empty.
+    NoCell { stage: u32, limit: u32, filled: u32, needed: u32 },
+}
+
+impl Line {
+    /// The line that six numbers of the list are; none where the first is no kind of line.
+    pub const fn of(numbers: [u32; LINE]) -> Option<Line> {
+        Some(match numbers {
+            [1, stage, pin, needed, filled, distinct] => Line::TakenBack { stage, pin, needed, filled, distinct },
+            [6, _, limit, count, memories, duplicates] => Line::OverReserved { limit, count, memories, duplicates },
+            [7, stage, left, wanted, ..] => Line::OverWords { stage, left, wanted },
+            [8, stage, limit, _, filled, needed] => Line::NoCell { stage, limit, filled, needed },
+            _ => return None,
+        })
+    }
+}
+
+/// The lines at the front of a list, as many as the explanation answered.
+pub fn lines(list: &[u32], count: usize) -> impl Iterator<Item = Line> + '_ {
+    list.chunks_exact(LINE).take(count).filter_map(|numbers| Line::of(numbers.try_into().ok()?))
 }
 
 /// The areas that a build or a merge writes; the plan's numbers are cells. Each counts at its own size; numbers past it are never changed.
@@ -378,6 +452,39 @@ pub struct Checked {
     pub pin: usize,
 }
 
+/// A plan that is to be mended: as `Plan`, but that after 0 its cells are the mended ones.
+pub struct Damaged<'a> {
+    pub cells: &'a mut [u32],
+    pub words: &'a [u32],
+    pub counts: &'a [u32],
+    pub stages: usize,
+}
+
+/// The numbers that mending a plan answers: 0 and how many changes the list has, or what refuses it; with 22 the place of the mended plan's first fault, as
+/// of `Checked`; with 23 the smallest pin on any loop. What does not apply is 0.
+#[derive(Clone, Copy, Debug, PartialEq, Eq)]
+pub struct Mended {
+    pub number: u32,
+    pub stage: usize,
+    pub position: usize,
+    pub pin: usize,
+    pub count: usize,
+}
+
+/// A place of the plan that mending changed: the stage, from 1, the position, and the cell before and after.
+#[derive(Clone, Copy, Debug, PartialEq, Eq)]
+pub struct Change {
+    pub stage: u32,
+    pub position: u32,
+    pub old: Cell,
+    pub new: Cell,
+}
+
+/// The changes at the front of a list, as many as mending answered.
+pub fn changes(list: &[u32], count: usize) -> impl Iterator<Item = Change> + '_ {
+    list.chunks_exact(CHANGE).take(count).map(|numbers| Change { stage: numbers[0], position: numbers[1], old: Cell(numbers[2]), new: Cell(numbers[3]) })
+}
+
 /// The number that a fold answers: 0, or what refuses it, `NoHeight` or `WrongSize`.
 #[derive(Clone, Copy, Debug, PartialEq, Eq)]
 pub struct Folded {
@@ -434,6 +541,20 @@ extern "C" {
         words: *mut u32, words_len: usize,
         counts: *mut u32, counts_len: usize,
         work: *mut u32, work_len: usize,
+        answer: *mut usize, answer_len: usize,
+    ) -> u32;
+
+    fn explain_build_by(
+        rule: u32,
+        height: u32,
+        gates: *const u32, gates_len: usize,
+        given: *const u32, given_len: usize,
+        records: *const u32, records_len: usize,
+        plan: *mut u32, plan_len: usize,
+        words: *mut u32, words_len: usize,
+        counts: *mut u32, counts_len: usize,
+        work: *mut u32, work_len: usize,
+        list: *mut u32, list_len: usize,
         answer: *mut usize, answer_len: usize,
     ) -> u32;
 
@@ -536,6 +657,21 @@ extern "C" {
         answer: *mut usize, answer_len: usize,
     ) -> u32;
 
+    #[link_name = "mend_plan"]
+    fn mend_plan_entry(
+        height: u32,
+        gates: *const u32, gates_len: usize,
+        given: *const u32, given_len: usize,
+        records: *const u32, records_len: usize,
+        plan: *mut u32, plan_len: usize,
+        words: *const u32, words_len: usize,
+        counts: *const u32, counts_len: usize,
+        stages: usize,
+        list: *mut u32, list_len: usize,
+        work: *mut u32, work_len: usize,
+        answer: *mut usize, answer_len: usize,
+    ) -> u32;
+
     #[link_name = "list_answer"]
     fn list_answer_entry(
         height: u32,
@@ -635,6 +771,37 @@ pub fn build_by(rule: WordRule, height: u32, gates: &[u32], given: &[u32], recor
         )
     };
     Answer { number, stages: answer[1], words: answer[2], stage: answer[3], pin: answer[4], cells: answer[5] }
+}
+
+/// Builds as `build` does, and says why in `list`: a line for each pin that rule 7 takes back, in the order of the stages and, within one, as the rules reach
+/// them; then, with 6, 7 and 8, the line that says what is over. `explain_size` numbers are always enough; where the lines don't fit it is refused with
+/// `ShortLines`, the list as it was, the areas as after `OverReserved`.
+pub fn explain(height: u32, gates: &[u32], given: &[u32], records: &[u32], areas: Areas<'_>, list: &mut [u32]) -> Explained {
+    explain_by(WordRule::NeededRuns, height, gates, given, records, areas, list)
+}
+
+/// As `explain`, by the word rule that is asked for.
+pub fn explain_by(rule: WordRule, height: u32, gates: &[u32], given: &[u32], records: &[u32], areas: Areas<'_>, list: &mut [u32]) -> Explained {
+    let mut answer = [0usize; 7];
+    let Areas { plan, words, counts, work } = areas;
+    // SAFETY: as for `build_by`.
+    let number = unsafe {
+        explain_build_by(
+            rule as u32,
+            height,
+            gates.as_ptr(), gates.len(),
+            given.as_ptr(), given.len(),
+            records.as_ptr(), records.len(),
+            plan.as_mut_ptr(), plan.len(),
+            words.as_mut_ptr(), words.len(),
+            counts.as_mut_ptr(), counts.len(),
+            work.as_mut_ptr(), work.len(),
+            list.as_mut_ptr(), list.len(),
+            answer.as_mut_ptr(), answer.len(),
+        )
+    };
+    let [_, stages, words, stage, pin, cells, lines] = answer;
+    Explained { answer: Answer { number, stages, words, stage, pin, cells }, lines }
 }
 
 /// D, for how many rooms to lend: a build of these gates, given pins and records with D + 1 rooms is never refused with `NoRoom`, at any height.
@@ -811,6 +978,33 @@ pub fn replay_plan(height: u32, gates: &[u32], given: &[u32], records: &[u32], r
         )
     };
     Checked { number, stage: answer[1], position: answer[2], pin: answer[3] }
+}
+
+/// Mends a plan of which some cells came back wrong, by the graph and the given pins; its words are not mended. A plan that `check_plan` accepts stays as it
+/// is. Any other is rebuilt stage by stage, in each from the top down, a cell's pin being what a cell above it says, else its own; what comes of it passes
+/// `check_plan`, or it is refused with `WrongPlan` and the place. The list has each change, by stage and position, at its front: `mend_list_size` numbers are
+/// always enough, and with fewer it may be refused with `ShortList`. No refusal changes plan or list. The work has `mend_work_size` numbers, 0 afterwards but
+/// with 1 to 5 and 23, which leave it.
+pub fn mend_plan(height: u32, gates: &[u32], given: &[u32], records: &[u32], plan: Damaged<'_>, list: &mut [u32], work: &mut [u32]) -> Mended {
+    let mut answer = [0usize; 5];
+    // SAFETY: as for `build_by`.
+    let number = unsafe {
+        mend_plan_entry(
+            height,
+            gates.as_ptr(), gates.len(),
+            given.as_ptr(), given.len(),
+            records.as_ptr(), records.len(),
+            plan.cells.as_mut_ptr(), plan.cells.len(),
+            plan.words.as_ptr(), plan.words.len(),
+            plan.counts.as_ptr(), plan.counts.len(),
+            plan.stages,
+            list.as_mut_ptr(), list.len(),
+            work.as_mut_ptr(), work.len(),
+            answer.as_mut_ptr(), answer.len(),
+        )
+    };
+    let [_, stage, position, pin, count] = answer;
+    Mended { number, stage, position, pin, count }
 }
 
 /// The text of what a build answered and left, to the front of `out`: the listing of its plan, or a refusal's line. `listing_size` bytes are

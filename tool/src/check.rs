@@ -55,7 +55,7 @@ pub fn run(args: &Args) -> Done<()> {
     let told = depth(&job.gates, &job.given, &job.records, &mut area);
     let aside = reserved(&job.gates, &job.given, &job.records, &mut area);
     drop(area);
-    let built = Built::of(&job, &args.space)?;
+    let built = Built::of(&job, &args.space, false)?;
     let height = built.height;
     if told.number == 0 {
         out.put(format!("depth {}\nrooms {}\nreserved {}\nheight {height}\n", told.depth, told.depth.saturating_add(1), aside.words))?;

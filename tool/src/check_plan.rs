@@ -4,7 +4,7 @@ use crate::end::{Done, End};
 use crate::fault;
 use crate::files::Out;
 use crate::job;
-use crate::memory::{parse_size, Space};
+use crate::memory::{parse_size, For, Space};
 use crate::placer::{check_plan, Answer};
 use crate::plan::refusal_line;
 use crate::sheet;
@@ -30,7 +30,7 @@ pub fn run(args: &Args) -> Done<()> {
     let job = job::accepted(&args.file, args.memory)?;
     let space = Space { height: None, rooms: None, memory: args.memory };
     let mut out = Out::standard();
-    let (name, built) = match sheet::load(&args.sheet, &job, &space, false)? {
+    let (name, built) = match sheet::load(&args.sheet, &job, &space, For::Build)? {
         (name, sheet::Read::Plan(built)) => (name, built),
         (_, sheet::Read::Refused { number, said }) => {
             out.put(refusal_line(number, 0, 0))?;
@@ -51,7 +51,7 @@ pub fn run(args: &Args) -> Done<()> {
         }
         number => {
             out.put(refusal_line(number, 0, answer.pin))?;
-            why::lists(&job, built.height, number, 0, answer.pin, built.lent.rooms)
+            why::lists(&job, built.height, number, 0, answer.pin, built.lent.rooms, &[])
         }
     };
     out.flush()?;

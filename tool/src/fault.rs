@@ -16,14 +16,19 @@ struct Look<'a> {
 }
 
 /// Which row from the top a position stands in, from 0: the row begins at that power of two.
-fn depth(position: usize) -> u32 {
+pub fn depth(position: usize) -> u32 {
     usize::BITS - 1 - (position | 1).leading_zeros()
 }
 
 /// Where the first lower cell of a position stands, and the second.
-fn lower(position: usize) -> (usize, usize) {
+pub fn lower(position: usize) -> (usize, usize) {
     let row = 1usize << depth(position);
     (position + row, position + 2 * row)
+}
+
+/// A position as people find it in a tree: level and cell, both from 0.
+pub fn place(height: u32, position: usize) -> String {
+    format!("level {}, cell {} (position {position})", height - depth(position), position - (1usize << depth(position)))
 }
 
 fn literal(pin: impl Display, inverted: bool) -> String {
@@ -56,9 +61,8 @@ impl Look<'_> {
         self.built.height - depth(position)
     }
 
-    /// A position as people find it: level and cell, both from 0.
     fn place(&self, position: usize) -> String {
-        format!("level {}, cell {} (position {position})", self.level(position), position - (1usize << depth(position)))
+        place(self.built.height, position)
     }
 
     /// The two literals of a pin that a gate drives.

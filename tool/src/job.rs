@@ -39,6 +39,18 @@ impl Job {
         Graph { gates: &self.gates, given: &self.given, records: &self.records }
     }
 
+    /// What an AIGER file's symbols call a pin: an input, a latch, what a latch takes, an output.
+    pub fn called(&self, pin: u32) -> Option<String> {
+        let aag = if let Form::Aiger(aag) = &self.form { aag } else { return None };
+        let leaves = aag.inputs.iter().zip(&aag.names.inputs).map(|found| ("input", found)).chain(aag.latches.iter().zip(&aag.names.latches).map(|found| ("latch", found)));
+        if let Some((what, (_, name))) = leaves.into_iter().find(|(_, (&leaf, _))| leaf == pin) {
+            return Some(format!("{what} {name}"));
+        }
+        let ends = aag.names.latches.iter().map(|name| ("what latch", name, " takes")).chain(aag.names.outputs.iter().map(|name| ("output", name, "")));
+        let found = self.records().zip(ends).find(|((_, numbers), _)| numbers.last().map_or(false, |&literal| literal / 2 == pin));
+        found.map(|(_, (what, name, behind))| format!("{what} {name}{behind}"))
+    }
+
     /// Each record: its kind and its numbers.
     pub fn records(&self) -> Records<'_> {
         Records { rest: &self.records }
@@ -140,7 +152,7 @@ pub fn read(path: &Path, memory: usize) -> Done<Read> {
 pub fn accepted(path: &Path, memory: usize) -> Done<Job> {
     match read(path, memory)? {
         Read::Job(job) => Ok(job),
-        Read::Sheet { name, .. } => stopped(name, "a plan sheet has no gates and no records: plan lists one, and check-plan takes it behind its chip or job"),
+        Read::Sheet { name, .. } => stopped(name, "a plan sheet has no gates and no records: plan lists one, and check-plan and mend take it behind its chip or job"),
         Read::Refused { said, .. } => Err(End::Refused(said)),
     }
 }

@@ -7,10 +7,12 @@ mod aag;
 mod check;
 mod check_plan;
 mod end;
+mod explain;
 mod fault;
 mod files;
 mod job;
 mod memory;
+mod mend;
 mod merge;
 mod plan;
 #[allow(unsafe_code, dead_code)]
@@ -42,6 +44,7 @@ enum Command {
     Replay(replay::Args),
     Check(check::Args),
     CheckPlan(check_plan::Args),
+    Mend(mend::Args),
     Merge(merge::Args),
 }
 
@@ -54,6 +57,7 @@ fn run(command: &Command) -> Done<()> {
         Command::Replay(args) => replay::run(args),
         Command::Check(args) => check::run(args),
         Command::CheckPlan(args) => check_plan::run(args),
+        Command::Mend(args) => mend::run(args),
         Command::Merge(args) => merge::run(args),
     }
 }

@@ -103,23 +103,35 @@ impl Taped {
     }
 }
 
-/// What a room costs, in bytes: of a build, or of a replay.
-fn room_bytes(height: u32, replay: bool) -> usize {
+/// What a plan is wanted for, by what a room then needs beside its cells: nothing, a replay's tape, a copy.
+#[derive(Clone, Copy)]
+pub enum For {
+    Build,
+    Replay,
+    Mend,
+}
+
+/// What a room costs, in bytes.
+fn room_bytes(height: u32, wanted: For) -> usize {
     let stage = stage_size(height);
     let plan = stage.saturating_mul(size_of::<u32>());
-    let taped = if replay { plan.saturating_mul(2).saturating_add(stage / 2) } else { 0 };
-    plan.saturating_add(taped).saturating_add(size_of::<u32>())
+    let beside = match wanted {
+        For::Build => 0,
+        For::Replay => plan.saturating_mul(2).saturating_add(stage / 2),
+        For::Mend => plan,
+    };
+    plan.saturating_add(beside).saturating_add(size_of::<u32>())
 }
 
 /// The rooms that are asked for, else `enough`; fewer where the memory allows no more, which is said.
-pub fn rooms(name: &str, space: &Space, height: u32, enough: usize, replay: bool) -> usize {
+pub fn rooms(name: &str, space: &Space, height: u32, enough: usize, wanted: For) -> usize {
     let asked = space.rooms.unwrap_or(enough);
-    let held = (height >= 6 && height <= 13).then(|| space.memory / room_bytes(height, replay)).unwrap_or(0);
+    let held = (height >= 6 && height <= 13).then(|| space.memory / room_bytes(height, wanted)).unwrap_or(0);
     if asked > held && held > 0 {
-        let wanted = size(asked.saturating_mul(room_bytes(height, replay)));
-        say(format!("placer: {name}: {asked} rooms take {wanted}; --memory allows {held}, which are lent"));
+        let take = size(asked.saturating_mul(room_bytes(height, wanted)));
+        say(format!("placer: {name}: {asked} rooms take {take}; --memory allows {held}, which are lent"));
     } else if asked > held && stage_size(height) != usize::MAX {
-        say(format!("placer: {name}: --memory allows no room of {}", size(room_bytes(height, replay))));
+        say(format!("placer: {name}: --memory allows no room of {}", size(room_bytes(height, wanted))));
     }
     asked.min(held)
 }
@@ -130,12 +142,12 @@ pub fn plan(height: u32, rooms: usize, words: usize) -> Done<(Vec<u32>, Vec<u32>
 }
 
 /// Lends what a build needs, with the rooms that are asked for, else D + 1; fewer where the memory allows no more, which is said.
-pub fn lend(name: &str, space: &Space, height: u32, graph: Graph<'_>, work: usize, replay: bool) -> Done<Lent> {
+pub fn lend(name: &str, space: &Space, height: u32, graph: Graph<'_>, work: usize, wanted: For) -> Done<Lent> {
     let mut work = area(0, work.max(build_work_size(graph.gates.len(), graph.records.len())))?;
     // what depth refuses a build refuses too, and then no room is needed
     let told = depth(graph.gates, graph.given, graph.records, &mut work);
     let enough = if told.number == 0 { told.depth.saturating_add(1) } else { 0 };
-    let rooms = rooms(name, space, height, enough, replay);
+    let rooms = rooms(name, space, height, enough, wanted);
     let words = if stage_size(height) == usize::MAX { 0 } else { words_size(height) };
     let (plan, words, counts) = plan(height, rooms, words)?;
     Ok(Lent { rooms, plan, words, counts, work })

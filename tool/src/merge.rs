@@ -1,9 +1,10 @@
 //! Partitions of a file's records, merged by the library.
 
 use crate::end::{Done, End};
+use crate::explain;
 use crate::files::{self, Out};
 use crate::job::{self, Job};
-use crate::memory::{self, lend, Graph, Space};
+use crate::memory::{self, lend, For, Graph, Lent, Space};
 use crate::placer::{self, build, merge_work_size, Groups};
 use crate::plan::Built;
 use crate::why;
@@ -81,7 +82,14 @@ fn records(job: &Job, indices: &[u32]) -> Done<Vec<u32>> {
     Ok(records)
 }
 
-fn refused(args: &Args, job: &Job, lists: &Lists, height: u32, merged: &placer::Merged, rooms: usize) -> String {
+/// The records' indices of a partition, from 1.
+fn part(lists: &Lists, partition: usize) -> &[u32] {
+    let from: usize = lists.lengths.iter().take(partition.saturating_sub(1)).map(|&length| length as usize).sum();
+    let length = lists.lengths.get(partition.wrapping_sub(1)).map_or(0, |&length| length as usize);
+    lists.indices.get(from..from + length).unwrap_or(&[])
+}
+
+fn refused(args: &Args, job: &Job, lists: &Lists, height: u32, merged: &placer::Merged, lent: &mut Lent) -> Done<String> {
     let name = files::name(&args.groups);
     if merged.number == 10 {
         let count = job.records().count();
@@ -90,17 +98,22 @@ fn refused(args: &Args, job: &Job, lists: &Lists, height: u32, merged: &placer::
             let part = &lists.indices[end..end + length as usize];
             end += length as usize;
             if let Some(index) = part.iter().find(|&&index| index as usize >= count) {
-                return format!("{name}:{line}: refused with 10: record {index}; there are records 0 to {}", count.saturating_sub(1));
+                return Ok(format!("{name}:{line}: refused with 10: record {index}; there are records 0 to {}", count.saturating_sub(1)));
             }
         }
         let what = format!("{} partitions, of 1 to 1024, and {} extra stages, of 0 to 255", lists.lengths.len(), args.extra);
-        return format!("{name}: refused with 10: {what}");
+        return Ok(format!("{name}: refused with 10: {what}"));
     }
-    let said = why::lists(job, height, merged.number, merged.stage, merged.pin, rooms);
-    match lists.lines.get(merged.refused.wrapping_sub(1)) {
+    let mut lines = Vec::new();
+    if matches!(merged.number, 6..=8) {
+        let records = records(job, part(lists, merged.refused))?;
+        (_, lines) = explain::build(Graph { gates: &job.gates, given: &job.given, records: &records }, height, lent)?;
+    }
+    let said = why::lists(job, height, merged.number, merged.stage, merged.pin, lent.rooms, &lines);
+    Ok(match lists.lines.get(merged.refused.wrapping_sub(1)) {
         Some(line) => format!("{said} (partition {}, line {line} of {name})", merged.refused),
         None => said,
-    }
+    })
 }
 
 pub fn run(args: &Args) -> Done<()> {
@@ -109,13 +122,13 @@ pub fn run(args: &Args) -> Done<()> {
     let mut lists = groups(&name, &files::read(&args.groups, args.space.memory)?)?;
     let height = args.space.height.or(job.height).unwrap_or(13);
     let work = merge_work_size(job.gates.len(), job.records.len(), lists.indices.len(), lists.lengths.len());
-    let mut lent = lend(&job.name, &args.space, height, job.graph(), work, false)?;
+    let mut lent = lend(&job.name, &args.space, height, job.graph(), work, For::Build)?;
     let mut stages = memory::area(0, lists.lengths.len())?;
     let (mut indices, mut lengths) = (lists.indices.clone(), lists.lengths.clone());
     let merging = Groups { indices: &mut indices, lengths: &mut lengths, stages: &mut stages };
     let merged = placer::merge(height, &job.gates, &job.given, &job.records, merging, args.extra, lent.areas());
     if merged.number != 0 {
-        return Err(End::Refused(refused(args, &job, &lists, height, &merged, lent.rooms)));
+        return Err(End::Refused(refused(args, &job, &lists, height, &merged, &mut lent)?));
     }
     lists.indices = indices;
     let mut out = Out::standard();
@@ -130,9 +143,9 @@ pub fn run(args: &Args) -> Done<()> {
         if args.plans {
             let records = records(&job, part)?;
             let graph = Graph { gates: &job.gates, given: &job.given, records: &records };
-            let mut lent = lend(&job.name, &args.space, height, graph, 0, false)?;
+            let mut lent = lend(&job.name, &args.space, height, graph, 0, For::Build)?;
             let answer = build(height, graph.gates, graph.given, graph.records, lent.areas());
-            out.put(Built { height, answer, lent }.listing()?)?;
+            out.put(Built { height, answer, lent, lines: Vec::new() }.listing()?)?;
         }
     }
     out.put("end\n")?;

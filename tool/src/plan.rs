@@ -1,10 +1,11 @@
 //! A plan: built by the library, listed by the library.
 
-use crate::end::{stopped, Done, End};
+use crate::end::{say, stopped, Done, End};
+use crate::explain;
 use crate::files::Out;
 use crate::job::{self, Job, Read};
-use crate::memory::{self, lend, Lent, Space};
-use crate::placer::{build, list_answer, listing_size, stage_size, Answer, Plan};
+use crate::memory::{self, lend, For, Lent, Space};
+use crate::placer::{build, list_answer, listing_size, stage_size, Answer, Line, Plan};
 use crate::sheet;
 use crate::svg;
 use crate::why;
@@ -22,6 +23,9 @@ pub struct Args {
     /// Print the summary alone: stages, words, filled cells, time
     #[arg(short, long)]
     quiet: bool,
+    /// Say which pins were taken back, and by which counts; of an accepted job too
+    #[arg(long)]
+    why: bool,
     /// Draw the plan of the only file, stage by stage
     #[arg(long, value_name = "OUT")]
     svg: Option<PathBuf>,
@@ -33,19 +37,40 @@ pub struct Args {
     graph: Option<PathBuf>,
 }
 
-/// What a build answered and left.
+/// What a build answered and left, and the lines that explain it where it is refused for capacity or they were asked for.
 pub struct Built {
     pub height: u32,
     pub answer: Answer,
     pub lent: Lent,
+    pub lines: Vec<Line>,
 }
 
 impl Built {
-    pub fn of(job: &Job, space: &Space) -> Done<Built> {
+    pub fn of(job: &Job, space: &Space, why: bool) -> Done<Built> {
         let height = space.height.or(job.height).unwrap_or(13);
-        let mut lent = lend(&job.name, space, height, job.graph(), 0, false)?;
-        let answer = build(height, &job.gates, &job.given, &job.records, lent.areas());
-        Ok(Built { height, answer, lent })
+        let mut lent = lend(&job.name, space, height, job.graph(), 0, For::Build)?;
+        if !why {
+            let answer = build(height, &job.gates, &job.given, &job.records, lent.areas());
+            if !matches!(answer.number, 6..=8) {
+                return Ok(Built { height, answer, lent, lines: Vec::new() });
+            }
+        }
+        let (answer, lines) = explain::build(job.graph(), height, &mut lent)?;
+        Ok(Built { height, answer, lent, lines })
+    }
+
+    /// Says which pins were taken back, and first of an accepted job that it is one.
+    fn taken_back(&self, job: &Job) {
+        let taken: Vec<String> = self.lines.iter().filter_map(|line| explain::taken(job, line, self.height)).collect();
+        if self.answer.number == 0 {
+            let pins = match taken.len() {
+                0 => "no pin".to_string(),
+                1 => "1 pin".to_string(),
+                count => format!("{count} pins"),
+            };
+            say(format!("{}: accepted, with {pins} taken back", job.name));
+        }
+        taken.iter().for_each(say);
     }
 
     pub fn stages(&self) -> impl Iterator<Item = &[u32]> {
@@ -59,7 +84,7 @@ impl Built {
 
     /// The listing, or the refusal's line.
     pub fn listing(&self) -> Done<Vec<u8>> {
-        let Built { height, answer, lent } = self;
+        let Built { height, answer, lent, .. } = self;
         // a line for each filled cell, of at most 17 bytes; the library's own size counts the empty ones too
         let lines = answer.cells.saturating_mul(17);
         let least = lines.saturating_add(answer.stages.saturating_mul(48)).saturating_add(answer.words.saturating_mul(11)).saturating_add(64);
@@ -81,7 +106,7 @@ impl Built {
     /// What refuses it, said for people.
     pub fn refused(&self, job: &Job) -> Option<String> {
         let Answer { number, stage, pin, .. } = self.answer;
-        (number != 0).then(|| why::lists(job, self.height, number, stage, pin, self.lent.rooms))
+        (number != 0).then(|| why::lists(job, self.height, number, stage, pin, self.lent.rooms, &self.lines))
     }
 }
 
@@ -96,10 +121,11 @@ fn one(path: &PathBuf, graph: Option<&Job>, args: &Args, out: &mut Out) -> Done<
     let (name, job, built) = match job::read(path, args.space.memory)? {
         Read::Job(job) if graph.is_some() => return stopped(job.name, "has a graph of its own: --graph is for plan sheets"),
         Read::Job(job) => {
-            let built = Built::of(&job, &args.space)?;
+            let built = Built::of(&job, &args.space, args.why)?;
             (job.name.clone(), Some(job), built)
         }
-        Read::Sheet { name, bytes } => match sheet::read(&name, &bytes, graph, &args.space, false)? {
+        Read::Sheet { name, .. } if args.why => return stopped(name, "a plan sheet is not built, so that none of its pins is taken back: leave --why out"),
+        Read::Sheet { name, bytes } => match sheet::read(&name, &bytes, graph, &args.space, For::Build)? {
             sheet::Read::Plan(built) => (name, None, built),
             sheet::Read::Refused { number, said } => {
                 out.put(refusal_line(number, 0, 0))?;
@@ -116,6 +142,9 @@ fn one(path: &PathBuf, graph: Option<&Job>, args: &Args, out: &mut Out) -> Done<
         out.put(format!("stages {stages} words {words} cells {cells} seconds {:.3}\n", from.elapsed().as_secs_f64()))?;
     } else {
         out.put(built.listing()?)?;
+    }
+    if let (true, Some(job)) = (args.why, &job) {
+        built.taken_back(job);
     }
     if let Some(said) = job.as_ref().and_then(|job| built.refused(job)) {
         return Err(End::Refused(said));

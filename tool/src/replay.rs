@@ -3,10 +3,11 @@
 
 use crate::aag::Aag;
 use crate::end::{stopped, words, Done, End};
+use crate::explain;
 use crate::fault;
 use crate::files::{self, Out};
 use crate::job::{self, Form, Job};
-use crate::memory::{self, lend, Lent, Space, Taped};
+use crate::memory::{self, lend, For, Lent, Space, Taped};
 use crate::placer::{self, plan_size, replay_plan_work_size, Checked, Recording, Run, EMPTY};
 use crate::plan::Built;
 use crate::sheet;
@@ -224,12 +225,12 @@ impl<'a> Runner<'a> {
         let (over, size) = match &args.plan {
             None => {
                 let height = args.space.height.unwrap_or(13);
-                let lent = lend(&job.name, &args.space, height, job.graph(), 0, true)?;
+                let lent = lend(&job.name, &args.space, height, job.graph(), 0, For::Replay)?;
                 let size = lent.plan.len();
                 (Over::Built { height, lent }, size)
             }
             Some(path) => {
-                let (name, built) = match sheet::load(path, job, &args.space, true)? {
+                let (name, built) = match sheet::load(path, job, &args.space, For::Replay)? {
                     (name, sheet::Read::Plan(built)) => (name, built),
                     (_, sheet::Read::Refused { said, .. }) => return Err(End::Refused(said)),
                 };
@@ -252,14 +253,17 @@ impl<'a> Runner<'a> {
         }
     }
 
-    fn refused(&self, answer: &Checked, start: &[u8]) -> End {
+    fn refused(&mut self, answer: &Checked, start: &[u8]) -> End {
         let Checked { number, stage, position, pin } = *answer;
         let (name, latches) = (&self.job.name, self.aag.latches.len());
-        let said = match &self.over {
+        let said = match &mut self.over {
             _ if number == 20 && start.len() != latches => Ok(format!("{name}: refused with 20: --start has {} bits; there are {latches} latches", start.len())),
-            Over::Built { height, lent } => Ok(why::lists(self.job, *height, number, stage, pin, lent.rooms)),
+            Over::Built { height, lent } => {
+                let lines = if matches!(number, 6..=8) { explain::build(self.job.graph(), *height, lent).map(|(_, lines)| lines) } else { Ok(Vec::new()) };
+                lines.map(|lines| why::lists(self.job, *height, number, stage, pin, lent.rooms, &lines))
+            }
             Over::Sheet { name, built, .. } if number == 22 => fault::said(name, self.job, built, stage, position),
-            Over::Sheet { built, .. } => Ok(why::lists(self.job, built.height, number, 0, pin, built.lent.rooms)),
+            Over::Sheet { built, .. } => Ok(why::lists(self.job, built.height, number, 0, pin, built.lent.rooms, &[])),
         };
         said.map_or_else(|end| end, End::Refused)
     }

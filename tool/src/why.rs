@@ -1,9 +1,10 @@
 //! What a refusal means and where it belongs, in words. The library has refused; this only finds the place.
 
 use crate::aag::{Header, Line};
+use crate::explain;
 use crate::job::{Form, Job};
 use crate::memory::Graph;
-use crate::placer::{Aiger, Refusal, EMPTY};
+use crate::placer::{self, Aiger, Refusal, EMPTY};
 use std::collections::HashMap;
 
 fn line(name: &str, line: Option<usize>, number: u32, what: &str) -> String {
@@ -313,8 +314,8 @@ fn bad_record(job: &Job) -> Option<(usize, String)> {
     None
 }
 
-/// Of lists that a call refuses, at a stage and pin that it answered, with so many rooms lent.
-pub fn lists(job: &Job, height: u32, number: u32, stage: usize, pin: usize, rooms: usize) -> String {
+/// Of lists that a call refuses, at a stage and pin that it answered, with so many rooms lent; with 6, 7 and 8 by the last of the lines that explain it.
+pub fn lists(job: &Job, height: u32, number: u32, stage: usize, pin: usize, rooms: usize, lines: &[placer::Line]) -> String {
     let text = if let Form::Text(text) = &job.form { Some(text) } else { None };
     let pins = (job.gates.len() / 2).saturating_sub(1);
     let (at, what) = match number {
@@ -334,9 +335,7 @@ pub fn lists(job: &Job, height: u32, number: u32, stage: usize, pin: usize, room
             }
             None => (None, described(number).to_string()),
         },
-        6 => (None, "the words for memories and duplicate activations are more than this height may reserve".to_string()),
-        7 => (None, format!("in stage {stage} more words would be written than are left")),
-        8 => (None, format!("in stage {stage} level 1 can't hold all pins that must stand there and keep one cell empty")),
+        6..=8 => (None, lines.last().and_then(|line| explain::over(line, height)).unwrap_or_else(|| described(number).to_string())),
         9 => (None, format!("pins still wait after {} stages, and {rooms} rooms are lent", stage.saturating_sub(1))),
         23 => (text.and_then(|text| text.gate_lines.get(pin)).copied(), format!("pin {pin} is on a loop of gates, and no pin below it is")),
         _ => (None, described(number).to_string()),
