@@ -17,6 +17,7 @@ use stage_walk::Next;
 use stage_walk::followed;
 ghost use mathlib.Core.Path.{_≡_};
 ghost use mathlib.Core.List.{[], _∷_};
+ghost use Prim.Native.Nat.{_<_, _≤_};
 ghost use Rattle.rules.specs.Lists.{keep};
 ghost use Rattle.rules.specs.Placing.{treeOf, asked};
 ghost use Rattle.rules.specs.Inside.Lean.{lacks, lacking};
@@ -133,6 +134,22 @@ fn note_pin(gates: &[u32], work: &mut [u32], m: usize, c: Counts, p: Pin) -> Cou
     c
 }
 
+// How many pins a part has.
+const PART: usize = 1024;
+
+// Where the part of k pins that begins at i ends. Pins are gone over part by part: the compiler puts a pin's work in place only where it stands in a loop
+// of loops.
+fn part_end(i: usize, k: usize) -> usize
+    requires { ⌜ i < k ⌝ }
+    ensures within { λ r. ⌜ r ≤ k ⌝ }
+    ensures on { λ r. ⌜ i < r ⌝ }
+{
+    if k - i < PART {
+        return k;
+    }
+    i + PART
+}
+
 // The k listed pins, one after the other: a pin is looked at once, for the note and for the first count.
 fn survey(gates: &[u32], work: &mut [u32], m: usize, n: usize, k: usize) -> Counts
     requires { ⌜ SomePlan (λ C pl. NeededAt C pl m n k (now gates) (now work)) ⌝ }
@@ -144,9 +161,12 @@ fn survey(gates: &[u32], work: &mut [u32], m: usize, n: usize, k: usize) -> Coun
     };
     let mut i = 0;
     while i < k {
-        let p = pin_at(work, m, i, ORDER);
-        c = note_pin(gates, work, m, c, p);
-        i += 1;
+        let e = part_end(i, k);
+        while i < e {
+            let p = pin_at(work, m, i, ORDER);
+            c = note_pin(gates, work, m, c, p);
+            i += 1;
+        }
     }
     c
 }
@@ -159,9 +179,12 @@ fn collect(gates: &[u32], work: &mut [u32], m: usize, n: usize, f: usize, k: usi
     let mut r = 0;
     let mut i = 0;
     while i < k {
-        let p = pin_at(work, m, i, f);
-        r = need(gates, work, m, r, p);
-        i += 1;
+        let e = part_end(i, k);
+        while i < e {
+            let p = pin_at(work, m, i, f);
+            r = need(gates, work, m, r, p);
+            i += 1;
+        }
     }
     r
 }

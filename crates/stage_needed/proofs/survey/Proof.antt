@@ -1,6 +1,7 @@
--- `stage_needed::survey` meets its contract: the listed pins before i have been looked at. Assumes nothing.
-use mathlib.Core.Path.{_≡_, refl}
-use Prim.Native.Nat.{_≤_, _-_}
+-- `stage_needed::survey` meets its contract: the listed pins before i have been looked at. In a part what held of the pins before it holds of those before i. Assumes nothing.
+use Prim.Native.Nat.{ℕ, _≤_, _<_, _-_}
+use mathlib.Core.Path.{_≡_, refl, _∙_}
+use mathlib.Core.List.{List}
 use native.Mathlib.Omega.{arith}
 use lib.ListN.{length}
 use Rattle.stage_walk.specs.Stands.{EveryPlan}
@@ -10,47 +11,81 @@ use borrow.Author.Needs.{needs}
 use Rattle.stage_needed.proofs.survey.Statement.{statement}
 use Rattle.stage_needed.proofs.survey.Tie as tie
 
+abbrev Inv-loop2 : tie.InvT-loop2
+Inv-loop2 gates work₀ m n k c₀ i₀ e work c i =
+    ((w : List ℕ) → EveryPlan (λ C pl. NeededAt C pl m n k gates w) (λ C pl. Noting C pl m i₀ w work₀ c₀) → EveryPlan (λ C pl. NeededAt C pl m n k gates w) (λ C pl. Noting C pl m i w work c)) × (i ≤ e) × (length work ≡ length work₀)
+
+abbrev μ-loop2 : tie.MeasureT-loop2
+μ-loop2 gates work₀ m n k c₀ i₀ e work c i = e - i
+
 abbrev Inv-loop : tie.InvT-loop
 Inv-loop gates work₀ m n k c₀ i₀ work c i = EveryPlan (λ C pl. NeededAt C pl m n k gates work₀) (λ C pl. Noting C pl m i work₀ work c) × (i ≤ k) × (length work ≡ length work₀)
 
 abbrev μ-loop : tie.MeasureT-loop
 μ-loop gates work₀ m n k c₀ i₀ work c i = k - i
 
-loop-holds : tie.Need-loop-holds Inv-loop μ-loop
+loop-holds : tie.Need-loop-holds Inv-loop2 μ-loop2 Inv-loop μ-loop
 loop-holds c = (record { all = λ x A. noting-start A }, omega arith, refl)
 
-pin-at-requires : tie.Need-pin-at-requires Inv-loop μ-loop
-pin-at-requires c κs = let s = c .before .before .before .before .before .pre .at in omega (arith, s .ordered .order .few, s .begun .base .area .room, c .before .before .loop .inv .2)
+part-end-requires : tie.Need-part-end-requires Inv-loop2 μ-loop2 Inv-loop μ-loop
+part-end-requires c κs = search needs
 
-note-pin-requires : tie.Need-note-pin-requires Inv-loop μ-loop
-note-pin-requires c κs = let s = c .before .before .before .before .before .before .before .pre in record { it = s .it; at = note-pin-at (s .at) (c .before .before .before .before .loop .inv .0 .all (s .it) (s .at)) (c .before .before .before .loop-test .taken) _ (c .before .pin-at .ensures) }
+loop2-holds : tie.Need-loop2-holds Inv-loop2 μ-loop2 Inv-loop μ-loop
+loop2-holds c = (λ w h. h, omega (arith, c .part-end .ensures .1), refl)
 
-add-i : tie.Need-add-i Inv-loop μ-loop
+loop-less : tie.Need-loop-less Inv-loop2 μ-loop2 Inv-loop μ-loop
+loop-less c = omega (arith, c .before .before .part-end .ensures .0, c .before .before .part-end .ensures .1, c .loop2-test .left, c .before .loop2 .inv .1)
+
+loop-again : tie.Need-loop-again Inv-loop2 μ-loop2 Inv-loop μ-loop
+loop-again c = (c .before .loop2 .inv .0 _ (c .before .before .before .before .loop .inv .0), omega (arith, c .before .before .part-end .ensures .0, c .before .loop2 .inv .1), c .before .loop2 .inv .2 ∙ c .before .before .before .before .loop .inv .2)
+
+pin-at-requires : tie.Need-pin-at-requires Inv-loop2 μ-loop2 Inv-loop μ-loop
+pin-at-requires c κs = let s = c .before .before .before .before .before .before .before .before .pre .at in omega (arith, s .ordered .order .few, s .begun .base .area .room, c .before .before .loop2 .inv .2, c .before .before .before .before .before .loop .inv .2, c .before .loop2-test .taken, c .before .before .before .part-end .ensures .0)
+
+note-pin-requires : tie.Need-note-pin-requires Inv-loop2 μ-loop2 Inv-loop μ-loop
+note-pin-requires c κs =
+    let s = c .before .before .before .before .before .before .before .before .before .before .pre in
+    let U = c .before .before .before .before .loop2 .inv .0 _ (c .before .before .before .before .before .before .before .loop .inv .0) in
+    let b : c .before .before .before .before .loop2 .i < c .before .before .before .before .before .before .before .before .before .before .args .k = omega (arith, c .before .before .before .loop2-test .taken, c .before .before .before .before .before .part-end .ensures .0) in
+    record { it = s .it; at = note-pin-at (s .at) (U .all (s .it) (s .at)) b _ (c .before .pin-at .ensures) }
+
+add-i : tie.Need-add-i Inv-loop2 μ-loop2 Inv-loop μ-loop
 add-i c = search needs
 
-loop-less : tie.Need-loop-less Inv-loop μ-loop
-loop-less c = search needs
+loop2-less : tie.Need-loop2-less Inv-loop2 μ-loop2 Inv-loop μ-loop
+loop2-less c = search needs
 
-loop-again : tie.Need-loop-again Inv-loop μ-loop
-loop-again c = (record { all = λ x A. let U = c .before .before .before .before .before .before .before .loop .inv .0 .all x A in noting-more A U (c .before .before .before .before .before .before .loop-test .taken) _ (c .before .before .before .before .pin-at .ensures) (c .before .before .note-pin .ensures .all x (note-pin-at A U (c .before .before .before .before .before .before .loop-test .taken) _ (c .before .before .before .before .pin-at .ensures))) }, omega arith, search needs)
+loop2-again : tie.Need-loop2-again Inv-loop2 μ-loop2 Inv-loop μ-loop
+loop2-again c =
+    let b : c .before .before .before .before .before .before .before .loop2 .i < c .before .before .before .before .before .before .before .before .before .before .before .before .before .args .k = omega (arith, c .before .before .before .before .before .before .loop2-test .taken, c .before .before .before .before .before .before .before .before .part-end .ensures .0) in (
+      λ w h. record { all = λ x A. let T = c .before .before .before .before .before .before .before .loop2 .inv .0 w h .all x A in noting-more A T b _ (c .before .before .before .before .pin-at .ensures) (c .before .before .note-pin .ensures .all x (note-pin-at A T b _ (c .before .before .before .before .pin-at .ensures))) },
+      omega arith,
+      search needs,
+    )
 
-same-length : tie.Need-same-length Inv-loop μ-loop
+same-length : tie.Need-same-length Inv-loop2 μ-loop2 Inv-loop μ-loop
 same-length c = search needs
 
-returns : tie.Need-returns Inv-loop μ-loop
+returns : tie.Need-returns Inv-loop2 μ-loop2 Inv-loop μ-loop
 returns c = record { all = λ x A. noting-end A (c .before .loop .inv .0 .all x A) (c .loop-test .left) }
 
 pub survey-spec : {M : Type 1} → statement M
 survey-spec =
     tie.close
     (tie.spec
+    Inv-loop2
+    μ-loop2
     Inv-loop
     μ-loop
     loop-holds
+    part-end-requires
+    loop2-holds
+    loop-less
+    loop-again
     pin-at-requires
     note-pin-requires
     add-i
-    loop-less
-    loop-again
+    loop2-less
+    loop2-again
     same-length
     returns)
