@@ -71,3 +71,6 @@ pub const LOOP: u32 = 23;
 
 // The list of changes is too short.
 pub const SHORT_LIST: u32 = 24;
+
+// The old word rule, which nobody builds with now.
+pub const OLD_RULE: u32 = 25;
