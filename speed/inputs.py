@@ -2,7 +2,7 @@
 """Write the inputs that speed/versions measures, a file each, always the same. The first six are those of oracle/bench, number for number.
 
 usage: speed/inputs.py FOLDER
-A file has 32-bit numbers, lowest byte first: the word rule, how many numbers of gates, of records, of group indices and partitions it has (0 of the last
+A file has 32-bit numbers, lowest byte first: how many numbers of gates, of records, of group indices and partitions it has (0 of the last
 two for a build), then these lists. Its name says what it is.
 """
 import array
@@ -15,7 +15,6 @@ sys.path.insert(0, str(ROOT / "aiger"))
 import reader  # noqa: E402
 
 EMPTY = 4294967295
-NEEDED_RUNS, EVERY_RUN = 0, 1  # word rules
 WORD = 2**64 - 1
 
 
@@ -115,14 +114,14 @@ def main():
         sys.exit(__doc__)
     room = pathlib.Path(sys.argv[1])
 
-    def put(name, rule, gates, records, indices=(), lengths=()):
+    def put(name, gates, records, indices=(), lengths=()):
         lists = [list(gates), list(records), list(indices), list(lengths)]
-        numbers = array.array("I", [rule] + [len(part) for part in lists] + [number for part in lists for number in part])
+        numbers = array.array("I", [len(part) for part in lists] + [number for part in lists for number in part])
         if sys.byteorder == "big":
             numbers.byteswap()
         (room / name).write_bytes(numbers.tobytes())
 
-    # those of oracle/bench: one stream of draws, in its order, and the Rust's word rule
+    # those of oracle/bench: one stream of draws, in its order
     r = Random(2024)
     for name, leaves, gates, near, far, last, count in (
         ("20,000 gates, near operands", 2000, 20_000, 1000, 0, 20_000, 200),
@@ -131,11 +130,11 @@ def main():
         ("60,000 gates, far operands", 3000, 60_000, 3000, 20, 40_000, 200),
     ):
         graph = scattered(r, leaves, gates, near, far)
-        put(name, EVERY_RUN, graph, outputs(graph, count, last))
+        put(name, graph, outputs(graph, count, last))
     graph = chain(r, 64, 10_000)
-    put("a chain of 10,000 gates", EVERY_RUN, graph, outputs(graph, 1))
+    put("a chain of 10,000 gates", graph, outputs(graph, 1))
     graph = adders(16, 64)
-    put("64 adders of 16 bits", EVERY_RUN, graph, outputs(graph, 1000))
+    put("64 adders of 16 bits", graph, outputs(graph, 1000))
     # others
     r = Random(2025)
     for name, leaves, gates, near in (
@@ -144,15 +143,15 @@ def main():
         ("60,000 gates, near 300", 3000, 60_000, 300),
     ):
         graph = scattered(r, leaves, gates, near, 0)
-        put(name, NEEDED_RUNS, graph, outputs(graph, 400))
+        put(name, graph, outputs(graph, 400))
     graph = adders(64, 112)
-    put("ripple adders, 50,000 gates", NEEDED_RUNS, graph, outputs(graph, 2000))
+    put("ripple adders, 50,000 gates", graph, outputs(graph, 2000))
     for name in ("adder", "checksum", "dupfilter"):
         gates, records, _ = reader.read((ROOT / f"examples/{name}.aag").read_bytes())
-        put(name, NEEDED_RUNS, gates, records)
+        put(name, gates, records)
     graph = scattered(r, 2000, 20_000, 300, 0)
     records = outputs(graph, 3000)
-    put("a merge of 200 partitions, 20,000 gates", NEEDED_RUNS, graph, records, *spread(r, records, 200))
+    put("a merge of 200 partitions, 20,000 gates", graph, records, *spread(r, records, 200))
 
 
 if __name__ == "__main__":

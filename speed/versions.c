@@ -26,19 +26,19 @@ static double now(void) {
 
 int main(int count, char **words_of) {
     FILE *file = count == 4 ? fopen(words_of[1], "rb") : NULL;
-    uint32_t sizes[5];
-    if (!file || fread(sizes, 4, 5, file) != 5) {
+    uint32_t sizes[4];
+    if (!file || fread(sizes, 4, 4, file) != 4) {
         fputs("usage: versions INPUT ROUNDS CALLS\n", stderr);
         return 2;
     }
     uint32_t *lists[4];
     for (int i = 0; i < 4; i++) {
-        lists[i] = lent(sizes[1 + i]);
-        if (fread(lists[i], 4, sizes[1 + i], file) != sizes[1 + i])
+        lists[i] = lent(sizes[i]);
+        if (fread(lists[i], 4, sizes[i], file) != sizes[i])
             return 2;
     }
-    uint32_t rule = sizes[0], none = 0;
-    size_t gates = sizes[1], records = sizes[2], indices = sizes[3], parts = sizes[4];
+    uint32_t none = 0;
+    size_t gates = sizes[0], records = sizes[1], indices = sizes[2], parts = sizes[3];
     size_t work = placer_merge_work_size(gates, records, indices, parts), answer[ANSWERS] = {0};
     uint32_t *area = lent(work), number = placer_depth(lists[0], gates, &none, 0, lists[1], records, area, work, answer, ANSWERS);
     size_t rooms = answer[PLACER_DEPTH_D] + 1, plan = placer_plan_size(HEIGHT, rooms), limit = placer_words_size(HEIGHT);
@@ -53,11 +53,11 @@ int main(int count, char **words_of) {
             memcpy(list, lists[2], 4 * indices);
             memcpy(lengths, lists[3], 4 * parts);
             if (parts)
-                number = merge_partitions_by(rule, HEIGHT, lists[0], gates, &none, 0, lists[1], records, list, indices, lengths, parts, stages, parts, EXTRA,
-                                             plans, plan, words, limit, counts, rooms, area, work, answer, ANSWERS);
+                number = merge_partitions(HEIGHT, lists[0], gates, &none, 0, lists[1], records, list, indices, lengths, parts, stages, parts, EXTRA, plans, plan,
+                                          words, limit, counts, rooms, area, work, answer, ANSWERS);
             else
-                number = placer_build_by(rule, HEIGHT, lists[0], gates, &none, 0, lists[1], records, plans, plan, words, limit, counts, rooms, area, work,
-                                         answer, ANSWERS);
+                number = placer_build(HEIGHT, lists[0], gates, &none, 0, lists[1], records, plans, plan, words, limit, counts, rooms, area, work, answer,
+                                      ANSWERS);
         }
         double took = (now() - start) / calls;
         if (round >= 0) {

@@ -1,19 +1,16 @@
 // The entry of a build.
 use crate::answers::tell;
+use crate::word_rules::rule_refusal;
 use columns::wide;
-use placer::build_by;
+use placer::build;
 use refusals::WRONG_SIZE;
-use stage_runs::MaybeRule;
-use stage_runs::WordRule;
-use stage_runs::rule_named;
 ghost use mathlib.Core.Path.{_≡_};
-ghost use Rattle.stage_runs.specs.Rule.{ruleOf, ruleFor};
 ghost use Rattle.placer.specs.Answers.{areas};
 ghost use Rattle.entries.specs.Entry.{entry};
+ghost use Rattle.entries.specs.Rule.{ruleFor};
 ghost use Rattle.entries.specs.Build.{built, builtBy};
 
 fn enter(
-    rule: WordRule,
     height: u32,
     gates: &[u32],
     given: &[u32],
@@ -24,22 +21,12 @@ fn enter(
     work: &mut [u32],
     answer: &mut [usize],
 ) -> u32
-    ensures { λ r. ⌜ entry r (areas (now (plan .exit)) (now (words .exit)) (now (counts .exit)) (now (work .exit))) (now (answer .exit)) ≡ built (ruleOf rule) height (now (gates .entry)) (now (given .entry)) (now (records .entry)) (areas (now (plan .entry)) (now (words .entry)) (now (counts .entry)) (now (work .entry))) (now (answer .entry)) ⌝ }
+    ensures { λ r. ⌜ entry r (areas (now (plan .exit)) (now (words .exit)) (now (counts .exit)) (now (work .exit))) (now (answer .exit)) ≡ built height (now (gates .entry)) (now (given .entry)) (now (records .entry)) (areas (now (plan .entry)) (now (words .entry)) (now (counts .entry)) (now (work .entry))) (now (answer .entry)) ⌝ }
 {
     if answer.len() < 6 {
         return WRONG_SIZE;
     }
-    let a = build_by(
-        rule,
-        height,
-        gates,
-        given,
-        records,
-        plan,
-        words,
-        counts,
-        work,
-    );
+    let a = build(height, gates, given, records, plan, words, counts, work);
     let pin = a.pin;
     let shown = pin.index();
     let numbers = [wide(a.number), a.stages, a.words, a.stage, shown, a.cells];
@@ -64,23 +51,21 @@ pub extern "C" fn placer_build_by(
 ) -> u32
     ensures { λ r. ⌜ entry r (areas (now (plan .exit)) (now (words .exit)) (now (counts .exit)) (now (work .exit))) (now (answer .exit)) ≡ builtBy (ruleFor rule) height (now (gates .entry)) (now (given .entry)) (now (records .entry)) (areas (now (plan .entry)) (now (words .entry)) (now (counts .entry)) (now (work .entry))) (now (answer .entry)) ⌝ }
 {
-    match rule_named(rule) {
-        MaybeRule::Unknown => {
-            let numbers = [wide(WRONG_SIZE), 0, 0, 0, 0, 0];
-            tell(&numbers, answer);
-            WRONG_SIZE
-        }
-        MaybeRule::Named(asked) => enter(
-            asked,
-            height,
-            gates,
-            given,
-            records,
-            plan,
-            words,
-            counts,
-            work,
-            answer,
-        ),
+    let refused = rule_refusal(rule);
+    if refused != 0 {
+        let numbers = [wide(refused), 0, 0, 0, 0, 0];
+        tell(&numbers, answer);
+        return refused;
     }
+    enter(
+        height,
+        gates,
+        given,
+        records,
+        plan,
+        words,
+        counts,
+        work,
+        answer,
+    )
 }

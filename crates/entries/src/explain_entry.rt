@@ -1,18 +1,15 @@
 // The entry of an explanation.
 use crate::answers::tell;
+use crate::word_rules::rule_refusal;
 use columns::wide;
-use explain::explain_by;
+use explain::explain;
 use refusals::WRONG_SIZE;
-use stage_runs::MaybeRule;
-use stage_runs::WordRule;
-use stage_runs::rule_named;
 ghost use mathlib.Core.Path.{_≡_};
-ghost use Rattle.stage_runs.specs.Rule.{ruleOf, ruleFor};
 ghost use Rattle.entries.specs.Entry.{entry};
+ghost use Rattle.entries.specs.Rule.{ruleFor};
 ghost use Rattle.entries.specs.Explain.{lentTo, buildExplained, buildExplainedBy};
 
 fn enter(
-    rule: WordRule,
     height: u32,
     gates: &[u32],
     given: &[u32],
@@ -24,13 +21,12 @@ fn enter(
     list: &mut [u32],
     answer: &mut [usize],
 ) -> u32
-    ensures { λ r. ⌜ entry r (lentTo (now (plan .exit)) (now (words .exit)) (now (counts .exit)) (now (work .exit)) (now (list .exit))) (now (answer .exit)) ≡ buildExplained (ruleOf rule) height (now (gates .entry)) (now (given .entry)) (now (records .entry)) (lentTo (now (plan .entry)) (now (words .entry)) (now (counts .entry)) (now (work .entry)) (now (list .entry))) (now (answer .entry)) ⌝ }
+    ensures { λ r. ⌜ entry r (lentTo (now (plan .exit)) (now (words .exit)) (now (counts .exit)) (now (work .exit)) (now (list .exit))) (now (answer .exit)) ≡ buildExplained height (now (gates .entry)) (now (given .entry)) (now (records .entry)) (lentTo (now (plan .entry)) (now (words .entry)) (now (counts .entry)) (now (work .entry)) (now (list .entry))) (now (answer .entry)) ⌝ }
 {
     if answer.len() < 7 {
         return WRONG_SIZE;
     }
-    let e = explain_by(
-        rule,
+    let e = explain(
         height,
         gates,
         given,
@@ -75,24 +71,22 @@ pub extern "C" fn explain_build_by(
 ) -> u32
     ensures { λ r. ⌜ entry r (lentTo (now (plan .exit)) (now (words .exit)) (now (counts .exit)) (now (work .exit)) (now (list .exit))) (now (answer .exit)) ≡ buildExplainedBy (ruleFor rule) height (now (gates .entry)) (now (given .entry)) (now (records .entry)) (lentTo (now (plan .entry)) (now (words .entry)) (now (counts .entry)) (now (work .entry)) (now (list .entry))) (now (answer .entry)) ⌝ }
 {
-    match rule_named(rule) {
-        MaybeRule::Unknown => {
-            let numbers = [wide(WRONG_SIZE), 0, 0, 0, 0, 0, 0];
-            tell(&numbers, answer);
-            WRONG_SIZE
-        }
-        MaybeRule::Named(asked) => enter(
-            asked,
-            height,
-            gates,
-            given,
-            records,
-            plan,
-            words,
-            counts,
-            work,
-            list,
-            answer,
-        ),
+    let refused = rule_refusal(rule);
+    if refused != 0 {
+        let numbers = [wide(refused), 0, 0, 0, 0, 0, 0];
+        tell(&numbers, answer);
+        return refused;
     }
+    enter(
+        height,
+        gates,
+        given,
+        records,
+        plan,
+        words,
+        counts,
+        work,
+        list,
+        answer,
+    )
 }

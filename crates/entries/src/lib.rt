@@ -11,4 +11,5 @@ mod plan_entry;
 mod read_entry;
 mod replay_entry;
 mod sheet_entry;
+mod word_rules;
 mod write_entry;

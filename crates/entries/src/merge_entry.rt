@@ -1,18 +1,15 @@
 // The entry of a merge.
 use crate::answers::tell;
+use crate::word_rules::rule_refusal;
 use columns::wide;
-use merge::merge_by;
+use merge::merge;
 use refusals::WRONG_SIZE;
-use stage_runs::MaybeRule;
-use stage_runs::WordRule;
-use stage_runs::rule_named;
 ghost use mathlib.Core.Path.{_≡_};
-ghost use Rattle.stage_runs.specs.Rule.{ruleOf, ruleFor};
 ghost use Rattle.entries.specs.Entry.{entry};
+ghost use Rattle.entries.specs.Rule.{ruleFor};
 ghost use Rattle.entries.specs.Merge.{lent, merged, mergedBy};
 
 fn enter(
-    rule: WordRule,
     height: u32,
     gates: &[u32],
     given: &[u32],
@@ -27,13 +24,12 @@ fn enter(
     work: &mut [u32],
     answer: &mut [usize],
 ) -> u32
-    ensures { λ r. ⌜ entry r (lent (now (indices .exit)) (now (lengths .exit)) (now (stages .exit)) (now (plan .exit)) (now (words .exit)) (now (counts .exit)) (now (work .exit))) (now (answer .exit)) ≡ merged (ruleOf rule) height (now (gates .entry)) (now (given .entry)) (now (records .entry)) extra (lent (now (indices .entry)) (now (lengths .entry)) (now (stages .entry)) (now (plan .entry)) (now (words .entry)) (now (counts .entry)) (now (work .entry))) (now (answer .entry)) ⌝ }
+    ensures { λ r. ⌜ entry r (lent (now (indices .exit)) (now (lengths .exit)) (now (stages .exit)) (now (plan .exit)) (now (words .exit)) (now (counts .exit)) (now (work .exit))) (now (answer .exit)) ≡ merged height (now (gates .entry)) (now (given .entry)) (now (records .entry)) extra (lent (now (indices .entry)) (now (lengths .entry)) (now (stages .entry)) (now (plan .entry)) (now (words .entry)) (now (counts .entry)) (now (work .entry))) (now (answer .entry)) ⌝ }
 {
     if answer.len() < 9 {
         return WRONG_SIZE;
     }
-    let a = merge_by(
-        rule,
+    let a = merge(
         height,
         gates,
         given,
@@ -85,27 +81,25 @@ pub extern "C" fn merge_partitions_by(
 ) -> u32
     ensures { λ r. ⌜ entry r (lent (now (indices .exit)) (now (lengths .exit)) (now (stages .exit)) (now (plan .exit)) (now (words .exit)) (now (counts .exit)) (now (work .exit))) (now (answer .exit)) ≡ mergedBy (ruleFor rule) height (now (gates .entry)) (now (given .entry)) (now (records .entry)) extra (lent (now (indices .entry)) (now (lengths .entry)) (now (stages .entry)) (now (plan .entry)) (now (words .entry)) (now (counts .entry)) (now (work .entry))) (now (answer .entry)) ⌝ }
 {
-    match rule_named(rule) {
-        MaybeRule::Unknown => {
-            let numbers = [wide(WRONG_SIZE), 0, 0, 0, 0, 0, 0, 0, 0];
-            tell(&numbers, answer);
-            WRONG_SIZE
-        }
-        MaybeRule::Named(asked) => enter(
-            asked,
-            height,
-            gates,
-            given,
-            records,
-            indices,
-            lengths,
-            stages,
-            extra,
-            plan,
-            words,
-            counts,
-            work,
-            answer,
-        ),
+    let refused = rule_refusal(rule);
+    if refused != 0 {
+        let numbers = [wide(refused), 0, 0, 0, 0, 0, 0, 0, 0];
+        tell(&numbers, answer);
+        return refused;
     }
+    enter(
+        height,
+        gates,
+        given,
+        records,
+        indices,
+        lengths,
+        stages,
+        extra,
+        plan,
+        words,
+        counts,
+        work,
+        answer,
+    )
 }

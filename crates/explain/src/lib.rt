@@ -10,13 +10,11 @@ use graph::pin_count;
 use placer::Answer;
 use placer::areas::empty_all;
 use refusals::SHORT_LINES;
-use stage_runs::WordRule;
 ghost use mathlib.Core.Path.{_≡_};
 ghost use lib.ListN.{length};
 ghost use Rattle.rules.specs.Graph.{graphOf};
 ghost use Rattle.rules.specs.Traversal.{neededRuns};
 ghost use Rattle.rules.specs.Build.{answerOf};
-ghost use Rattle.stage_runs.specs.Rule.{ruleOf};
 ghost use Rattle.placer.specs.Answers.{areas};
 ghost use Rattle.placer.specs.Build.{PlaceAt};
 ghost use Rattle.why_form.specs.Why.{whyOf, explainer};
@@ -28,7 +26,6 @@ pub use explain_stages::Explanation;
 // stays as it is, whatever the other areas hold then.
 fn too_short(
     height: Height,
-    rule: WordRule,
     gates: &[u32],
     given: &[u32],
     records: &[u32],
@@ -39,7 +36,7 @@ fn too_short(
     list: &mut [u32],
 ) -> bool
     requires { ⌜ PlaceAt (height .0) (now gates) (now given) (now records) (now plan) (now words) (now counts) (now work) ⌝ }
-    ensures { λ r. ⌜ Measured (whyOf (ruleOf rule) (height .0) (now (gates .entry)) (now (given .entry)) (now (records .entry)) (length (now (plan .entry)))) (now (plan .entry)) (now (words .entry)) (now (counts .entry)) (now (work .entry)) (now (list .entry)) r (now (plan .exit)) (now (words .exit)) (now (counts .exit)) (now (work .exit)) (now (list .exit)) ⌝ }
+    ensures { λ r. ⌜ Measured (whyOf neededRuns (height .0) (now (gates .entry)) (now (given .entry)) (now (records .entry)) (length (now (plan .entry)))) (now (plan .entry)) (now (words .entry)) (now (counts .entry)) (now (work .entry)) (now (list .entry)) r (now (plan .exit)) (now (words .exit)) (now (counts .exit)) (now (work .exit)) (now (list .exit)) ⌝ }
 {
     let size = list.len();
     let rooms = counts.len();
@@ -49,7 +46,6 @@ fn too_short(
     }
     let e = lay(
         height,
-        rule,
         gates,
         given,
         records,
@@ -65,7 +61,6 @@ fn too_short(
 // The whole explanation of records that passed the checks, in areas of exactly their counted sizes.
 fn place(
     height: Height,
-    rule: WordRule,
     gates: &[u32],
     given: &[u32],
     records: &[u32],
@@ -76,11 +71,10 @@ fn place(
     list: &mut [u32],
 ) -> Explanation
     requires { ⌜ PlaceAt (height .0) (now gates) (now given) (now records) (now plan) (now words) (now counts) (now work) ⌝ }
-    ensures { λ r. ⌜ Ends (graphOf (now (gates .entry))) (answerOf (ruleOf rule) (height .0) (now (gates .entry)) (now (given .entry)) (now (records .entry)) (length (now (plan .entry)))) (whyOf (ruleOf rule) (height .0) (now (gates .entry)) (now (given .entry)) (now (records .entry)) (length (now (plan .entry)))) (height .0) (now (plan .entry)) (now (words .entry)) (now (counts .entry)) (now (work .entry)) (now (list .entry)) r (now (plan .exit)) (now (words .exit)) (now (counts .exit)) (now (work .exit)) (now (list .exit)) ⌝ }
+    ensures { λ r. ⌜ Ends (graphOf (now (gates .entry))) (answerOf neededRuns (height .0) (now (gates .entry)) (now (given .entry)) (now (records .entry)) (length (now (plan .entry)))) (whyOf neededRuns (height .0) (now (gates .entry)) (now (given .entry)) (now (records .entry)) (length (now (plan .entry)))) (height .0) (now (plan .entry)) (now (words .entry)) (now (counts .entry)) (now (work .entry)) (now (list .entry)) r (now (plan .exit)) (now (words .exit)) (now (counts .exit)) (now (work .exit)) (now (list .exit)) ⌝ }
 {
     let short = too_short(
         height,
-        rule,
         gates,
         given,
         records,
@@ -99,7 +93,6 @@ fn place(
     }
     let e = lay(
         height,
-        rule,
         gates,
         given,
         records,
@@ -114,9 +107,8 @@ fn place(
     e
 }
 
-// Builds a job under a word rule, and explains the answer in the list. Plan, words and counts hold what was built, and work is scratch.
-pub fn explain_by(
-    rule: WordRule,
+// Builds a job, and explains the answer in the list. Plan, words and counts hold what was built, and work is scratch.
+pub fn explain(
     height: u32,
     gates: &[u32],
     given: &[u32],
@@ -127,7 +119,7 @@ pub fn explain_by(
     work: &mut [u32],
     list: &mut [u32],
 ) -> Explanation
-    ensures { λ r. ⌜ explained r (now (plan .exit)) (now (words .exit)) (now (counts .exit)) (now (work .exit)) (now (list .exit)) ≡ explainer (ruleOf rule) height (now (gates .entry)) (now (given .entry)) (now (records .entry)) (now (list .entry)) (areas (now (plan .entry)) (now (words .entry)) (now (counts .entry)) (now (work .entry))) ⌝ }
+    ensures { λ r. ⌜ explained r (now (plan .exit)) (now (words .exit)) (now (counts .exit)) (now (work .exit)) (now (list .exit)) ≡ explainer neededRuns height (now (gates .entry)) (now (given .entry)) (now (records .entry)) (now (list .entry)) (areas (now (plan .entry)) (now (words .entry)) (now (counts .entry)) (now (work .entry))) ⌝ }
 {
     let verdict = check(
         height,
@@ -159,7 +151,6 @@ pub fn explain_by(
     let need = 16 * pin_count(gates) + 8 * records.len() + RECORDS;
     place(
         Height(height),
-        rule,
         gates,
         given,
         records,
@@ -167,34 +158,6 @@ pub fn explain_by(
         &mut words[0..limit],
         &mut counts[0..rooms],
         &mut work[0..need],
-        list,
-    )
-}
-
-// The same under the rule of `placer::build`, which writes no idle run.
-pub fn explain(
-    height: u32,
-    gates: &[u32],
-    given: &[u32],
-    records: &[u32],
-    plan: &mut [u32],
-    words: &mut [u32],
-    counts: &mut [u32],
-    work: &mut [u32],
-    list: &mut [u32],
-) -> Explanation
-    ensures { λ r. ⌜ explained r (now (plan .exit)) (now (words .exit)) (now (counts .exit)) (now (work .exit)) (now (list .exit)) ≡ explainer neededRuns height (now (gates .entry)) (now (given .entry)) (now (records .entry)) (now (list .entry)) (areas (now (plan .entry)) (now (words .entry)) (now (counts .entry)) (now (work .entry))) ⌝ }
-{
-    explain_by(
-        WordRule::NeededRuns,
-        height,
-        gates,
-        given,
-        records,
-        plan,
-        words,
-        counts,
-        work,
         list,
     )
 }

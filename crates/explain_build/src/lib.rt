@@ -10,10 +10,9 @@ use placer_start::Opening;
 use placer_start::begin;
 use refusals::OVER_RESERVED;
 use six::tell_six;
-use stage_runs::WordRule;
 ghost use lib.ListN.{length};
 ghost use Rattle.rules.specs.Build.{answerOf};
-ghost use Rattle.stage_runs.specs.Rule.{ruleOf};
+ghost use Rattle.rules.specs.Traversal.{neededRuns};
 ghost use Rattle.placer.specs.Build.{PlaceAt, TryAt};
 ghost use Rattle.why_form.specs.Why.{whyOf};
 ghost use Rattle.explain_build.specs.Call.{Attempted, Explained};
@@ -23,7 +22,6 @@ mod six;
 // The reservation and the stages, in empty areas.
 fn attempt(
     height: Height,
-    rule: WordRule,
     gates: &[u32],
     given: &[u32],
     records: &[u32],
@@ -34,7 +32,7 @@ fn attempt(
     list: &mut [u32],
 ) -> Explanation
     requires { ⌜ TryAt (height .0) (now gates) (now given) (now records) (now plan) (now words) (now counts) (now work) ⌝ }
-    ensures { λ r. ⌜ Attempted (answerOf (ruleOf rule) (height .0) (now (gates .entry)) (now (given .entry)) (now (records .entry)) (length (now (plan .entry)))) (whyOf (ruleOf rule) (height .0) (now (gates .entry)) (now (given .entry)) (now (records .entry)) (length (now (plan .entry)))) (now (plan .entry)) (now (words .entry)) (now (counts .entry)) (now (work .entry)) (now (list .entry)) r (now (plan .exit)) (now (words .exit)) (now (counts .exit)) (now (work .exit)) (now (list .exit)) ⌝ }
+    ensures { λ r. ⌜ Attempted (answerOf neededRuns (height .0) (now (gates .entry)) (now (given .entry)) (now (records .entry)) (length (now (plan .entry)))) (whyOf neededRuns (height .0) (now (gates .entry)) (now (given .entry)) (now (records .entry)) (length (now (plan .entry)))) (now (plan .entry)) (now (words .entry)) (now (counts .entry)) (now (work .entry)) (now (list .entry)) r (now (plan .exit)) (now (words .exit)) (now (counts .exit)) (now (work .exit)) (now (list .exit)) ⌝ }
 {
     let m = pin_count(gates);
     let rooms = counts.len();
@@ -59,7 +57,6 @@ fn attempt(
                 list,
                 m,
                 height,
-                rule,
                 rooms,
                 n,
                 room,
@@ -71,7 +68,6 @@ fn attempt(
 // The build of records that passed the checks, in areas of exactly their counted sizes: stages of pins, and as many lines as fit the list.
 pub fn lay(
     height: Height,
-    rule: WordRule,
     gates: &[u32],
     given: &[u32],
     records: &[u32],
@@ -82,12 +78,11 @@ pub fn lay(
     list: &mut [u32],
 ) -> Explanation
     requires { ⌜ PlaceAt (height .0) (now gates) (now given) (now records) (now plan) (now words) (now counts) (now work) ⌝ }
-    ensures { λ r. ⌜ Explained (answerOf (ruleOf rule) (height .0) (now (gates .entry)) (now (given .entry)) (now (records .entry)) (length (now (plan .entry)))) (whyOf (ruleOf rule) (height .0) (now (gates .entry)) (now (given .entry)) (now (records .entry)) (length (now (plan .entry)))) (now (plan .entry)) (now (words .entry)) (now (counts .entry)) (now (work .entry)) (now (list .entry)) r (now (plan .exit)) (now (words .exit)) (now (counts .exit)) (now (work .exit)) (now (list .exit)) ⌝ }
+    ensures { λ r. ⌜ Explained (answerOf neededRuns (height .0) (now (gates .entry)) (now (given .entry)) (now (records .entry)) (length (now (plan .entry)))) (whyOf neededRuns (height .0) (now (gates .entry)) (now (given .entry)) (now (records .entry)) (length (now (plan .entry)))) (now (plan .entry)) (now (words .entry)) (now (counts .entry)) (now (work .entry)) (now (list .entry)) r (now (plan .exit)) (now (words .exit)) (now (counts .exit)) (now (work .exit)) (now (list .exit)) ⌝ }
 {
     empty_all(plan, words, counts, work);
     let e = attempt(
         height,
-        rule,
         gates,
         given,
         records,

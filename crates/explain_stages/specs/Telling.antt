@@ -7,7 +7,6 @@ use Rattle.rules.specs.Lists.{count}
 use Rattle.rules.specs.Cells.{filled}
 use Rattle.rules.specs.States.{State, none, state, afterFrom}
 use Rattle.rules.specs.Build as rules
-use Rattle.stage_runs.specs.declared.WordRule.{WordRule as Asked}
 use Rattle.stage_notes.specs.Notes.{notes, Bare}
 use Rattle.placer.specs.Answers.{told}
 use Rattle.placer.specs.Stages.{Course, answer, Underway, Kept, OneAt, StagesAt, Whole}
@@ -26,8 +25,8 @@ linesAfter C k = linesAt C k (afterFrom (C .rule) (C .K) (C .g) k (C .given) (C 
 
 -- ---- one stage, behind `lines` lines
 
-pub record TellAt (C : Course) (m K half : ℕ) (asked : Asked) (k n at room lines : ℕ) (gates pl ws cs w : List ℕ) : Type 0 where
-  pub one : OneAt C m K half asked k n at room gates pl ws cs w
+pub record TellAt (C : Course) (m K half : ℕ) (k n at room lines : ℕ) (gates pl ws cs w : List ℕ) : Type 0 where
+  pub one : OneAt C m K half k n at room gates pl ws cs w
   pub bare : Bare 13 (notes m w)
   pub few : lines ≤ 12 * k
 
@@ -48,8 +47,8 @@ pub record Tells (C : Course) (m k at lines : ℕ) (pl ws cs w list : List ℕ) 
 -- ---- all stages
 
 -- before stage k + 1: `lines` lines are told, list₀ was the list before the first
-pub record AllAt (C : Course) (m K half : ℕ) (asked : Asked) (rooms k at n room lines : ℕ) (list₀ gates pl ws cs w list : List ℕ) : Type 0 where
-  pub stands : StagesAt C m K half asked rooms k at n room gates pl ws cs w
+pub record AllAt (C : Course) (m K half : ℕ) (rooms k at n room lines : ℕ) (list₀ gates pl ws cs w list : List ℕ) : Type 0 where
+  pub stands : StagesAt C m K half rooms k at n room gates pl ws cs w
   pub bare : Bare 13 (notes m w)
   pub few : lines ≤ 12 * k
   pub same : putLines 0 (linesAfter C 0) list₀ ≡ putLines lines (linesAfter C k) list

@@ -9,7 +9,6 @@ use placer::stages::next_stage;
 use refusals::NO_ROOM;
 use refusals::OVER_WORDS;
 use stage::Outcome;
-use stage_runs::WordRule;
 use stage_tally::Tally;
 use stage_tally::left;
 use stage_tally::spend;
@@ -81,28 +80,15 @@ fn tell_stage(
     list: &mut [u32],
     m: usize,
     height: Height,
-    rule: WordRule,
     k: usize,
     n: usize,
     tally: Tally,
     lines: usize,
 ) -> Step
-    requires { ⌜ Counted tally × Some (λ C. TellAt C m (height .0) (rowAt (height .0) 1) rule k n (tally .spent) (room tally) lines (now gates) (now plan) (now words) (now counts) (now work)) ⌝ }
-    ensures { λ r. ⌜ Every (λ C. TellAt C m (height .0) (rowAt (height .0) 1) rule k n (tally .spent) (room tally) lines (now (gates .entry)) (now (plan .entry)) (now (words .entry)) (now (counts .entry)) (now (work .entry))) (λ C. Tells C m k (tally .spent) lines (now (plan .entry)) (now (words .entry)) (now (counts .entry)) (now (work .entry)) (now (list .entry)) r (now (plan .exit)) (now (words .exit)) (now (counts .exit)) (now (work .exit)) (now (list .exit))) ⌝ }
+    requires { ⌜ Counted tally × Some (λ C. TellAt C m (height .0) (rowAt (height .0) 1) k n (tally .spent) (room tally) lines (now gates) (now plan) (now words) (now counts) (now work)) ⌝ }
+    ensures { λ r. ⌜ Every (λ C. TellAt C m (height .0) (rowAt (height .0) 1) k n (tally .spent) (room tally) lines (now (gates .entry)) (now (plan .entry)) (now (words .entry)) (now (counts .entry)) (now (work .entry))) (λ C. Tells C m k (tally .spent) lines (now (plan .entry)) (now (words .entry)) (now (counts .entry)) (now (work .entry)) (now (list .entry)) r (now (plan .exit)) (now (words .exit)) (now (counts .exit)) (now (work .exit)) (now (list .exit))) ⌝ }
 {
-    let s = next_stage(
-        gates,
-        plan,
-        words,
-        counts,
-        work,
-        m,
-        height,
-        rule,
-        k,
-        n,
-        tally,
-    );
+    let s = next_stage(gates, plan, words, counts, work, m, height, k, n, tally);
     let stage = (k + 1) as u32;
     let told = copy_notes(work, m, stage, list, lines);
     let number = s.number;
@@ -135,13 +121,12 @@ pub fn tell(
     list: &mut [u32],
     m: usize,
     height: Height,
-    rule: WordRule,
     rooms: usize,
     n: usize,
     room: usize,
 ) -> Explanation
-    requires { ⌜ Some (λ C. AllAt C m (height .0) (rowAt (height .0) 1) rule rooms 0 0 n room 0 (now list) (now gates) (now plan) (now words) (now counts) (now work) (now list)) ⌝ }
-    ensures { λ r. ⌜ Every (λ C. AllAt C m (height .0) (rowAt (height .0) 1) rule rooms 0 0 n room 0 (now (list .entry)) (now (gates .entry)) (now (plan .entry)) (now (words .entry)) (now (counts .entry)) (now (work .entry)) (now (list .entry))) (λ C. AllTold C (now (plan .entry)) (now (words .entry)) (now (counts .entry)) (now (work .entry)) (now (list .entry)) r (now (plan .exit)) (now (words .exit)) (now (counts .exit)) (now (work .exit)) (now (list .exit))) ⌝ }
+    requires { ⌜ Some (λ C. AllAt C m (height .0) (rowAt (height .0) 1) rooms 0 0 n room 0 (now list) (now gates) (now plan) (now words) (now counts) (now work) (now list)) ⌝ }
+    ensures { λ r. ⌜ Every (λ C. AllAt C m (height .0) (rowAt (height .0) 1) rooms 0 0 n room 0 (now (list .entry)) (now (gates .entry)) (now (plan .entry)) (now (words .entry)) (now (counts .entry)) (now (work .entry)) (now (list .entry))) (λ C. AllTold C (now (plan .entry)) (now (words .entry)) (now (counts .entry)) (now (work .entry)) (now (list .entry)) r (now (plan .exit)) (now (words .exit)) (now (counts .exit)) (now (work .exit)) (now (list .exit))) ⌝ }
 {
     let limit = words.len();
     let mut tally = Tally {
@@ -169,7 +154,6 @@ pub fn tell(
             list,
             m,
             height,
-            rule,
             k,
             left,
             tally,

@@ -11,11 +11,9 @@ use merge_rounds::merge_slots;
 use merge_slots::begun;
 use merge_unions::table::locate;
 use placer::areas::empty_all;
-use stage_runs::WordRule;
 ghost use mathlib.Core.Path.{_≡_};
 ghost use Rattle.rules.specs.Traversal.{neededRuns};
 ghost use Rattle.rules.specs.Merge.{merger};
-ghost use Rattle.stage_runs.specs.Rule.{ruleOf};
 ghost use Rattle.merge_checks.specs.Values.{groupList, areas};
 ghost use Rattle.merge.specs.Merge.{JoinAt, Joined, PlaceAt, Placed, refusedFor, outcome};
 
@@ -52,7 +50,6 @@ fn refuse(number: u32, stage: usize, refused: usize) -> Answer
 // The partitions built, merged and laid out. The table of record starts stands from `table` on, the slots' own numbers from `base` on.
 fn join(
     height: Height,
-    rule: WordRule,
     gates: &[u32],
     given: &[u32],
     records: &[u32],
@@ -69,11 +66,10 @@ fn join(
     base: usize,
 ) -> Answer
     requires { ⌜ JoinAt (height .0) m table base extra (now gates) (now given) (now records) (now indices) (now lengths) (now stages) (now plan) (now words) (now counts) (now work) ⌝ }
-    ensures { λ r. ⌜ Joined (ruleOf rule) (height .0) extra (now (gates .entry)) (now (given .entry)) (now (records .entry)) (now (indices .entry)) (now (lengths .entry)) (now (stages .entry)) (now (plan .entry)) r (now (indices .exit)) (now (lengths .exit)) (now (stages .exit)) ⌝ }
+    ensures { λ r. ⌜ Joined neededRuns (height .0) extra (now (gates .entry)) (now (given .entry)) (now (records .entry)) (now (indices .entry)) (now (lengths .entry)) (now (stages .entry)) (now (plan .entry)) r (now (indices .exit)) (now (lengths .exit)) (now (stages .exit)) ⌝ }
 {
     let built = build_originals(
         height,
-        rule,
         gates,
         given,
         records,
@@ -93,7 +89,6 @@ fn join(
             let ranks = begun(lengths.len());
             let trials = merge_slots(
                 height,
-                rule,
                 gates,
                 given,
                 records,
@@ -128,7 +123,6 @@ fn join(
 // The merge of partitions that passed the checks, in areas of exactly their counted sizes.
 fn place(
     height: Height,
-    rule: WordRule,
     gates: &[u32],
     given: &[u32],
     records: &[u32],
@@ -142,7 +136,7 @@ fn place(
     work: &mut [u32],
 ) -> Answer
     requires { ⌜ PlaceAt (height .0) extra (now gates) (now given) (now records) (now indices) (now lengths) (now stages) (now plan) (now words) (now counts) (now work) ⌝ }
-    ensures { λ r. ⌜ Placed (ruleOf rule) (height .0) extra (now (gates .entry)) (now (given .entry)) (now (records .entry)) (now (indices .entry)) (now (lengths .entry)) (now (stages .entry)) (now (plan .entry)) (now (words .entry)) (now (counts .entry)) (now (work .entry)) r (now (indices .exit)) (now (lengths .exit)) (now (stages .exit)) (now (plan .exit)) (now (words .exit)) (now (counts .exit)) (now (work .exit)) ⌝ }
+    ensures { λ r. ⌜ Placed neededRuns (height .0) extra (now (gates .entry)) (now (given .entry)) (now (records .entry)) (now (indices .entry)) (now (lengths .entry)) (now (stages .entry)) (now (plan .entry)) (now (words .entry)) (now (counts .entry)) (now (work .entry)) r (now (indices .exit)) (now (lengths .exit)) (now (stages .exit)) (now (plan .exit)) (now (words .exit)) (now (counts .exit)) (now (work .exit)) ⌝ }
 {
     empty_all(plan, words, counts, work);
     let m = pin_count(gates);
@@ -151,7 +145,6 @@ fn place(
     locate(records, work, table);
     let a = join(
         height,
-        rule,
         gates,
         given,
         records,
@@ -171,10 +164,9 @@ fn place(
     a
 }
 
-// Merges partitions of the records' groups while no union has more stages than the greatest of them and `extra` more, building under a
-// word rule. The group list holds the merged partitions in their final order; plan, words, counts and work are scratch.
-pub fn merge_by(
-    rule: WordRule,
+// Merges partitions of the records' groups while no union has more stages than the greatest of them and `extra` more, as `placer::build`
+// does. The group list holds the merged partitions in their final order; plan, words, counts and work are scratch.
+pub fn merge(
     height: u32,
     gates: &[u32],
     given: &[u32],
@@ -188,7 +180,7 @@ pub fn merge_by(
     counts: &mut [u32],
     work: &mut [u32],
 ) -> Answer
-    ensures { λ r. ⌜ outcome r (now (indices .exit)) (now (lengths .exit)) (now (stages .exit)) (now (plan .exit)) (now (words .exit)) (now (counts .exit)) (now (work .exit)) ≡ merger (ruleOf rule) height (now (gates .entry)) (now (given .entry)) (now (records .entry)) (groupList (now (indices .entry)) (now (lengths .entry)) (now (stages .entry))) extra (areas (now (plan .entry)) (now (words .entry)) (now (counts .entry)) (now (work .entry))) ⌝ }
+    ensures { λ r. ⌜ outcome r (now (indices .exit)) (now (lengths .exit)) (now (stages .exit)) (now (plan .exit)) (now (words .exit)) (now (counts .exit)) (now (work .exit)) ≡ merger neededRuns height (now (gates .entry)) (now (given .entry)) (now (records .entry)) (groupList (now (indices .entry)) (now (lengths .entry)) (now (stages .entry))) extra (areas (now (plan .entry)) (now (words .entry)) (now (counts .entry)) (now (work .entry))) ⌝ }
 {
     let verdict = merge_refusal(
         height,
@@ -224,7 +216,6 @@ pub fn merge_by(
     let need = 16 * pin_count(gates) + 8 * records.len() + RECORDS + own;
     place(
         Height(height),
-        rule,
         gates,
         given,
         records,
@@ -236,39 +227,5 @@ pub fn merge_by(
         &mut words[0..limit],
         &mut counts[0..rooms],
         &mut work[0..need],
-    )
-}
-
-// The same under the rule that writes no idle run.
-pub fn merge(
-    height: u32,
-    gates: &[u32],
-    given: &[u32],
-    records: &[u32],
-    indices: &mut [u32],
-    lengths: &mut [u32],
-    stages: &mut [u32],
-    extra: usize,
-    plan: &mut [u32],
-    words: &mut [u32],
-    counts: &mut [u32],
-    work: &mut [u32],
-) -> Answer
-    ensures { λ r. ⌜ outcome r (now (indices .exit)) (now (lengths .exit)) (now (stages .exit)) (now (plan .exit)) (now (words .exit)) (now (counts .exit)) (now (work .exit)) ≡ merger neededRuns height (now (gates .entry)) (now (given .entry)) (now (records .entry)) (groupList (now (indices .entry)) (now (lengths .entry)) (now (stages .entry))) extra (areas (now (plan .entry)) (now (words .entry)) (now (counts .entry)) (now (work .entry))) ⌝ }
-{
-    merge_by(
-        WordRule::NeededRuns,
-        height,
-        gates,
-        given,
-        records,
-        indices,
-        lengths,
-        stages,
-        extra,
-        plan,
-        words,
-        counts,
-        work,
     )
 }

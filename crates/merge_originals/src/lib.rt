@@ -5,10 +5,9 @@ use merge_slots::store_built;
 use merge_unions::build_union;
 use merge_unions::sizing::size_union;
 use placer::Answer;
-use stage_runs::WordRule;
 ghost use mathlib.Core.Path.{_≡_};
+ghost use Rattle.rules.specs.Traversal.{neededRuns};
 ghost use Prim.Native.Nat.{max};
-ghost use Rattle.stage_runs.specs.Rule.{ruleOf};
 ghost use Rattle.merge_originals.specs.Originals.{NoteAt, Noted, MeasureAt, Measures, OriginalsAt, Given};
 
 pub enum Originals {
@@ -45,7 +44,6 @@ fn note(
 // Slot s built and measured, or its refusal.
 pub fn measure(
     height: Height,
-    rule: WordRule,
     gates: &[u32],
     given: &[u32],
     records: &[u32],
@@ -61,11 +59,10 @@ pub fn measure(
     s: usize,
 ) -> Answer
     requires { ⌜ MeasureAt (height .0) m table base n s (now gates) (now given) (now records) (now part) (now plan) (now words) (now counts) (now work) ⌝ }
-    ensures { λ r. ⌜ Measures (ruleOf rule) (height .0) m table base n s (now (gates .entry)) (now (given .entry)) (now (records .entry)) (now (part .entry)) (now (plan .entry)) (now (words .entry)) (now (counts .entry)) (now (work .entry)) r (now (plan .exit)) (now (words .exit)) (now (counts .exit)) (now (work .exit)) ⌝ }
+    ensures { λ r. ⌜ Measures neededRuns (height .0) m table base n s (now (gates .entry)) (now (given .entry)) (now (records .entry)) (now (part .entry)) (now (plan .entry)) (now (words .entry)) (now (counts .entry)) (now (work .entry)) r (now (plan .exit)) (now (words .exit)) (now (counts .exit)) (now (work .exit)) ⌝ }
 {
     let a = build_union(
         height,
-        rule,
         gates,
         given,
         records,
@@ -111,7 +108,6 @@ fn greater(a: usize, b: usize) -> usize
 // Each slot in turn, up to the first that is refused.
 pub fn build_originals(
     height: Height,
-    rule: WordRule,
     gates: &[u32],
     given: &[u32],
     records: &[u32],
@@ -126,7 +122,7 @@ pub fn build_originals(
     base: usize,
 ) -> Originals
     requires { ⌜ OriginalsAt (height .0) m table base (now gates) (now given) (now records) (now indices) (now lengths) (now plan) (now words) (now counts) (now work) ⌝ }
-    ensures { λ r. ⌜ Given (ruleOf rule) (height .0) m table base (now (gates .entry)) (now (given .entry)) (now (records .entry)) (now (indices .entry)) (now (lengths .entry)) (now (plan .entry)) (now (words .entry)) (now (counts .entry)) (now (work .entry)) r (now (plan .exit)) (now (words .exit)) (now (counts .exit)) (now (work .exit)) ⌝ }
+    ensures { λ r. ⌜ Given neededRuns (height .0) m table base (now (gates .entry)) (now (given .entry)) (now (records .entry)) (now (indices .entry)) (now (lengths .entry)) (now (plan .entry)) (now (words .entry)) (now (counts .entry)) (now (work .entry)) r (now (plan .exit)) (now (words .exit)) (now (counts .exit)) (now (work .exit)) ⌝ }
 {
     let n = lengths.len();
     let mut most = 0;
@@ -136,7 +132,6 @@ pub fn build_originals(
         let next = at + wide(lengths[s]);
         let a = measure(
             height,
-            rule,
             gates,
             given,
             records,

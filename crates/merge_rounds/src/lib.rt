@@ -4,8 +4,7 @@ use merge_slots::best;
 use merge_slots::open_all;
 use merge_trials::rank_all;
 use merge_trials::try_union;
-use stage_runs::WordRule;
-ghost use Rattle.stage_runs.specs.Rule.{ruleOf};
+ghost use Rattle.rules.specs.Traversal.{neededRuns};
 ghost use Rattle.merge_rounds.specs.Rounds.{RoundAt, Rounded, IntoAt, Into, SlotAt, Stepped, SlotsAt, Slotted};
 
 // What a round comes to: was a union accepted, and the unions examined so far.
@@ -23,7 +22,6 @@ pub struct Course {
 // The ranked slots after slot i, best first, until a union is accepted. Those that fail are barred.
 fn round(
     height: Height,
-    rule: WordRule,
     gates: &[u32],
     given: &[u32],
     records: &[u32],
@@ -42,7 +40,7 @@ fn round(
     trials: usize,
 ) -> Outcome
     requires { ⌜ RoundAt (height .0) m table base i cap ranks trials (now gates) (now given) (now records) (now indices) (now lengths) (now plan) (now words) (now counts) (now work) ⌝ }
-    ensures { λ r. ⌜ Rounded (ruleOf rule) (height .0) m table base i cap ranks trials (now (gates .entry)) (now (given .entry)) (now (records .entry)) (now (indices .entry)) (now (lengths .entry)) (now (plan .entry)) (now (work .entry)) r (now (indices .exit)) (now (lengths .exit)) (now (plan .exit)) (now (words .exit)) (now (counts .exit)) (now (work .exit)) ⌝ }
+    ensures { λ r. ⌜ Rounded neededRuns (height .0) m table base i cap ranks trials (now (gates .entry)) (now (given .entry)) (now (records .entry)) (now (indices .entry)) (now (lengths .entry)) (now (plan .entry)) (now (work .entry)) r (now (indices .exit)) (now (lengths .exit)) (now (plan .exit)) (now (words .exit)) (now (counts .exit)) (now (work .exit)) ⌝ }
 {
     let n = lengths.len();
     let end = base + 8 * n;
@@ -59,7 +57,6 @@ fn round(
         t += 1;
         if try_union(
             height,
-            rule,
             gates,
             given,
             records,
@@ -92,7 +89,6 @@ fn round(
 // Rounds for slot i until none is accepted, at most `fuel`. Returns the unions examined so far.
 fn merge_into(
     height: Height,
-    rule: WordRule,
     gates: &[u32],
     given: &[u32],
     records: &[u32],
@@ -112,7 +108,7 @@ fn merge_into(
     trials: usize,
 ) -> usize
     requires { ⌜ IntoAt (height .0) m table base i cap ranks fuel trials (now gates) (now given) (now records) (now indices) (now lengths) (now plan) (now words) (now counts) (now work) ⌝ }
-    ensures { λ r. ⌜ Into (ruleOf rule) (height .0) m table base i cap ranks fuel trials (now (gates .entry)) (now (given .entry)) (now (records .entry)) (now (indices .entry)) (now (lengths .entry)) (now (plan .entry)) (now (work .entry)) r (now (indices .exit)) (now (lengths .exit)) (now (plan .exit)) (now (words .exit)) (now (counts .exit)) (now (work .exit)) ⌝ }
+    ensures { λ r. ⌜ Into neededRuns (height .0) m table base i cap ranks fuel trials (now (gates .entry)) (now (given .entry)) (now (records .entry)) (now (indices .entry)) (now (lengths .entry)) (now (plan .entry)) (now (work .entry)) r (now (indices .exit)) (now (lengths .exit)) (now (plan .exit)) (now (words .exit)) (now (counts .exit)) (now (work .exit)) ⌝ }
 {
     let mut t = trials;
     let mut left = fuel;
@@ -131,7 +127,6 @@ fn merge_into(
         );
         let outcome = round(
             height,
-            rule,
             gates,
             given,
             records,
@@ -161,7 +156,6 @@ fn merge_into(
 // Slot i in its turn: if it is full, the later ones are open again, and its rounds follow.
 fn merge_slot(
     height: Height,
-    rule: WordRule,
     gates: &[u32],
     given: &[u32],
     records: &[u32],
@@ -181,7 +175,7 @@ fn merge_slot(
     trials: usize,
 ) -> Course
     requires { ⌜ SlotAt (height .0) m table base i cap ranks fuel trials (now gates) (now given) (now records) (now indices) (now lengths) (now plan) (now words) (now counts) (now work) ⌝ }
-    ensures { λ r. ⌜ Stepped (ruleOf rule) (height .0) m table base i cap ranks fuel trials (now (gates .entry)) (now (given .entry)) (now (records .entry)) (now (indices .entry)) (now (lengths .entry)) (now (plan .entry)) (now (work .entry)) r (now (indices .exit)) (now (lengths .exit)) (now (plan .exit)) (now (words .exit)) (now (counts .exit)) (now (work .exit)) ⌝ }
+    ensures { λ r. ⌜ Stepped neededRuns (height .0) m table base i cap ranks fuel trials (now (gates .entry)) (now (given .entry)) (now (records .entry)) (now (indices .entry)) (now (lengths .entry)) (now (plan .entry)) (now (work .entry)) r (now (indices .exit)) (now (lengths .exit)) (now (plan .exit)) (now (words .exit)) (now (counts .exit)) (now (work .exit)) ⌝ }
 {
     if lengths[i] == 0 {
         return Course {
@@ -193,7 +187,6 @@ fn merge_slot(
     open_all(lengths, &mut work[base..end]);
     let t = merge_into(
         height,
-        rule,
         gates,
         given,
         records,
@@ -221,7 +214,6 @@ fn merge_slot(
 // Every slot in turn. Returns the unions examined.
 pub fn merge_slots(
     height: Height,
-    rule: WordRule,
     gates: &[u32],
     given: &[u32],
     records: &[u32],
@@ -238,7 +230,7 @@ pub fn merge_slots(
     ranks: usize,
 ) -> usize
     requires { ⌜ SlotsAt (height .0) m table base cap ranks (now gates) (now given) (now records) (now indices) (now lengths) (now plan) (now words) (now counts) (now work) ⌝ }
-    ensures { λ r. ⌜ Slotted (ruleOf rule) (height .0) m table base cap ranks (now (gates .entry)) (now (given .entry)) (now (records .entry)) (now (indices .entry)) (now (lengths .entry)) (now (plan .entry)) (now (work .entry)) r (now (indices .exit)) (now (lengths .exit)) (now (plan .exit)) (now (words .exit)) (now (counts .exit)) (now (work .exit)) ⌝ }
+    ensures { λ r. ⌜ Slotted neededRuns (height .0) m table base cap ranks (now (gates .entry)) (now (given .entry)) (now (records .entry)) (now (indices .entry)) (now (lengths .entry)) (now (plan .entry)) (now (work .entry)) r (now (indices .exit)) (now (lengths .exit)) (now (plan .exit)) (now (words .exit)) (now (counts .exit)) (now (work .exit)) ⌝ }
 {
     let n = lengths.len();
     let mut trials = 0;
@@ -247,7 +239,6 @@ pub fn merge_slots(
     while i < n {
         let left = merge_slot(
             height,
-            rule,
             gates,
             given,
             records,

@@ -13,14 +13,13 @@ use merge_unions::sizing::close_cone;
 use merge_unions::sizing::measure;
 use merge_unions::sizing::open_cone;
 use placer::Answer;
-use stage_runs::WordRule;
 ghost use mathlib.Core.Path.{_≡_};
 ghost use mathlib.Core.Bool.{_&&_};
 ghost use Prim.Native.Nat.{_+_, _*_, _≤_};
 ghost use lib.Dec.{eqb, leb};
 ghost use lib.ListN.{length};
-ghost use Rattle.stage_runs.specs.Rule.{ruleOf};
 ghost use Rattle.rules.specs.Inside.Some.{Some, Every};
+ghost use Rattle.rules.specs.Traversal.{neededRuns};
 ghost use Rattle.merge_unions.specs.Unions.{Built};
 ghost use Rattle.merge_trials.specs.Ranks.{groupsAt, Looked, RankAt, SlotRanked, LaterAt, Keyed, AllAt, AllRanked};
 ghost use Rattle.merge_trials.specs.Trials.{BuildAt, JoinAt, Joins, TryAt, Tried};
@@ -176,7 +175,6 @@ pub fn rank_all(
 // The build of the union of slots i and j.
 fn build_pair(
     height: Height,
-    rule: WordRule,
     gates: &[u32],
     given: &[u32],
     records: &[u32],
@@ -192,7 +190,7 @@ fn build_pair(
     j: usize,
 ) -> Answer
     requires { ⌜ BuildAt (height .0) m table i j (now gates) (now given) (now records) (now indices) (now lengths) (now plan) (now words) (now counts) (now work) ⌝ }
-    ensures { λ r. ⌜ Built (ruleOf rule) (height .0) m table (now (gates .entry)) (now (given .entry)) (now (records .entry)) (groupsAt (now (lengths .entry)) (now (indices .entry)) i) (groupsAt (now (lengths .entry)) (now (indices .entry)) j) (now (plan .entry)) (now (words .entry)) (now (counts .entry)) (now (work .entry)) r (now (plan .exit)) (now (words .exit)) (now (counts .exit)) (now (work .exit)) ⌝ }
+    ensures { λ r. ⌜ Built neededRuns (height .0) m table (now (gates .entry)) (now (given .entry)) (now (records .entry)) (groupsAt (now (lengths .entry)) (now (indices .entry)) i) (groupsAt (now (lengths .entry)) (now (indices .entry)) j) (now (plan .entry)) (now (words .entry)) (now (counts .entry)) (now (work .entry)) r (now (plan .exit)) (now (words .exit)) (now (counts .exit)) (now (work .exit)) ⌝ }
 {
     let a = start_of(lengths, i);
     let b = start_of(lengths, i + 1);
@@ -200,7 +198,6 @@ fn build_pair(
     let d = start_of(lengths, j + 1);
     build_union(
         height,
-        rule,
         gates,
         given,
         records,
@@ -252,7 +249,6 @@ fn join(
 // Slot j's union with slot i, taken if it is accepted; otherwise slot j is barred. Was it accepted?
 pub fn try_union(
     height: Height,
-    rule: WordRule,
     gates: &[u32],
     given: &[u32],
     records: &[u32],
@@ -270,11 +266,10 @@ pub fn try_union(
     cap: usize,
 ) -> bool
     requires { ⌜ TryAt (height .0) m table base i j cap (now gates) (now given) (now records) (now indices) (now lengths) (now plan) (now words) (now counts) (now work) ⌝ }
-    ensures { λ r. ⌜ Tried (ruleOf rule) (height .0) m table base i j cap (now (gates .entry)) (now (given .entry)) (now (records .entry)) (now (indices .entry)) (now (lengths .entry)) (now (plan .entry)) (now (work .entry)) r (now (indices .exit)) (now (lengths .exit)) (now (plan .exit)) (now (words .exit)) (now (counts .exit)) (now (work .exit)) ⌝ }
+    ensures { λ r. ⌜ Tried neededRuns (height .0) m table base i j cap (now (gates .entry)) (now (given .entry)) (now (records .entry)) (now (indices .entry)) (now (lengths .entry)) (now (plan .entry)) (now (work .entry)) r (now (indices .exit)) (now (lengths .exit)) (now (plan .exit)) (now (words .exit)) (now (counts .exit)) (now (work .exit)) ⌝ }
 {
     let a = build_pair(
         height,
-        rule,
         gates,
         given,
         records,

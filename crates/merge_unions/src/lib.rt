@@ -13,12 +13,11 @@ use placer_start::given::mark_given;
 use placer_start::reservation::Reservation;
 use refusals::OVER_RESERVED;
 use reservation::reserve_both;
-use stage_runs::WordRule;
 use waiting::wait_both;
 ghost use mathlib.Core.List.{_++_};
 ghost use Rattle.rules.specs.Records.{groupsOf};
+ghost use Rattle.rules.specs.Traversal.{neededRuns};
 ghost use Rattle.placer_start.specs.Opening.{Begins};
-ghost use Rattle.stage_runs.specs.Rule.{ruleOf};
 ghost use Rattle.merge_unions.specs.Names.{picked};
 ghost use Rattle.merge_unions.specs.Unions.{OpenAt, TryAt, Tried, Built};
 
@@ -55,7 +54,6 @@ fn begin_both(
 // The reservation and the stages, in empty areas.
 fn attempt(
     height: Height,
-    rule: WordRule,
     gates: &[u32],
     given: &[u32],
     records: &[u32],
@@ -69,7 +67,7 @@ fn attempt(
     table: usize,
 ) -> Answer
     requires { ⌜ TryAt (height .0) m table (now gates) (now given) (now records) (now first) (now second) (now plan) (now words) (now counts) (now work) ⌝ }
-    ensures { λ r. ⌜ Tried (ruleOf rule) (height .0) m table (now (gates .entry)) (now (given .entry)) (now (records .entry)) (now (first .entry)) (now (second .entry)) (now (plan .entry)) (now (words .entry)) (now (counts .entry)) (now (work .entry)) r (now (plan .exit)) (now (words .exit)) (now (counts .exit)) (now (work .exit)) ⌝ }
+    ensures { λ r. ⌜ Tried neededRuns (height .0) m table (now (gates .entry)) (now (given .entry)) (now (records .entry)) (now (first .entry)) (now (second .entry)) (now (plan .entry)) (now (words .entry)) (now (counts .entry)) (now (work .entry)) r (now (plan .exit)) (now (words .exit)) (now (counts .exit)) (now (work .exit)) ⌝ }
 {
     let limit = words.len();
     let opening = begin_both(given, records, first, second, work, m, table, limit);
@@ -94,7 +92,6 @@ fn attempt(
                 &mut work[0..size],
                 m,
                 height,
-                rule,
                 rooms,
                 n,
                 room,
@@ -106,7 +103,6 @@ fn attempt(
 // The build of a union's groups. A merge keeps no plan, so every area is empty again.
 pub fn build_union(
     height: Height,
-    rule: WordRule,
     gates: &[u32],
     given: &[u32],
     records: &[u32],
@@ -120,11 +116,10 @@ pub fn build_union(
     table: usize,
 ) -> Answer
     requires { ⌜ TryAt (height .0) m table (now gates) (now given) (now records) (now first) (now second) (now plan) (now words) (now counts) (now work) ⌝ }
-    ensures { λ r. ⌜ Built (ruleOf rule) (height .0) m table (now (gates .entry)) (now (given .entry)) (now (records .entry)) (now (first .entry)) (now (second .entry)) (now (plan .entry)) (now (words .entry)) (now (counts .entry)) (now (work .entry)) r (now (plan .exit)) (now (words .exit)) (now (counts .exit)) (now (work .exit)) ⌝ }
+    ensures { λ r. ⌜ Built neededRuns (height .0) m table (now (gates .entry)) (now (given .entry)) (now (records .entry)) (now (first .entry)) (now (second .entry)) (now (plan .entry)) (now (words .entry)) (now (counts .entry)) (now (work .entry)) r (now (plan .exit)) (now (words .exit)) (now (counts .exit)) (now (work .exit)) ⌝ }
 {
     let a = attempt(
         height,
-        rule,
         gates,
         given,
         records,

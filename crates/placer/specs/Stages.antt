@@ -6,7 +6,7 @@ use lib.ListN.{length, getD}
 use Rattle.rules.specs.Lists.{count, padded}
 use Rattle.rules.specs.Cells.{empty, filled, wordLimit, rowAt, stageSize}
 use Rattle.rules.specs.Graph.{Node, graphOf}
-use Rattle.rules.specs.Traversal.{WordRule, Setting, setting}
+use Rattle.rules.specs.Traversal.{WordRule, Setting, setting, neededRuns}
 use Rattle.rules.specs.Placing.{filledPlan}
 use Rattle.rules.specs.Ending as ending
 use Rattle.rules.specs.Ending.{oneStage}
@@ -18,8 +18,6 @@ use Rattle.rules.specs.Loops.{Valid}
 use Rattle.columns.specs.Fields.{DONE, WAITING, CELLS, PLACE, MARK}
 use Rattle.columns.specs.Area.{Room}
 use Rattle.columns.specs.Lists.{Marks, Clear, Placed}
-use Rattle.stage_runs.specs.declared.WordRule.{WordRule as Asked}
-use Rattle.stage_runs.specs.Rule.{ruleOf}
 use Rattle.stage_walk.specs.Stands.{Fresh}
 use Rattle.stage_notes.specs.Notes.{notes, stageNotes}
 use Rattle.placer.specs.declared.Answer.{Answer}
@@ -56,8 +54,8 @@ pub record Between (m n : ℕ) (ds ps w : List ℕ) : Type 0 where
   pub tail : (j : ℕ) → j < 259 → getD w (16 * m + j) 0 ≡ 0
 
 -- what the program has of the course
-pub record Known (C : Course) (m K half : ℕ) (asked : Asked) (gates : List ℕ) : Type 0 where
-  pub ruled : C .rule ≡ ruleOf asked
+pub record Known (C : Course) (m K half : ℕ) (gates : List ℕ) : Type 0 where
+  pub ruled : C .rule ≡ neededRuns
   pub height : K ≡ C .K
   pub row : half ≡ rowAt K 1
   pub graph : C .g ≡ graphOf gates
@@ -92,8 +90,8 @@ pub record Kept (pl ws cs w pl′ ws′ cs′ w′ : List ℕ) : Type 0 where
 
 -- ---- one stage: the next one, for which there is room
 
-pub record OneAt (C : Course) (m K half : ℕ) (asked : Asked) (k n at room : ℕ) (gates pl ws cs w : List ℕ) : Type 0 where
-  pub known : Known C m K half asked gates
+pub record OneAt (C : Course) (m K half : ℕ) (k n at room : ℕ) (gates pl ws cs w : List ℕ) : Type 0 where
+  pub known : Known C m K half gates
   pub now : Underway C m k at n pl ws cs w
   pub left : room ≡ C .room - at
   pub waits : 0 < n
@@ -120,8 +118,8 @@ pub record One (C : Course) (m k at : ℕ) (pl ws cs w : List ℕ) (number writt
 
 -- ---- from stage k + 1 on
 
-pub record StagesAt (C : Course) (m K half : ℕ) (asked : Asked) (rooms k at n room : ℕ) (gates pl ws cs w : List ℕ) : Type 0 where
-  pub known : Known C m K half asked gates
+pub record StagesAt (C : Course) (m K half : ℕ) (rooms k at n room : ℕ) (gates pl ws cs w : List ℕ) : Type 0 where
+  pub known : Known C m K half gates
   pub now : Underway C m k at n pl ws cs w
   pub all : rooms ≡ C .rooms
   pub short : rooms < 2 ^ 63

@@ -10,14 +10,12 @@ use graph::pin_count;
 use placer_start::Opening;
 use placer_start::begin;
 use refusals::OVER_RESERVED;
-use stage_runs::WordRule;
 use stages::stages;
 ghost use mathlib.Core.Path.{_≡_};
 ghost use lib.ListN.{length};
 ghost use Rattle.rules.specs.Graph.{graphOf};
 ghost use Rattle.rules.specs.Build.{placer, answerOf};
 ghost use Rattle.rules.specs.Traversal.{neededRuns};
-ghost use Rattle.stage_runs.specs.Rule.{ruleOf};
 ghost use Rattle.placer.specs.Answers.{areas, outcome};
 ghost use Rattle.placer.specs.Build.{PlaceAt, TryAt, Tried, Laid, Placed};
 
@@ -38,7 +36,6 @@ pub struct Answer {
 // The reservation and the stages, in empty areas.
 fn attempt(
     height: Height,
-    rule: WordRule,
     gates: &[u32],
     given: &[u32],
     records: &[u32],
@@ -48,7 +45,7 @@ fn attempt(
     work: &mut [u32],
 ) -> Answer
     requires { ⌜ TryAt (height .0) (now gates) (now given) (now records) (now plan) (now words) (now counts) (now work) ⌝ }
-    ensures { λ r. ⌜ Tried (answerOf (ruleOf rule) (height .0) (now (gates .entry)) (now (given .entry)) (now (records .entry)) (length (now (plan .entry)))) (now (plan .entry)) (now (words .entry)) (now (counts .entry)) (now (work .entry)) r (now (plan .exit)) (now (words .exit)) (now (counts .exit)) (now (work .exit)) ⌝ }
+    ensures { λ r. ⌜ Tried (answerOf neededRuns (height .0) (now (gates .entry)) (now (given .entry)) (now (records .entry)) (length (now (plan .entry)))) (now (plan .entry)) (now (words .entry)) (now (counts .entry)) (now (work .entry)) r (now (plan .exit)) (now (words .exit)) (now (counts .exit)) (now (work .exit)) ⌝ }
 {
     let m = pin_count(gates);
     let rooms = counts.len();
@@ -65,19 +62,7 @@ fn attempt(
         },
         Opening::Ready(reserved, n) => {
             let room = limit - reserved;
-            stages(
-                gates,
-                plan,
-                words,
-                counts,
-                work,
-                m,
-                height,
-                rule,
-                rooms,
-                n,
-                room,
-            )
+            stages(gates, plan, words, counts, work, m, height, rooms, n, room)
         }
     }
 }
@@ -85,7 +70,6 @@ fn attempt(
 // The build of records that passed the checks, in areas of exactly their counted sizes: stages of pins.
 fn lay(
     height: Height,
-    rule: WordRule,
     gates: &[u32],
     given: &[u32],
     records: &[u32],
@@ -95,20 +79,10 @@ fn lay(
     work: &mut [u32],
 ) -> Answer
     requires { ⌜ PlaceAt (height .0) (now gates) (now given) (now records) (now plan) (now words) (now counts) (now work) ⌝ }
-    ensures { λ r. ⌜ Laid (answerOf (ruleOf rule) (height .0) (now (gates .entry)) (now (given .entry)) (now (records .entry)) (length (now (plan .entry)))) (now (plan .entry)) (now (words .entry)) (now (counts .entry)) (now (work .entry)) r (now (plan .exit)) (now (words .exit)) (now (counts .exit)) (now (work .exit)) ⌝ }
+    ensures { λ r. ⌜ Laid (answerOf neededRuns (height .0) (now (gates .entry)) (now (given .entry)) (now (records .entry)) (length (now (plan .entry)))) (now (plan .entry)) (now (words .entry)) (now (counts .entry)) (now (work .entry)) r (now (plan .exit)) (now (words .exit)) (now (counts .exit)) (now (work .exit)) ⌝ }
 {
     empty_all(plan, words, counts, work);
-    let a = attempt(
-        height,
-        rule,
-        gates,
-        given,
-        records,
-        plan,
-        words,
-        counts,
-        work,
-    );
+    let a = attempt(height, gates, given, records, plan, words, counts, work);
     tidy(a.number, plan, words, counts, work);
     a
 }
@@ -116,7 +90,6 @@ fn lay(
 // The same as cells with their inversions. A refusal has no stages, so nothing is coded.
 fn place(
     height: Height,
-    rule: WordRule,
     gates: &[u32],
     given: &[u32],
     records: &[u32],
@@ -126,27 +99,16 @@ fn place(
     work: &mut [u32],
 ) -> Answer
     requires { ⌜ PlaceAt (height .0) (now gates) (now given) (now records) (now plan) (now words) (now counts) (now work) ⌝ }
-    ensures { λ r. ⌜ Placed (graphOf (now (gates .entry))) (answerOf (ruleOf rule) (height .0) (now (gates .entry)) (now (given .entry)) (now (records .entry)) (length (now (plan .entry)))) (height .0) (now (plan .entry)) (now (words .entry)) (now (counts .entry)) (now (work .entry)) r (now (plan .exit)) (now (words .exit)) (now (counts .exit)) (now (work .exit)) ⌝ }
+    ensures { λ r. ⌜ Placed (graphOf (now (gates .entry))) (answerOf neededRuns (height .0) (now (gates .entry)) (now (given .entry)) (now (records .entry)) (length (now (plan .entry)))) (height .0) (now (plan .entry)) (now (words .entry)) (now (counts .entry)) (now (work .entry)) r (now (plan .exit)) (now (words .exit)) (now (counts .exit)) (now (work .exit)) ⌝ }
 {
-    let a = lay(
-        height,
-        rule,
-        gates,
-        given,
-        records,
-        plan,
-        words,
-        counts,
-        work,
-    );
+    let a = lay(height, gates, given, records, plan, words, counts, work);
     code_plan(height, plan, gates, a.stages);
     a
 }
 
-// Lays the gates under the records' endpoints into stages of a tree of this height, under a word rule. Plan, words and counts hold what
+// Lays the gates under the records' endpoints into stages of a tree of this height. Plan, words and counts hold what
 // was built, and work is scratch.
-pub fn build_by(
-    rule: WordRule,
+pub fn build(
     height: u32,
     gates: &[u32],
     given: &[u32],
@@ -156,7 +118,7 @@ pub fn build_by(
     counts: &mut [u32],
     work: &mut [u32],
 ) -> Answer
-    ensures { λ r. ⌜ outcome r (now (plan .exit)) (now (words .exit)) (now (counts .exit)) (now (work .exit)) ≡ placer (ruleOf rule) height (now (gates .entry)) (now (given .entry)) (now (records .entry)) (areas (now (plan .entry)) (now (words .entry)) (now (counts .entry)) (now (work .entry))) ⌝ }
+    ensures { λ r. ⌜ outcome r (now (plan .exit)) (now (words .exit)) (now (counts .exit)) (now (work .exit)) ≡ placer neededRuns height (now (gates .entry)) (now (given .entry)) (now (records .entry)) (areas (now (plan .entry)) (now (words .entry)) (now (counts .entry)) (now (work .entry))) ⌝ }
 {
     let verdict = check(
         height,
@@ -184,7 +146,6 @@ pub fn build_by(
     let need = 16 * pin_count(gates) + 8 * records.len() + RECORDS;
     place(
         Height(height),
-        rule,
         gates,
         given,
         records,
@@ -192,31 +153,5 @@ pub fn build_by(
         &mut words[0..limit],
         &mut counts[0..rooms],
         &mut work[0..need],
-    )
-}
-
-// The same under the rule that writes no idle run.
-pub fn build(
-    height: u32,
-    gates: &[u32],
-    given: &[u32],
-    records: &[u32],
-    plan: &mut [u32],
-    words: &mut [u32],
-    counts: &mut [u32],
-    work: &mut [u32],
-) -> Answer
-    ensures { λ r. ⌜ outcome r (now (plan .exit)) (now (words .exit)) (now (counts .exit)) (now (work .exit)) ≡ placer neededRuns height (now (gates .entry)) (now (given .entry)) (now (records .entry)) (areas (now (plan .entry)) (now (words .entry)) (now (counts .entry)) (now (work .entry))) ⌝ }
-{
-    build_by(
-        WordRule::NeededRuns,
-        height,
-        gates,
-        given,
-        records,
-        plan,
-        words,
-        counts,
-        work,
     )
 }

@@ -5,7 +5,6 @@ use graph::Pin;
 use refusals::NO_ROOM;
 use stage::Outcome;
 use stage::build_one_stage;
-use stage_runs::WordRule;
 use stage_tally::Tally;
 use stage_tally::spend;
 ghost use Rattle.stage_tally.specs.Spending.{room, Counted};
@@ -22,28 +21,17 @@ pub fn next_stage(
     work: &mut [u32],
     m: usize,
     height: Height,
-    rule: WordRule,
     k: usize,
     n: usize,
     tally: Tally,
 ) -> Outcome
-    requires { ⌜ Counted tally × Some (λ C. OneAt C m (height .0) (rowAt (height .0) 1) rule k n (tally .spent) (room tally) (now gates) (now plan) (now words) (now counts) (now work)) ⌝ }
-    ensures { λ r. ⌜ Every (λ C. OneAt C m (height .0) (rowAt (height .0) 1) rule k n (tally .spent) (room tally) (now (gates .entry)) (now (plan .entry)) (now (words .entry)) (now (counts .entry)) (now (work .entry))) (λ C. One C m k (tally .spent) (now (plan .entry)) (now (words .entry)) (now (counts .entry)) (now (work .entry)) (r .number) (r .words) (r .cells) (r .waiting) (now (plan .exit)) (now (words .exit)) (now (counts .exit)) (now (work .exit))) ⌝ }
+    requires { ⌜ Counted tally × Some (λ C. OneAt C m (height .0) (rowAt (height .0) 1) k n (tally .spent) (room tally) (now gates) (now plan) (now words) (now counts) (now work)) ⌝ }
+    ensures { λ r. ⌜ Every (λ C. OneAt C m (height .0) (rowAt (height .0) 1) k n (tally .spent) (room tally) (now (gates .entry)) (now (plan .entry)) (now (words .entry)) (now (counts .entry)) (now (work .entry))) (λ C. One C m k (tally .spent) (now (plan .entry)) (now (words .entry)) (now (counts .entry)) (now (work .entry)) (r .number) (r .words) (r .cells) (r .waiting) (now (plan .exit)) (now (words .exit)) (now (counts .exit)) (now (work .exit))) ⌝ }
 {
     let size = 4 * height.level_one_size();
     let a = k * size;
     let e = a + size;
-    let s = build_one_stage(
-        gates,
-        &mut plan[a..e],
-        work,
-        words,
-        m,
-        height,
-        n,
-        rule,
-        tally,
-    );
+    let s = build_one_stage(gates, &mut plan[a..e], work, words, m, height, n, tally);
     if s.number != 0 {
         return s;
     }
@@ -60,13 +48,12 @@ pub fn stages(
     work: &mut [u32],
     m: usize,
     height: Height,
-    rule: WordRule,
     rooms: usize,
     n: usize,
     room: usize,
 ) -> Answer
-    requires { ⌜ Some (λ C. StagesAt C m (height .0) (rowAt (height .0) 1) rule rooms 0 0 n room (now gates) (now plan) (now words) (now counts) (now work)) ⌝ }
-    ensures { λ r. ⌜ Every (λ C. StagesAt C m (height .0) (rowAt (height .0) 1) rule rooms 0 0 n room (now (gates .entry)) (now (plan .entry)) (now (words .entry)) (now (counts .entry)) (now (work .entry))) (λ C. Ran C (now (plan .entry)) (now (words .entry)) (now (counts .entry)) (now (work .entry)) r (now (plan .exit)) (now (words .exit)) (now (counts .exit)) (now (work .exit))) ⌝ }
+    requires { ⌜ Some (λ C. StagesAt C m (height .0) (rowAt (height .0) 1) rooms 0 0 n room (now gates) (now plan) (now words) (now counts) (now work)) ⌝ }
+    ensures { λ r. ⌜ Every (λ C. StagesAt C m (height .0) (rowAt (height .0) 1) rooms 0 0 n room (now (gates .entry)) (now (plan .entry)) (now (words .entry)) (now (counts .entry)) (now (work .entry))) (λ C. Ran C (now (plan .entry)) (now (words .entry)) (now (counts .entry)) (now (work .entry)) r (now (plan .exit)) (now (words .exit)) (now (counts .exit)) (now (work .exit))) ⌝ }
 {
     let limit = words.len();
     let mut tally = Tally {
@@ -88,19 +75,7 @@ pub fn stages(
                 cells: 0,
             };
         }
-        let s = next_stage(
-            gates,
-            plan,
-            words,
-            counts,
-            work,
-            m,
-            height,
-            rule,
-            k,
-            left,
-            tally,
-        );
+        let s = next_stage(gates, plan, words, counts, work, m, height, k, left, tally);
         let number = s.number;
         if number != 0 {
             return Answer {

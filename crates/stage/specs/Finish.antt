@@ -5,7 +5,7 @@ use Prim.Native.Nat.{ℕ, _+_, _*_, _^_, _<_, _≤_}
 use lib.ListN.{length, getD}
 use Rattle.rules.specs.Lists.{found, count, laidAt, In}
 use Rattle.rules.specs.Cells.{filled, rowAt, row, firstEmpty}
-use Rattle.rules.specs.Traversal.{Setting, levelAt}
+use Rattle.rules.specs.Traversal.{Setting, levelAt, neededRuns}
 use Rattle.rules.specs.Placing.{tree, neededOf}
 use Rattle.rules.specs.Ending.{plan, Stage?, refused, stage, close, inNeed, lastStage, written, rest, finish}
 use Rattle.rules.specs.Capacity.{crowd, onesThen, needsLeft}
@@ -13,21 +13,19 @@ use Rattle.rules.specs.Inside.Plans.{Fair}
 use Rattle.columns.specs.Fields.{ORDER, DONE, LEVEL, WAITING, CELLS, REVERSE, NEEDED, LISTED, STACK, PHASE, PLACE, MARK, SPARE, TAIL}
 use Rattle.columns.specs.Area.{Room, Frame}
 use Rattle.columns.specs.Lists.{Holds, Marks, Clear, Marked, Placed}
-use Rattle.stage_runs.specs.declared.WordRule.{WordRule as Asked}
 use Rattle.stage_walk.specs.Stands.{Context, Set, Tally}
 use Rattle.stage_tree.specs.Bits.{Standing}
-use Rattle.stage_runs.specs.Rule.{ruleOf}
 use Rattle.stage_runs.specs.declared.Spent.{Spent}
 use Rattle.stage_ending.specs.declared.last.Kept.{Kept}
 use Rattle.stage_ending.specs.Close.{Gone}
 use Rattle.stage.specs.declared.finish.Outcome.{Outcome}
 
 -- the plan of rules 2 to 7 stands; o pins are listed, n wait, q are needed
-pub record FinishAt (C : Context) (m K half o n q : ℕ) (asked : Asked) (at room : ℕ) (gates pl w words : List ℕ) : Type 0 where
+pub record FinishAt (C : Context) (m K half o n q : ℕ) (at room : ℕ) (gates pl w words : List ℕ) : Type 0 where
   pub stands : Standing C m 1 gates pl w
   pub set : Set C m n o gates w
   pub needed : Holds NEEDED m q (neededOf (C .X) pl) w
-  pub ruled : C .X .rule ≡ ruleOf asked
+  pub ruled : C .X .rule ≡ neededRuns
   pub marks : Clear MARK m w
   pub spare : Clear SPARE m w
   pub tail : (j : ℕ) → j < 256 → getD w (16 * m + j) 0 ≡ 0

@@ -7,23 +7,22 @@ use Rattle.rules.specs.Cells.{rowAt}
 use Rattle.rules.specs.Placing.{filledPlan}
 use Rattle.rules.specs.Inside.Lean as lean
 use Rattle.rules.specs.Ending.{Stage?, oneStage}
+use Rattle.rules.specs.Traversal.{neededRuns}
 use Rattle.columns.specs.Fields.{ORDER, DONE, LEVEL, WAITING, CELLS, RANKED, STARTS, ENDS, REVERSE, NEEDED, LISTED, STACK, PHASE, PLACE, MARK, SPARE, TAIL}
 use Rattle.columns.specs.Lists.{Clear}
-use Rattle.stage_runs.specs.declared.WordRule.{WordRule as Asked}
 use Rattle.stage_walk.specs.Stands.{Context, Begun, Fresh}
-use Rattle.stage_runs.specs.Rule.{ruleOf}
 use Rattle.stage_notes.specs.Notes.{NOTES, NOTED, notes, stageNotes}
 use Rattle.stage.specs.declared.finish.Outcome.{Outcome}
 use Rattle.stage.specs.Finish.{Changed, Refuses, Whole}
 
 -- n pins wait; the stage is empty, and so is every column but those of given and realised pins and of the waiting list
-pub record StageAt (C : Context) (m K half n : ℕ) (asked : Asked) (at room : ℕ) (gates pl w words : List ℕ) : Type 0 where
+pub record StageAt (C : Context) (m K half n : ℕ) (at room : ℕ) (gates pl w words : List ℕ) : Type 0 where
   pub begun : Begun C m n gates w
   pub fresh : Fresh m w
   pub cells : Clear CELLS m w
   pub marks : Clear MARK m w
   pub tail : (j : ℕ) → j < 259 → getD w (16 * m + j) 0 ≡ 0
-  pub ruled : C .X .rule ≡ ruleOf asked
+  pub ruled : C .X .rule ≡ neededRuns
   pub height : K ≡ C .X .K
   pub row : half ≡ rowAt K 1
   pub blank : pl ≡ lean.blank (C .X)

@@ -10,7 +10,6 @@ use stage_ending::last::Kept;
 use stage_ending::last::last_words;
 use stage_ending::rest::fill_rest;
 use stage_runs::Spent;
-use stage_runs::WordRule;
 use stage_runs::write_runs;
 use stage_tally::Tally;
 use stage_tally::is_over;
@@ -126,16 +125,15 @@ pub fn finish(
     o: usize,
     n: usize,
     q: usize,
-    rule: WordRule,
     tally: Tally,
 ) -> Outcome
-    requires { ⌜ Counted tally × Some (λ C. FinishAt C m (height .0) (rowAt (height .0) 1) o n q rule (tally .spent) (room tally) (now gates) (now stage) (now work) (now words)) ⌝ }
-    ensures { λ r. ⌜ Every (λ C. FinishAt C m (height .0) (rowAt (height .0) 1) o n q rule (tally .spent) (room tally) (now (gates .entry)) (now (stage .entry)) (now (work .entry)) (now (words .entry))) (λ C. Finished C m (tally .spent) (room tally) (now (stage .entry)) (now (stage .entry)) (now (work .entry)) (now (words .entry)) r (now (stage .exit)) (now (work .exit)) (now (words .exit))) ⌝ }
+    requires { ⌜ Counted tally × Some (λ C. FinishAt C m (height .0) (rowAt (height .0) 1) o n q (tally .spent) (room tally) (now gates) (now stage) (now work) (now words)) ⌝ }
+    ensures { λ r. ⌜ Every (λ C. FinishAt C m (height .0) (rowAt (height .0) 1) o n q (tally .spent) (room tally) (now (gates .entry)) (now (stage .entry)) (now (work .entry)) (now (words .entry))) (λ C. Finished C m (tally .spent) (room tally) (now (stage .entry)) (now (stage .entry)) (now (work .entry)) (now (words .entry)) r (now (stage .exit)) (now (work .exit)) (now (words .exit))) ⌝ }
 {
     let at = tally.spent;
     let room = left(tally);
     let many = tail_get(work, m, ONES) + q;
-    let s = write_runs(gates, stage, work, words, m, height, n, rule, at, room);
+    let s = write_runs(gates, stage, work, words, m, height, n, at, room);
     if is_over(spend(tally, s.words)) {
         return Outcome {
             number: OVER_WORDS,

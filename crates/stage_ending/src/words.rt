@@ -9,6 +9,7 @@ use columns::tail_get;
 use columns::tail_set;
 use graph::EMPTY;
 use graph::Pin;
+use stage_sparse::count_from;
 ghost use mathlib.Core.Path.{_≡_};
 ghost use Rattle.rules.specs.Cells.{rowAt};
 ghost use Prim.Native.Nat.{_+_, _*_, _<_, _≤_};
@@ -70,6 +71,31 @@ fn row(stage: &[u32], work: &mut [u32], m: usize, n: usize, a: usize, e: usize) 
     k
 }
 
+// The same for the 32 cells from a on. In most trees most of these are all empty, and counting that is quicker than looking at each.
+fn run(stage: &[u32], work: &mut [u32], m: usize, n: usize, a: usize) -> usize
+    requires { ⌜ Some (λ ws. RowAt m n a (a + 32) ws (now stage) (now work)) ⌝ }
+    ensures { λ r. ⌜ Every (λ ws. RowAt m n a (a + 32) ws (now (stage .entry)) (now (work .entry))) (λ ws. Rowed m a (a + 32) ws (now (stage .entry)) (now (work .entry)) (now (work .exit)) r) ⌝ }
+{
+    if count_from(stage, a) == 0 {
+        return n;
+    }
+    row(stage, work, m, n, a, a + 32)
+}
+
+// The cells from a to e run by run; the highest levels have less than one.
+fn level(stage: &[u32], work: &mut [u32], m: usize, n: usize, a: usize, e: usize) -> usize
+    requires { ⌜ Some (λ ws. RowAt m n a e ws (now stage) (now work)) ⌝ }
+    ensures { λ r. ⌜ Every (λ ws. RowAt m n a e ws (now (stage .entry)) (now (work .entry))) (λ ws. Rowed m a e ws (now (stage .entry)) (now (work .entry)) (now (work .exit)) r) ⌝ }
+{
+    let mut k = n;
+    let mut c = a;
+    while c + 32 <= e {
+        k = run(stage, work, m, k, c);
+        c += 32;
+    }
+    row(stage, work, m, k, c, e)
+}
+
 // All levels from 1 upward; each row has half the cells of the one below. Returns how many words there are.
 pub fn collect(stage: &[u32], work: &mut [u32], m: usize, height: Height) -> usize
     requires { ⌜ UpAt m (height .0) (rowAt (height .0) 1) (now stage) (now work) ⌝ }
@@ -80,7 +106,7 @@ pub fn collect(stage: &[u32], work: &mut [u32], m: usize, height: Height) -> usi
     let mut w = height.level_one_size();
     let mut h: u32 = 1;
     while h <= top {
-        n = row(stage, work, m, n, w, 2 * w);
+        n = level(stage, work, m, n, w, 2 * w);
         w = w / 2;
         h += 1;
     }

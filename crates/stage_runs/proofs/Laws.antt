@@ -1,7 +1,6 @@
 pub mod Plain
 pub mod Classes
 pub mod Laid
-pub mod Rule
 pub mod Puts
 pub mod Written
 pub mod Ran

@@ -7,13 +7,12 @@ use mathlib.Core.List.{List, [], _∷_, map}
 use Prim.Native.Nat.{ℕ, _+_, _*_, _/_, _<_, _≤_}
 use lib.ListN.{length, getD, set, take, drop}
 use Rattle.rules.specs.Cells.{rowAt}
-use Rattle.rules.specs.Traversal.{levelAt}
+use Rattle.rules.specs.Traversal.{levelAt, neededRuns}
 use Rattle.rules.specs.Ending as rules
 use Rattle.rules.specs.Lists.{In}
 use Rattle.columns.specs.Fields.{WAITING, CELLS, STACK, PHASE, PLACE, MARK, TAIL, ONES, PINS, FILLED}
 use Rattle.columns.specs.Area.{Frame}
 use Rattle.columns.specs.Lists.{list, span, Holds, Marked, Placed}
-use Rattle.stage_runs.specs.declared.WordRule.{WordRule}
 use Rattle.stage_walk.specs.Stands.{Context}
 use Rattle.stage_tree.specs.Bits.{Standing}
 use Rattle.rules.specs.Inside.Counts as rules-counts
@@ -22,7 +21,6 @@ use Rattle.stage_runs.specs.declared.puts.Written.{Written}
 use Rattle.stage_sparse.specs.declared.Runs.{Runs}
 use Rattle.stage_sparse.specs.Runs.{listed}
 use Rattle.stage_runs.specs.Laid.{noted}
-use Rattle.stage_runs.specs.Rule.{ruleOf}
 
 -- only what placing counts, and the realised pins, changed
 pub record Moved (m : ℕ) (w w′ : List ℕ) : Type 0 where
@@ -87,13 +85,13 @@ pub record PutRecord (C : Context) (m half k at room j start : ℕ) (gates : Lis
 unfoldable pub wordsOf : ℕ → List rules.Sparse → List ℕ
 wordsOf half rs = map (λ r. (r .start + half) / 32) rs
 
-pub record WriteAt (C : Context) (m half k : ℕ) (rule : WordRule) (at room : ℕ) (R : Runs) (gates pl w words : List ℕ) : Type 0 where
+pub record WriteAt (C : Context) (m half k : ℕ) (at room : ℕ) (R : Runs) (gates pl w words : List ℕ) : Type 0 where
   pub now : Putting C m k (record { next = 0; real = 0 }) gates pl w
   pub row : half ≡ rowAt (C .X .K) 1
   pub size : length (R .records) ≡ 128
   pub few : R .len ≤ 128
   pub inside : rules-counts.Runs half (listed R)
-  pub ruled : C .X .rule ≡ ruleOf rule
+  pub ruled : C .X .rule ≡ neededRuns
   pub fits : at + room ≤ length words
 
 -- the first j records are done

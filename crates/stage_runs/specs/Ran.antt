@@ -7,22 +7,21 @@ use lib.ListN.{length, getD}
 use Rattle.rules.specs.Cells.{rowAt}
 use Rattle.rules.specs.Ending.{inNeed, lastStage, written}
 use Rattle.rules.specs.Lists.{In}
+use Rattle.rules.specs.Traversal.{neededRuns}
 use Rattle.columns.specs.Fields.{CELLS, STACK, PHASE, MARK, SPARE, TAIL, ONES, PINS, FILLED}
 use Rattle.columns.specs.Area.{Frame}
 use Rattle.columns.specs.Lists.{Marks, Marked}
 use Rattle.stage_walk.specs.Stands.{Context, Begun}
 use Rattle.stage_tree.specs.Bits.{Standing}
 use Rattle.stage_runs.specs.declared.Spent.{Spent}
-use Rattle.stage_runs.specs.declared.WordRule.{WordRule}
-use Rattle.stage_runs.specs.Rule.{ruleOf}
 use Rattle.stage_runs.specs.Laid.{noted}
 
-pub record EndAt (C : Context) (m K half n : ℕ) (rule : WordRule) (at room : ℕ) (gates pl w words : List ℕ) : Type 0 where
+pub record EndAt (C : Context) (m K half n : ℕ) (at room : ℕ) (gates pl w words : List ℕ) : Type 0 where
   pub stands : Standing C m 1 gates pl w
   pub begun : Begun C m n gates w
   pub height : K ≡ C .X .K
   pub row : half ≡ rowAt K 1
-  pub ruled : C .X .rule ≡ ruleOf rule
+  pub ruled : C .X .rule ≡ neededRuns
   pub marks : (p : ℕ) → p < m → getD w (MARK * m + p) 0 ≡ 0
   pub spare : (p : ℕ) → p < m → getD w (SPARE * m + p) 0 ≡ 0
   pub fits : at + room ≤ length words

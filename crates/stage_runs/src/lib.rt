@@ -4,36 +4,12 @@ use cells::Height;
 use classes::split_waiting;
 use puts::put_runs;
 use stage_sparse::sparse_runs;
-ghost use mathlib.Core.Path.{_≡_};
 ghost use Rattle.rules.specs.Cells.{rowAt};
 ghost use Rattle.rules.specs.Inside.Some.{Some, Every};
 ghost use Rattle.stage_runs.specs.Ran.{EndAt, Ran};
-ghost use Rattle.stage_runs.specs.Rule.{ruleFor, ruleBy};
 
 mod classes;
 mod puts;
-
-// The sparse runs that are written once nothing is untouched: every one, or none after the last needed waiting pin.
-pub enum WordRule {
-    EveryRun,
-    NeededRuns,
-}
-
-pub enum MaybeRule {
-    Named(WordRule),
-    Unknown,
-}
-
-// The rule that a number names, as callers in other languages ask for it.
-pub fn rule_named(number: u32) -> MaybeRule
-    ensures { λ r. ⌜ ruleBy r ≡ ruleFor number ⌝ }
-{
-    match number {
-        0 => MaybeRule::Named(WordRule::NeededRuns),
-        1 => MaybeRule::Named(WordRule::EveryRun),
-        _ => MaybeRule::Unknown,
-    }
-}
 
 // What rule 8 leaves: is no waiting pin untouched, how many pins are realised, how many words written.
 pub struct Spent {
@@ -51,32 +27,18 @@ pub fn write_runs(
     m: usize,
     height: Height,
     n: usize,
-    rule: WordRule,
     at: usize,
     room: usize,
 ) -> Spent
-    requires { ⌜ Some (λ C. EndAt C m (height .0) (rowAt (height .0) 1) n rule at room (now gates) (now stage) (now work) (now words)) ⌝ }
-    ensures { λ r. ⌜ Every (λ C. EndAt C m (height .0) (rowAt (height .0) 1) n rule at room (now (gates .entry)) (now (stage .entry)) (now (work .entry)) (now (words .entry))) (λ C. Ran C m at room (now (gates .entry)) (now (stage .entry)) (now (work .entry)) (now (words .entry)) r (now (stage .exit)) (now (work .exit)) (now (words .exit))) ⌝ }
+    requires { ⌜ Some (λ C. EndAt C m (height .0) (rowAt (height .0) 1) n at room (now gates) (now stage) (now work) (now words)) ⌝ }
+    ensures { λ r. ⌜ Every (λ C. EndAt C m (height .0) (rowAt (height .0) 1) n at room (now (gates .entry)) (now (stage .entry)) (now (work .entry)) (now (words .entry))) (λ C. Ran C m at room (now (gates .entry)) (now (stage .entry)) (now (work .entry)) (now (words .entry)) r (now (stage .exit)) (now (work .exit)) (now (words .exit))) ⌝ }
 {
     let half = height.level_one_size();
     let split = split_waiting(work, m, n);
     let k = split.needed;
     let last = !split.untouched;
     let runs = sparse_runs(stage, half);
-    let put = put_runs(
-        gates,
-        stage,
-        work,
-        words,
-        m,
-        half,
-        k,
-        rule,
-        last,
-        at,
-        room,
-        runs,
-    );
+    let put = put_runs(gates, stage, work, words, m, half, k, last, at, room, runs);
     Spent {
         last: last,
         real: put.real,

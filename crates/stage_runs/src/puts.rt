@@ -1,5 +1,4 @@
 // Rules 8 and 9: needed pins go into the empty cells of level 1. m = N + 1, and level 1 has `half` cells from position `half` on.
-use crate::WordRule;
 use columns::MARK;
 use columns::PHASE;
 use columns::PLACE;
@@ -19,7 +18,7 @@ ghost use lib.Dec.{leb};
 ghost use Rattle.rules.specs.Ending.{putCell, putCells, goesOn};
 ghost use Rattle.rules.specs.Inside.Some.{Some, Every};
 ghost use Rattle.stage_runs.specs.Puts.{CellAt, RunAt, Put, NoteAt, Noted, RecordAt, PutRecord, WriteAt, Wrote};
-ghost use Rattle.stage_runs.specs.Rule.{ruleOf};
+ghost use Rattle.rules.specs.Traversal.{neededRuns};
 
 // How many of the needed waiting pins are put, and how many pins are realised.
 pub struct Puts {
@@ -100,20 +99,15 @@ fn enough(last: bool, filled: u32, left: usize) -> bool
     32 <= left + wide(filled)
 }
 
-// The same under a word rule: every run, or none once no pin is left.
-fn goes_on(rule: WordRule, last: bool, filled: u32, left: usize) -> bool
+// Whether a run is written: none once no needed waiting pin is left.
+fn goes_on(last: bool, filled: u32, left: usize) -> bool
     requires { ⌜ left ≤ 65536 ⌝ }
-    ensures { λ r. ⌜ r ≡ goesOn (ruleOf rule) last filled left ⌝ }
+    ensures { λ r. ⌜ r ≡ goesOn neededRuns last filled left ⌝ }
 {
-    match rule {
-        WordRule::EveryRun => enough(last, filled, left),
-        WordRule::NeededRuns => {
-            if left == 0 {
-                return false;
-            }
-            enough(last, filled, left)
-        }
+    if left == 0 {
+        return false;
     }
+    enough(last, filled, left)
 }
 
 // Word j of the stage, if it is one of the `room` that may be written.
@@ -164,14 +158,13 @@ pub fn put_runs(
     m: usize,
     half: usize,
     k: usize,
-    rule: WordRule,
     last: bool,
     at: usize,
     room: usize,
     runs: Runs,
 ) -> Written
-    requires { ⌜ Some (λ C. WriteAt C m half k rule at room runs (now gates) (now stage) (now work) (now words)) ⌝ }
-    ensures { λ r. ⌜ Every (λ C. WriteAt C m half k rule at room runs (now (gates .entry)) (now (stage .entry)) (now (work .entry)) (now (words .entry))) (λ C. Wrote C m half k last at room runs (now (gates .entry)) (now (stage .entry)) (now (work .entry)) (now (words .entry)) r (now (stage .exit)) (now (work .exit)) (now (words .exit))) ⌝ }
+    requires { ⌜ Some (λ C. WriteAt C m half k at room runs (now gates) (now stage) (now work) (now words)) ⌝ }
+    ensures { λ r. ⌜ Every (λ C. WriteAt C m half k at room runs (now (gates .entry)) (now (stage .entry)) (now (work .entry)) (now (words .entry))) (λ C. Wrote C m half k last at room runs (now (gates .entry)) (now (stage .entry)) (now (work .entry)) (now (words .entry)) r (now (stage .exit)) (now (work .exit)) (now (words .exit))) ⌝ }
 {
     let n = runs.len;
     let mut t = Puts { next: 0, real: 0 };
@@ -180,7 +173,7 @@ pub fn put_runs(
         let r = runs.records[j];
         let filled = r.filled;
         let start = r.start;
-        if goes_on(rule, last, filled, k - t.next) {
+        if goes_on(last, filled, k - t.next) {
             t = put_record(
                 gates,
                 stage,

@@ -14,10 +14,9 @@ use Rattle.rules.specs.Cells.{empty, stageSize, rooms}
 use Rattle.rules.specs.Graph.{graphOf}
 use Rattle.rules.specs.Records.{groupsOf}
 use Rattle.rules.specs.Build as rules
+use Rattle.rules.specs.Traversal.{neededRuns}
 use Rattle.cells.proofs.Heights.{tall-height}
 use Rattle.coding.specs.Stages.{PlanAt, codedPlan}
-use Rattle.stage_runs.specs.declared.WordRule.{WordRule as Asked}
-use Rattle.stage_runs.specs.Rule.{ruleOf}
 use Rattle.placer.specs.declared.Answer.{Answer}
 use Rattle.placer.specs.Answers.{told}
 use Rattle.placer.specs.Stages.{Kept}
@@ -58,13 +57,13 @@ module _ {K : ℕ} {gates given records pl ws cs w : List ℕ} (A : PlaceAt K ga
   pub levels-few : {v : ℕ} → v ≡ K → length cs * (v - 1) ≤ 12 * length cs
   levels-few {v} e = let b : v - 1 ≤ 12 = omega (arith, high) in omega (arith, mul-le-mul-left (length cs) b)
 
-  module _ (asked : Asked) where
+  module _ where
     abbrev ls : List Line
-    ls = whyOf (ruleOf asked) K gates given records (length pl)
+    ls = whyOf neededRuns K gates given records (length pl)
 
     lines-most : length ls ≤ length cs * (K - 1) + 1
     unfolding whyOf
-    lines-most = rw (A .counts) (why-few (ruleOf asked) K (graphOf gates) given (groupsOf records) (rooms K (length pl)))
+    lines-most = rw (A .counts) (why-few neededRuns K (graphOf gates) given (groupsOf records) (rooms K (length pl)))
 
     -- a list with room for all that there may be
     pub measured-none : (list : List ℕ) {v : ℕ} → v ≡ K → 6 * (length cs * (v - 1) + 1) ≤ length list → Measured ls pl ws cs w list false pl ws cs w list
@@ -84,13 +83,13 @@ module _ {K : ℕ} {gates given records pl ws cs w : List ℕ} (A : PlaceAt K ga
 
 -- ---- both together
 
-module _ {K : ℕ} {gates given records pl ws cs w : List ℕ} (A : PlaceAt K gates given records pl ws cs w) (asked : Asked) {list : List ℕ} {r : Bool} {pl₁ ws₁ cs₁ w₁ list₁ : List ℕ}
-    (M : Measured (whyOf (ruleOf asked) K gates given records (length pl)) pl ws cs w list r pl₁ ws₁ cs₁ w₁ list₁) where
+module _ {K : ℕ} {gates given records pl ws cs w : List ℕ} (A : PlaceAt K gates given records pl ws cs w) {list : List ℕ} {r : Bool} {pl₁ ws₁ cs₁ w₁ list₁ : List ℕ}
+    (M : Measured (whyOf neededRuns K gates given records (length pl)) pl ws cs w list r pl₁ ws₁ cs₁ w₁ list₁) where
   abbrev b : rules.Answer
-  b = rules.answerOf (ruleOf asked) K gates given records (length pl)
+  b = rules.answerOf neededRuns K gates given records (length pl)
 
   abbrev es : List Line
-  es = whyOf (ruleOf asked) K gates given records (length pl)
+  es = whyOf neededRuns K gates given records (length pl)
 
   -- too short: 21, and every area is empty
   pub ends-short : r ≡ true → {a : Answer} {pl₂ ws₂ cs₂ w₂ : List ℕ} → told a ≡ rules.refuse 21 0 → Emptied pl₁ ws₁ cs₁ w₁ pl₂ ws₂ cs₂ w₂ → Ends (graphOf gates) b es K pl ws cs w list (record { answer = a; lines = 0 }) pl₂ ws₂ cs₂ w₂ list₁
@@ -117,7 +116,7 @@ module _ {K : ℕ} {gates given records pl ws cs w : List ℕ} (A : PlaceAt K ga
   place-again = record { sized = A .sized; passed = A .passed; plan = rw (M .kept .plan) (A .plan); words = M .kept .words ∙ A .words; counts = M .kept .counts ∙ rw (M .kept .plan) (A .counts); work = M .kept .work ∙ A .work }
 
   module _ (f : r ≡ false) {e : Explanation} {pl₂ ws₂ cs₂ w₂ list₂ : List ℕ}
-      (E : Explained (rules.answerOf (ruleOf asked) K gates given records (length pl₁)) (whyOf (ruleOf asked) K gates given records (length pl₁)) pl₁ ws₁ cs₁ w₁ list₁ e pl₂ ws₂ cs₂ w₂ list₂) where
+      (E : Explained (rules.answerOf neededRuns K gates given records (length pl₁)) (whyOf neededRuns K gates given records (length pl₁)) pl₁ ws₁ cs₁ w₁ list₁ e pl₂ ws₂ cs₂ w₂ list₂) where
     laid-there : Laid b pl ws cs w (e .answer) pl₂ ws₂ cs₂ w₂
     laid-there =
         let D : Laid b pl₁ ws₁ cs₁ w₁ (e .answer) pl₂ ws₂ cs₂ w₂ = rw (M .kept .plan) at (E .laid) in
@@ -133,7 +132,7 @@ module _ {K : ℕ} {gates given records pl ws cs w : List ℕ} (A : PlaceAt K ga
 
     -- its stages may be coded
     pub again-code : length pl₂ ≡ length pl → PlanAt K (e .answer .stages) pl₂
-    again-code l = code-at A (ruleOf asked) laid-there l
+    again-code l = code-at A neededRuns laid-there l
 
     -- the whole plan, and its lines
     pub ends-told : {pl₃ : List ℕ} → pl₃ ≡ codedPlan (e .answer .stages) K (graphOf gates) pl₂ → Ends (graphOf gates) b es K pl ws cs w list e pl₃ ws₂ cs₂ w₂ list₂
@@ -144,8 +143,8 @@ module _ {K : ℕ} {gates given records pl ws cs w : List ℕ} (A : PlaceAt K ga
           short-lines = λ z. absurd (omega arith);
           short-list = λ z. absurd (omega arith);
           short-areas = λ z. absurd (omega arith);
-          placed = λ z. placed A (ruleOf asked) laid-there c;
-          lines = λ z. E .count ∙ ap (λ (i : ℕ). length (whyOf (ruleOf asked) K gates given records i)) (M .kept .plan);
-          told-list = λ z. E .lines ∙ (λ i. putLines 0 (whyOf (ruleOf asked) K gates given records (M .kept .plan i)) (M .same i)) ∙ lines-all es list h;
+          placed = λ z. placed A neededRuns laid-there c;
+          lines = λ z. E .count ∙ ap (λ (i : ℕ). length (whyOf neededRuns K gates given records i)) (M .kept .plan);
+          told-list = λ z. E .lines ∙ (λ i. putLines 0 (whyOf neededRuns K gates given records (M .kept .plan i)) (M .same i)) ∙ lines-all es list h;
           work = laid-there .work;
         }

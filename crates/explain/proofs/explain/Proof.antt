@@ -1,5 +1,4 @@
 -- `explain::explain` meets its contract. Assumes nothing.
-use Rattle.stage_runs.specs.Rule.{ruleOf}
 use borrow.Author.Needs.{needs}
 use Rattle.explain.proofs.explain.Statement.{statement}
 use Rattle.explain.proofs.explain.Tie as tie

@@ -11,7 +11,6 @@ use Rattle.rules.specs.Cells.{filled}
 use Rattle.rules.specs.States.{state, afterFrom}
 use Rattle.rules.specs.Build.{Reply, refusal, refuse, reply, stagesOf}
 use Rattle.rules.proofs.Stage.Fuel.{count-length}
-use Rattle.stage_runs.specs.declared.WordRule.{WordRule as Asked}
 use Rattle.placer.specs.declared.Answer as code
 use Rattle.placer.specs.Answers.{told}
 use Rattle.placer.specs.Stages.{Course, answer, Kept, OneAt, StagesAt, Whole}
@@ -37,12 +36,12 @@ no-pins C k done [] room e z = after-lines C k e ∙ none (C .rooms - k)
     none (suc r) = refl
 no-pins C k done (w ∷ ws) room e z = absurd (omega arith)
 
-module _ {C : Course} {m K half : ℕ} {asked : Asked} {rooms k at n room lines : ℕ} {list₀ gates pl ws cs w list : List ℕ} (A : AllAt C m K half asked rooms k at n room lines list₀ gates pl ws cs w list) where
-  abbrev S : StagesAt C m K half asked rooms k at n room gates pl ws cs w
+module _ {C : Course} {m K half : ℕ} {rooms k at n room lines : ℕ} {list₀ gates pl ws cs w list : List ℕ} (A : AllAt C m K half rooms k at n room lines list₀ gates pl ws cs w list) where
+  abbrev S : StagesAt C m K half rooms k at n room gates pl ws cs w
   S = A .stands
 
   -- while pins wait and a room is left, the next stage may be told
-  pub tell-at : {b : ℕ} → b ≡ room → 0 < n → k ≢ rooms → TellAt C m K half asked k n at (b - at) lines gates pl ws cs w
+  pub tell-at : {b : ℕ} → b ≡ room → 0 < n → k ≢ rooms → TellAt C m K half k n at (b - at) lines gates pl ws cs w
   tell-at e h r = record { one = next-at S e h r; bare = A .bare; few = A .few }
 
   -- what all lines come to where none is left
@@ -73,7 +72,7 @@ module _ {C : Course} {m K half : ℕ} {asked : Asked} {rooms k at n room lines 
 
     module _ (z : s .number ≡ 0) where
       -- after a whole stage the build goes on with the next
-      pub all-on : {spent : ℕ} → spent ≡ at + s .words → AllAt C m K half asked rooms (k + 1) spent (s .waiting) room (s .lines) list₀ gates pl1 ws1 cs1 w1 list1
+      pub all-on : {spent : ℕ} → spent ≡ at + s .words → AllAt C m K half rooms (k + 1) spent (s .waiting) room (s .lines) list₀ gates pl1 ws1 cs1 w1 list1
       all-on e = rw (e, add-one k) (record {
         stands = record { known = S .known; now = T .on z; all = S .all; short = S .short; left = S .left };
         bare = T .bare z;

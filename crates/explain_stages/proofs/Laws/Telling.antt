@@ -24,7 +24,6 @@ use Rattle.columns.proofs.Area.Frames.{frame-room}
 use Rattle.columns.proofs.Lists.Marks.{marks-frame}
 use Rattle.columns.proofs.Lists.Places.{placed-frame}
 use Rattle.columns.proofs.Lists.Clears.{clear-frame}
-use Rattle.stage_runs.specs.declared.WordRule.{WordRule as Asked}
 use Rattle.stage_walk.specs.Stands.{Context}
 use Rattle.stage_walk.proofs.Contexts.{context, work, unfold-empty}
 use Rattle.stage_notes.specs.Taken.{Taken, takenBack}
@@ -79,7 +78,7 @@ unfolding backLines
 back-length k [] = refl
 back-length k (t ∷ ts) = ap suc (back-length k ts)
 
-module _ {C : Course} {m K half : ℕ} {asked : Asked} {k n at room lines : ℕ} {gates pl ws cs w : List ℕ} (A : TellAt C m K half asked k n at room lines gates pl ws cs w) where
+module _ {C : Course} {m K half : ℕ} {k n at room lines : ℕ} {gates pl ws cs w : List ℕ} (A : TellAt C m K half k n at room lines gates pl ws cs w) where
   abbrev U : Underway C m k at n pl ws cs w
   U = A .one .now
 

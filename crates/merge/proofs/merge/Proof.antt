@@ -1,5 +1,4 @@
 -- `merge::merge` meets its contract. Assumes nothing.
-use Rattle.stage_runs.specs.Rule.{ruleOf}
 use borrow.Author.Needs.{needs}
 use Rattle.merge.proofs.merge.Statement.{statement}
 use Rattle.merge.proofs.merge.Tie as tie

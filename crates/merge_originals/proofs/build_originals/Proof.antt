@@ -3,7 +3,6 @@ use mathlib.Core.Path.{ap}
 use lib.ListN.{length}
 use Prim.Native.Nat.{_-_}
 use native.Mathlib.Omega.{arith}
-use Rattle.stage_runs.specs.Rule.{ruleOf}
 use Rattle.merge_originals.proofs.Laws.Building.{Building, building-none, part-end, building-at, building-refused, building-more, building-done}
 use borrow.Author.Needs.{needs}
 use Rattle.merge_originals.proofs.build_originals.Statement.{statement}

@@ -2,7 +2,6 @@
 use mathlib.Core.Path.{_∙_}
 use native.Mathlib.Omega.{arith}
 use borrow.Author.Tests.{not-true, not-false}
-use Rattle.stage_runs.specs.Rule.{ruleOf}
 use Rattle.merge_rounds.proofs.Laws.Into.{Rounding, Sizes, sizes-none, rounding-none, rounding-at, rounding-ranked, round-at, rounding-fails, rounding-more, rounding-done}
 use Rattle.merge_rounds.proofs.merge_into.Statement.{statement}
 use Rattle.merge_rounds.proofs.merge_into.Tie as tie

@@ -2,7 +2,6 @@
 use mathlib.Core.Path.{_∙_}
 use Prim.Native.Nat.{_-_}
 use borrow.Author.Needs.{needs}
-use Rattle.stage_runs.specs.Rule.{ruleOf}
 use Rattle.merge_rounds.proofs.Laws.Into.{Sizes, sizes-none}
 use Rattle.merge_rounds.proofs.Laws.Slots.{Slotting, slotting-none, slotting-at, slotting-more, slotting-done}
 use Rattle.merge_rounds.proofs.merge_slots.Statement.{statement}

@@ -1,5 +1,4 @@
 -- `merge_rounds::round` meets its contract: the best open slot is tried until a union is accepted. Assumes nothing.
-use Rattle.stage_runs.specs.Rule.{ruleOf}
 use Rattle.merge_rounds.proofs.Laws.Round.{Trying, trying-none, trying-best, trying-stuck, trying-try, trying-takes, trying-more, trying-ends}
 use borrow.Author.Needs.{needs}
 use Rattle.merge_rounds.proofs.round.Statement.{statement}

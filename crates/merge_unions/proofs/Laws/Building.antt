@@ -8,7 +8,7 @@ use lib.Seq.{length-take-le, length-front, getD-take, getD-drop, getD-append-add
 use Rattle.rules.specs.Cells.{empty, rooms, rowAt}
 use Rattle.rules.specs.Graph.{graphOf}
 use Rattle.rules.specs.Records.{Group, groupsOf}
-use Rattle.rules.specs.Traversal.{WordRule}
+use Rattle.rules.specs.Traversal.{WordRule, neededRuns}
 use Rattle.rules.specs.Build as rules
 use Rattle.rules.specs.Merge.{Common, builtOf}
 use Rattle.columns.specs.Fields.{RECORDS}
@@ -16,8 +16,6 @@ use Rattle.placer_start.specs.declared.Opening.{Opening}
 use Rattle.placer_start.specs.declared.Opening.the-variants.{Over, Ready}
 use Rattle.placer_start.specs.Opening.{First, Begins}
 use Rattle.placer_start.proofs.Laws.Opening.{zeros-idle}
-use Rattle.stage_runs.specs.declared.WordRule.{WordRule as Asked}
-use Rattle.stage_runs.specs.Rule.{ruleOf}
 use Rattle.placer.specs.declared.Answer.{Answer}
 use Rattle.placer.specs.Stages.{Course, StagesAt, Ran}
 use Rattle.placer.specs.Build.{Emptied}
@@ -48,15 +46,15 @@ module _ {K m table : ℕ} {gates given records first second pl ws cs w : List �
   abbrev gs : List Group
   gs = picked (groupsOf records) (first ++ second)
 
-  module _ {limit : ℕ} (lim : limit ≡ length ws) {r : Opening} {w₁ : List ℕ} (B : Begins m limit table given gs w r w₁) (asked : Asked) where
+  module _ {limit : ℕ} (lim : limit ≡ length ws) {r : Opening} {w₁ : List ℕ} (B : Begins m limit table given gs w r w₁) where
     -- a reservation that is over answers 6
-    pub try-over : r ≡ Over → Tried (ruleOf asked) K m table gates given records first second pl ws cs w (record { number = 6; stages = 0; words = 0; stage = 0; pin = record { 0 = 0 }; cells = 0 }) pl ws cs w₁
-    try-over e = let T = build.built-over (A .union .passed) (A .blank) (A .union .pins) lim B asked e in record { kept = T .kept; past = B .past; reply = T .reply }
+    pub try-over : r ≡ Over → Tried neededRuns K m table gates given records first second pl ws cs w (record { number = 6; stages = 0; words = 0; stage = 0; pin = record { 0 = 0 }; cells = 0 }) pl ws cs w₁
+    try-over e = let T = build.built-over (A .union .passed) (A .blank) (A .union .pins) lim B e in record { kept = T .kept; past = B .past; reply = T .reply }
 
     module _ {res n : ℕ} (ready : r ≡ Ready res n) where
       -- the reserved words are within the limit
       pub try-room : res ≤ limit
-      try-room = build.built-room (A .union .passed) (A .blank) (A .union .pins) lim B asked ready
+      try-room = build.built-room (A .union .passed) (A .blank) (A .union .pins) lim B ready
 
       -- the area has room for a build's numbers
       pub try-part : 16 * m + 512 ≤ length w₁
@@ -74,16 +72,16 @@ module _ {K m table : ℕ} {gates given records first second pl ws cs w : List �
 
       -- what the stages start from
       abbrev pub course : Course
-      course = build.course (A .union .passed) (A .blank) (A .union .pins) lim B asked ready try-first
+      course = build.course (A .union .passed) (A .blank) (A .union .pins) lim B ready try-first
 
       -- the union's stages may run
-      pub try-stages : {rms room : ℕ} → rms ≡ length cs → room ≡ limit - res → length cs < 2 ^ 63 → StagesAt course m K (rowAt K 1) asked rms 0 0 n room gates pl ws cs part
-      try-stages all left short = build.built-stages (A .union .passed) (A .blank) (A .union .pins) lim B asked ready try-first all left short
+      pub try-stages : {rms room : ℕ} → rms ≡ length cs → room ≡ limit - res → length cs < 2 ^ 63 → StagesAt course m K (rowAt K 1) rms 0 0 n room gates pl ws cs part
+      try-stages all left short = build.built-stages (A .union .passed) (A .blank) (A .union .pins) lim B ready try-first all left short
 
       -- what the stages answer is the union's answer
-      pub try-ran : {a : Answer} {pl′ ws′ cs′ v′ : List ℕ} → Ran course pl ws cs part a pl′ ws′ cs′ v′ → Tried (ruleOf asked) K m table gates given records first second pl ws cs w a pl′ ws′ cs′ (v′ ++ drop (16 * m + 512 - 0) w₁)
+      pub try-ran : {a : Answer} {pl′ ws′ cs′ v′ : List ℕ} → Ran course pl ws cs part a pl′ ws′ cs′ v′ → Tried neededRuns K m table gates given records first second pl ws cs w a pl′ ws′ cs′ (v′ ++ drop (16 * m + 512 - 0) w₁)
       try-ran {v′ = v′} R =
-          let T = build.built-ran (A .union .passed) (A .blank) (A .union .pins) lim B asked ready try-first R in
+          let T = build.built-ran (A .union .passed) (A .blank) (A .union .pins) lim B ready try-first R in
           record {
             kept = record { plan = T .kept .plan; words = T .kept .words; counts = T .kept .counts; work = length-front w₁ v′ (16 * m + 512 - 0) (T .kept .work) ∙ B .frame .len };
             past = λ j h. front-past (16 * m + 512 - 0) w₁ v′ (T .kept .work) (omega (arith, try-part)) j (omega (arith, A .union .room)) ∙ B .past j h;

@@ -16,6 +16,7 @@ use Rattle.rules.specs.Reservation.{reserved, reservable}
 use Rattle.rules.specs.Checks.{workSize}
 use Rattle.rules.specs.States.{afterFrom}
 use Rattle.rules.specs.Build as rules
+use Rattle.rules.specs.Traversal.{neededRuns}
 use Rattle.rules.proofs.Lists.Members.{split, and-true}
 use Rattle.cells.specs.Answers.{orZero}
 use Rattle.cells.proofs.Heights.{orZero-true}
@@ -26,8 +27,6 @@ use Rattle.placer_start.specs.declared.reservation.Reservation.the-variants as 
 use Rattle.placer_start.specs.Reservation.{reservationOf}
 use Rattle.placer_start.specs.Opening.{BeginAt, First, Begins, reservationFor}
 use Rattle.placer_start.proofs.Laws.First.{begin-at, first-ready, first-low, first-high}
-use Rattle.stage_runs.specs.declared.WordRule.{WordRule as Asked}
-use Rattle.stage_runs.specs.Rule.{ruleOf}
 use Rattle.placer.specs.declared.Answer.{Answer}
 use Rattle.placer.specs.Answers.{told}
 use Rattle.placer.specs.Stages.{Course, answer, StagesAt, Ran, Underway}
@@ -60,7 +59,7 @@ laid-self n w l e =
 -- ---- the build of some groups, from its opening on
 
 module _ {K : ℕ} {sized : Bool} {gates given records : List ℕ} (P : Passed K sized gates given records) {pl ws cs : List ℕ} (A : Blank K pl ws cs) {m : ℕ} (pins : m ≡ pinCount gates) {limit : ℕ} (lim : limit ≡ length ws)
-    {far : ℕ} {gs : List Group} {w : List ℕ} {r : Opening} {w₁ : List ℕ} (B : Begins m limit far given gs w r w₁) (asked : Asked) where
+    {far : ℕ} {gs : List Group} {w : List ℕ} {r : Opening} {w₁ : List ℕ} (B : Begins m limit far given gs w r w₁) where
   -- the limit is the height's
   pub limit-is : limit ≡ wordLimit K
   limit-is = lim ∙ A .words-size
@@ -71,7 +70,7 @@ module _ {K : ℕ} {sized : Bool} {gates given records : List ℕ} (P : Passed K
   built-full e = over-refused K gs (ap reservationFor (sym e) ∙ B .answer K limit-is)
 
   -- a reservation that is over answers 6, with plan, words and counts as they were
-  pub built-over : r ≡ Over → Tried (rules.build (ruleOf asked) K (graphOf gates) given gs (rooms K (length pl))) pl ws cs w (record { number = 6; stages = 0; words = 0; stage = 0; pin = record { 0 = 0 }; cells = 0 }) pl ws cs w₁
+  pub built-over : r ≡ Over → Tried (rules.build neededRuns K (graphOf gates) given gs (rooms K (length pl))) pl ws cs w (record { number = 6; stages = 0; words = 0; stage = 0; pin = record { 0 = 0 }; cells = 0 }) pl ws cs w₁
   unfolding rules.build told rules.reply rules.refuse
   built-over e =
       let f = built-full e in
@@ -100,7 +99,7 @@ module _ {K : ℕ} {sized : Bool} {gates given records : List ℕ} (P : Passed K
       -- what the stages of this build start from
       abbrev pub course : Course
       course = record {
-        rule = ruleOf asked;
+        rule = neededRuns;
         K = K;
         g = graphOf gates;
         given = given;
@@ -115,11 +114,11 @@ module _ {K : ℕ} {sized : Bool} {gates given records : List ℕ} (P : Passed K
         limit = omega arith;
       }
 
-      built : rules.build (ruleOf asked) K (graphOf gates) given gs (rooms K (length pl)) ≡ answer course
+      built : rules.build neededRuns K (graphOf gates) given gs (rooms K (length pl)) ≡ answer course
       unfolding rules.build answer
       built = rw (known .0, rules.build)
 
-      same : answer course ≡ rules.before [] (rules.stages (ruleOf asked) K (graphOf gates) (rooms K (length pl) - 0) 1 given (waitingOf gs []) (wordLimit K - reserved gs - 0))
+      same : answer course ≡ rules.before [] (rules.stages neededRuns K (graphOf gates) (rooms K (length pl) - 0) 1 given (waitingOf gs []) (wordLimit K - reserved gs - 0))
       unfolding answer rules.before
       same =
           let d : rooms K (length pl) - 0 ≡ rooms K (length pl) = omega arith in
@@ -158,7 +157,7 @@ module _ {K : ℕ} {sized : Bool} {gates given records : List ℕ} (P : Passed K
 
       module _ {rms room : ℕ} (all : rms ≡ length cs) (left : room ≡ limit - res) (short : length cs < 2 ^ 63) where
         -- with the first stage's start there the stages may run
-        pub built-stages : StagesAt course m K (rowAt K 1) asked rms 0 0 n room gates pl ws cs v
+        pub built-stages : StagesAt course m K (rowAt K 1) rms 0 0 n room gates pl ws cs v
         built-stages = record {
           known = record { ruled = refl; height = refl; row = refl; graph = refl; size = P .pins ∙ sym pins; pair = P .even ∙ ap (λ (i : ℕ). 2 * i) (sym pins) };
           now = first;
@@ -171,7 +170,7 @@ module _ {K : ℕ} {sized : Bool} {gates given records : List ℕ} (P : Passed K
       ss = rules.stagesOf (answer course)
 
       -- what the stages answer is the build's answer
-      pub built-ran : {a : Answer} {pl′ ws′ cs′ w′ : List ℕ} → Ran course pl ws cs v a pl′ ws′ cs′ w′ → Tried (rules.build (ruleOf asked) K (graphOf gates) given gs (rooms K (length pl))) pl ws cs v a pl′ ws′ cs′ w′
+      pub built-ran : {a : Answer} {pl′ ws′ cs′ w′ : List ℕ} → Ran course pl ws cs v a pl′ ws′ cs′ w′ → Tried (rules.build neededRuns K (graphOf gates) given gs (rooms K (length pl))) pl ws cs v a pl′ ws′ cs′ w′
       built-ran R = rw built (record {
         kept = R .kept;
         reply = R .reply;
@@ -194,9 +193,9 @@ module _ {K : ℕ} {gates given records pl ws cs w : List ℕ} (A : TryAt K gate
   try-begin pins = rw pins (begin-at (A .at .passed) w (omega (arith, A .at .work)) (laid-self (workSize gates records) w (A .at .work) (A .work)))
 
   -- it is the build of the records' groups
-  pub tried : (asked : Asked) {a : Answer} {u pl′ ws′ cs′ w′ : List ℕ} → length u ≡ length w → Tried (rules.build (ruleOf asked) K (graphOf gates) given (groupsOf records) (rooms K (length pl))) pl ws cs u a pl′ ws′ cs′ w′ → Tried (rules.answerOf (ruleOf asked) K gates given records (length pl)) pl ws cs w a pl′ ws′ cs′ w′
+  pub tried : {a : Answer} {u pl′ ws′ cs′ w′ : List ℕ} → length u ≡ length w → Tried (rules.build neededRuns K (graphOf gates) given (groupsOf records) (rooms K (length pl))) pl ws cs u a pl′ ws′ cs′ w′ → Tried (rules.answerOf neededRuns K gates given records (length pl)) pl ws cs w a pl′ ws′ cs′ w′
   unfolding rules.answerOf
-  tried asked e T = record { kept = record { plan = T .kept .plan; words = T .kept .words; counts = T .kept .counts; work = T .kept .work ∙ e }; reply = T .reply; whole = T .whole }
+  tried e T = record { kept = record { plan = T .kept .plan; words = T .kept .words; counts = T .kept .counts; work = T .kept .work ∙ e }; reply = T .reply; whole = T .whole }
 
 -- ---- from the last stage to the areas at exit
 
@@ -256,6 +255,6 @@ module _ {K : ℕ} {gates given records pl ws cs w pl₁ ws₁ cs₁ w₁ : List
     }
 
   -- emptied, built and tidied: the areas are as the rules leave them
-  pub laid : (asked : Asked) {a : Answer} {pl₂ ws₂ cs₂ w₂ pl₃ ws₃ cs₃ w₃ : List ℕ} → Tried (rules.answerOf (ruleOf asked) K gates given records (length pl₁)) pl₁ ws₁ cs₁ w₁ a pl₂ ws₂ cs₂ w₂ → Tidied (a .number) pl₂ ws₂ cs₂ w₂ pl₃ ws₃ cs₃ w₃ →
-      Laid (rules.answerOf (ruleOf asked) K gates given records (length pl)) pl ws cs w a pl₃ ws₃ cs₃ w₃
-  laid asked T D = so (rw plan-same at T) D
+  pub laid : {a : Answer} {pl₂ ws₂ cs₂ w₂ pl₃ ws₃ cs₃ w₃ : List ℕ} → Tried (rules.answerOf neededRuns K gates given records (length pl₁)) pl₁ ws₁ cs₁ w₁ a pl₂ ws₂ cs₂ w₂ → Tidied (a .number) pl₂ ws₂ cs₂ w₂ pl₃ ws₃ cs₃ w₃ →
+      Laid (rules.answerOf neededRuns K gates given records (length pl)) pl ws cs w a pl₃ ws₃ cs₃ w₃
+  laid T D = so (rw plan-same at T) D

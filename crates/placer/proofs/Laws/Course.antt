@@ -19,7 +19,6 @@ use Rattle.rules.proofs.Stage.Depth.{stage-cases}
 use Rattle.rules.proofs.Stage.Refusals.{before-refusal}
 use Rattle.rules.proofs.Build.Lengths.{length-padded}
 use Rattle.rules.proofs.Build.Costs.{padded-count}
-use Rattle.stage_runs.specs.declared.WordRule.{WordRule as Asked}
 use Rattle.placer.specs.Answers.{told}
 use Rattle.placer.specs.Stages.{Course, answer, OneAt, One, StagesAt, Whole}
 
@@ -120,9 +119,9 @@ no-stages (s ∷ ss) e = absurd (omega arith)
 pub limit-small : (K : ℕ) → K ≤ 13 → 2 ^ (K - 5) ≤ 256
 limit-small K h = pow-mono {i = K - 5} {j = 8} (omega arith)
 
-module _ {C : Course} {m K half : ℕ} {asked : Asked} {rooms k at n room : ℕ} {gates pl ws cs w : List ℕ} (A : StagesAt C m K half asked rooms k at n room gates pl ws cs w) where
+module _ {C : Course} {m K half : ℕ} {rooms k at n room : ℕ} {gates pl ws cs w : List ℕ} (A : StagesAt C m K half rooms k at n room gates pl ws cs w) where
   -- while pins wait and a room is left, the next stage may be built
-  pub next-at : {b : ℕ} → b ≡ room → 0 < n → k ≢ rooms → OneAt C m K half asked k n at (b - at) gates pl ws cs w
+  pub next-at : {b : ℕ} → b ≡ room → 0 < n → k ≢ rooms → OneAt C m K half k n at (b - at) gates pl ws cs w
   next-at e h r = record { known = A .known; now = A .now; left = ap (λ (i : ℕ). i - at) (e ∙ A .left); waits = h; more = omega (arith, A .now .few, A .all) }
 
   -- no more words are spent than may be
@@ -171,7 +170,7 @@ module _ {C : Course} {m K half : ℕ} {asked : Asked} {rooms k at n room : ℕ}
   still-rooms h r = omega (arith, A .now .few, A .all)
 
   -- after a whole stage the build goes on with the next
-  pub one-on : {number written cells left : ℕ} {pl′ ws′ cs′ w′ : List ℕ} → One C m k at pl ws cs w number written cells left pl′ ws′ cs′ w′ → number ≡ 0 → {spent : ℕ} → spent ≡ at + written → StagesAt C m K half asked rooms (k + 1) spent left room gates pl′ ws′ cs′ w′
+  pub one-on : {number written cells left : ℕ} {pl′ ws′ cs′ w′ : List ℕ} → One C m k at pl ws cs w number written cells left pl′ ws′ cs′ w′ → number ≡ 0 → {spent : ℕ} → spent ≡ at + written → StagesAt C m K half rooms (k + 1) spent left room gates pl′ ws′ cs′ w′
   one-on O z e = rw (e, add-one k) (record { known = A .known; now = O .on z; all = A .all; short = A .short; left = A .left })
 
 -- with the stage's the filled cells are no more than the plan has
@@ -183,7 +182,7 @@ pub refused-told : (C : Course) (number k : ℕ) → answer C ≡ refusal number
 unfolding told reply refuse
 refused-told C number k e = rw (e, add-one k, reply)
 
-module _ {C : Course} {m K half : ℕ} {asked : Asked} {rooms k at n room : ℕ} {gates pl ws cs w : List ℕ} (A : StagesAt C m K half asked rooms k at n room gates pl ws cs w) (z : n ≡ 0) where
+module _ {C : Course} {m K half : ℕ} {rooms k at n room : ℕ} {gates pl ws cs w : List ℕ} (A : StagesAt C m K half rooms k at n room gates pl ws cs w) (z : n ≡ 0) where
   -- the answer tells the stages, words and filled cells of the whole plan
   pub whole-told : {t : ℕ} → t ≡ count filled pl → told (record { number = 0; stages = k; words = at; stage = 0; pin = record { 0 = 0 }; cells = t }) ≡ reply (answer C)
   unfolding told reply

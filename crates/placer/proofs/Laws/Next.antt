@@ -26,7 +26,6 @@ use Rattle.rules.proofs.Build.Costs.{padded-count}
 use Rattle.columns.specs.Fields.{DONE}
 use Rattle.columns.specs.Lists.{Marks}
 use Rattle.columns.proofs.Area.Frames.{frame-room}
-use Rattle.stage_runs.specs.declared.WordRule.{WordRule as Asked}
 use Rattle.stage_walk.specs.Stands.{Context}
 use Rattle.stage_walk.proofs.Contexts.{context, unfold-empty}
 use Rattle.stage.specs.declared.finish.Outcome.{Outcome}
@@ -53,7 +52,7 @@ lent-part a e xs ys h l =
     let d : drop (e - a) (drop a xs) ≡ drop (a + length ys) xs = rw (← l) (drop-drop (length ys) a xs) in
     rw d refl
 
-module _ {C : Course} {m K half : ℕ} {asked : Asked} {k n at room : ℕ} {gates pl ws cs w : List ℕ} (A : OneAt C m K half asked k n at room gates pl ws cs w) where
+module _ {C : Course} {m K half : ℕ} {k n at room : ℕ} {gates pl ws cs w : List ℕ} (A : OneAt C m K half k n at room gates pl ws cs w) where
   abbrev U : Underway C m k at n pl ws cs w
   U = A .now
 
@@ -115,7 +114,7 @@ module _ {C : Course} {m K half : ℕ} {asked : Asked} {k n at room : ℕ} {gate
     part-blank = ap (λ (i : ℕ). take i (drop a pl)) part-size ∙ ap (λ (x : List ℕ). take (stageSize (C .K)) (drop a x)) (U .plan) ∙ blank-part (C .rooms * stageSize (C .K)) empty a (stageSize (C .K)) (rules.cellsOf (U .ss)) (U .cells ∙ sym start) (omega (arith, start, part-inside k (C .rooms) (stageSize (C .K)) (A .more)))
 
     -- the next stage's part is empty, and the stage may be built there
-    pub stage-at : StageAt ctx m K half n asked at room gates (take (e - a) (drop a pl)) w ws
+    pub stage-at : StageAt ctx m K half n at room gates (take (e - a) (drop a pl)) w ws
     unfolding context setting
     stage-at = record {
       begun = record { base = record { area = U .work .area; size = A .known .size; graph = A .known .graph; pair = A .known .pair }; done = U .work .done; waiting = U .work .waiting };

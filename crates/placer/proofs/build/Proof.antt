@@ -1,5 +1,4 @@
 -- `placer::build` meets its contract. Assumes nothing.
-use Rattle.stage_runs.specs.Rule.{ruleOf}
 use borrow.Author.Needs.{needs}
 use Rattle.placer.proofs.build.Statement.{statement}
 use Rattle.placer.proofs.build.Tie as tie

@@ -27,7 +27,6 @@ use Rattle.columns.proofs.Area.Frames.{frame-none, frame-then, frame-more, fram
 use Rattle.columns.proofs.Lists.Entries.{holds-self, holds-frame}
 use Rattle.columns.proofs.Lists.Marks.{marks-frame, marked-frame}
 use Rattle.columns.proofs.Lists.Places.{placed-frame}
-use Rattle.stage_runs.specs.declared.WordRule.{WordRule as Asked}
 use Rattle.stage_walk.specs.Stands.{Context}
 use Rattle.stage_runs.specs.declared.Spent.{Spent}
 use Rattle.stage_runs.specs.Laid.{noted}
@@ -150,13 +149,13 @@ module _ {C : Context} {pl : List ℕ} {m K half o n q many at room : ℕ} {s : 
 
 -- ---- rule 8 and test 7
 
-module _ {C : Context} {m K half o n q : ℕ} {asked : Asked} {at room : ℕ} {gates pl w words : List ℕ} (A : FinishAt C m K half o n q asked at room gates pl w words) where
+module _ {C : Context} {m K half o n q : ℕ} {at room : ℕ} {gates pl w words : List ℕ} (A : FinishAt C m K half o n q at room gates pl w words) where
   -- the same, where the room has another name
-  pub room-as : {r : ℕ} → r ≡ room → FinishAt C m K half o n q asked at r gates pl w words
+  pub room-as : {r : ℕ} → r ≡ room → FinishAt C m K half o n q at r gates pl w words
   room-as e = rw e A
 
   -- after the loop rule 8 may follow
-  pub end-at : EndAt C m K half n asked at room gates pl w words
+  pub end-at : EndAt C m K half n at room gates pl w words
   end-at = record { stands = A .stands; begun = A .set .begun; height = A .height; row = A .row; ruled = A .ruled; marks = A .marks .zero; spare = A .spare .zero; fits = A .fits }
 
   -- level 1 has at most 4,096 cells

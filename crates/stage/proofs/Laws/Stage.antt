@@ -11,7 +11,6 @@ use Rattle.columns.proofs.Area.Frames.{frame-then, frame-more}
 use Rattle.columns.proofs.Lists.Marks.{marks-frame}
 use Rattle.columns.proofs.Lists.Places.{placed-frame}
 use Rattle.columns.proofs.Lists.Clears.{clear-frame}
-use Rattle.stage_runs.specs.declared.WordRule.{WordRule as Asked}
 use Rattle.stage_walk.specs.Stands.{Context}
 use Rattle.stage_prepare.specs.Prepared.{PrepareAt, Prepared, ForgetAt, Forgot}
 use Rattle.stage_prepare.proofs.Forgets.{forget-at, forget-frame, listed-outside, level-outside, reverse-outside}
@@ -30,7 +29,7 @@ built-is : (C : Context) (room : ℕ) → finish (C .X) room (filledPlan (C .X))
 unfolding built oneStage
 built-is C room = ap (λ (X : Setting). finish X room (filledPlan X)) (C .is)
 
-module _ {C : Context} {m K half n : ℕ} {asked : Asked} {at room : ℕ} {gates pl w words : List ℕ} (A : StageAt C m K half n asked at room gates pl w words) where
+module _ {C : Context} {m K half n : ℕ} {at room : ℕ} {gates pl w words : List ℕ} (A : StageAt C m K half n at room gates pl w words) where
   -- at a stage's start the walks may be made
   pub stage-prepare : PrepareAt C m n K gates w
   stage-prepare = record { begun = A .begun; height = A .height; fresh = A .fresh }
@@ -55,7 +54,7 @@ module _ {C : Context} {m K half n : ℕ} {asked : Asked} {at room : ℕ} {gates
 
     module _ {q : ℕ} {pl₁ w₂ : List ℕ} (F : FilledTree C m gates pl w₁ q pl₁ w₂) where
       -- behind the loop rules 8 to 11 may run
-      pub stage-finish : FinishAt C m K half k n q asked at room gates pl₁ w₂ words
+      pub stage-finish : FinishAt C m K half k n q at room gates pl₁ w₂ words
       stage-finish = record {
         stands = F .stands;
         set = set-kept (F .kept) (P .set);

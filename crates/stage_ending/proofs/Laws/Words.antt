@@ -8,9 +8,9 @@ use native.Mathlib.Omega.{arith}
 use native.Mathlib.Decide.{ℕ-discrete}
 use lib.Dec.{eqb}
 use lib.ListN.{length, getD, set, take, drop, length-append, length-take, length-drop, take-append-drop, List·getD-append}
-use lib.Seq.{take-suc, getD-drop, getD-set-same, getD-set-other, getD-append-seam}
+use lib.Seq.{take-suc, take-add, drop-drop, getD-drop, getD-set-same, getD-set-other, getD-append-seam}
 use borrow.Author.Tests.{ne-eqb}
-use Rattle.rules.specs.Lists.{mem, insert, In, Out, nobody}
+use Rattle.rules.specs.Lists.{mem, insert, count, In, Out, nobody}
 use Rattle.rules.specs.Cells.{empty, filled, rowAt, row}
 use Rattle.rules.proofs.Lists.Members.{split, in-cons, in-nil, in-here, in-there, in-getD, getD-in, true-false, in-append-left, in-append-right, insert-in, in-insert-old, in-insert}
 use Rattle.rules.proofs.Written.Words.{once-insert}
@@ -183,9 +183,46 @@ part-more a p pl h k =
     let d : a + (p - a) ≡ p = omega arith in
     rw (z, take-suc (drop a pl) (p - a) empty (rw length-drop (omega arith)), getD-drop a pl (p - a) empty, d) refl
 
+-- two parts of a row one after the other
+part-then : (a p q : ℕ) (pl : List ℕ) → a ≤ p → p ≤ q → part a q pl ≡ part a p pl ++ part p q pl
+unfolding part
+part-then a p q pl h k =
+    let z : q - a ≡ (p - a) + (q - p) = omega arith in
+    let y : a + (p - a) ≡ p = omega arith in
+    rw (z, take-add (p - a) (q - p) (drop a pl), drop-drop (p - a) a pl, y) refl
+
 part-length : (a p : ℕ) (pl : List ℕ) → a ≤ p → p ≤ length pl → length (part a p pl) ≡ p - a
 unfolding part
 part-length a p pl h k = rw (length-take, length-drop) (omega arith)
+
+-- what is in a part of a plan is in the plan
+pub part-in : (a e : ℕ) (pl : List ℕ) (c : ℕ) → In c (part a e pl) → In c pl
+unfolding part
+part-in a e pl c i =
+    let d : take (e - a) (drop a pl) ++ drop (e - a) (drop a pl) ≡ drop a pl = take-append-drop (e - a) (drop a pl) in
+    let f : take a pl ++ drop a pl ≡ pl = take-append-drop a pl in
+    let j : In c (drop a pl) = rw d at (in-append-left c (take (e - a) (drop a pl)) (drop (e - a) (drop a pl)) i) in
+    rw f at (in-append-right c (take a pl) (drop a pl) j)
+
+-- what is filled in the plan is a pin of the area
+pub pins-in : {m : ℕ} {pl : List ℕ} → Pins m pl → (c : ℕ) → In c pl → filled c ≡ true → c < m
+unfolding filled empty
+pins-in {m} {pl} P c i f =
+    let t = getD-in pl 0 c i in
+    rw (t .2) at (P .pin (t .0) (t .1) (λ z. true-false f (rw (← t .2, z) refl)))
+
+-- where no cell is filled there are no words
+words-idle : (f : ℕ → Bool) (p : ℕ) (cs ws : List ℕ) → count filled cs ≡ 0 → wordsAt f p cs ws ≡ ws
+unfolding wordsAt count
+words-idle f p [] ws z = refl
+words-idle f p (c ∷ cs) ws z = split (filled c) (λ e. absurd (omega (arith, rw (e, count) at z))) (λ e. rw (e, wordsAt) (words-idle f (suc p) cs ws (rw (e, count) at z)))
+
+-- a run without a filled cell is done at once
+pub run-idle : {m n a : ℕ} {ws pl w : List ℕ} → RowAt m n a (a + 32) ws pl w → count filled (take 32 (drop a pl)) ≡ 0 → Rowed m a (a + 32) ws pl w w n
+unfolding part
+run-idle {m} {n} {a} {ws} {pl} {w} R z =
+    let y : a + 32 - a ≡ 32 = omega arith in
+    record { kept = kept-none; spots = rw (y, words-idle (isEnd m w) a (take 32 (drop a pl)) ws z) (R .spots) }
 
 -- the cells from a to p are done
 pub record Going (m a e p : ℕ) (ws pl w w′ : List ℕ) (n : ℕ) : Type 0 where
@@ -224,27 +261,29 @@ module _ {m n a e : ℕ} {ws pl w : List ℕ} (R : RowAt m n a e ws pl w) where
           (λ c i f. elim (in-cons c (getD pl p empty) [] i) [ inl d ↦ end-kept (G .kept) c (cell-below c d f) | inr d ↦ in-nil c d ])) at (C .spots));
     }
 
+  module _ {p q : ℕ} {w₁ : List ℕ} {k : ℕ} (G : Going m a e p ws pl w w₁ k) (h : p ≤ q) (l : q ≤ e) where
+    -- some cells more may be looked at
+    pub going-row : RowAt m k p q (wordsAt (isEnd m w) a (part a p pl) ws) pl w₁
+    going-row = record { spots = G .spots; pins = R .pins; from = h; cells = omega (arith, R .cells); high = omega (arith, R .high) }
+
+    -- and are done
+    pub going-part : {w₂ : List ℕ} {r : ℕ} → Rowed m p q (wordsAt (isEnd m w) a (part a p pl) ws) pl w₁ w₂ r → Going m a e q ws pl w w₂ r
+    going-part D = record {
+      from = omega (arith, G .from);
+      upto = l;
+      kept = kept-then (G .kept) (D .kept);
+      spots =
+          let d : length (part a p pl) + a ≡ p = omega (arith, part-length a p pl (G .from) (omega (arith, R .cells)), G .from) in
+          rw (part-then a p q pl (G .from) h, words-append, d)
+          (rw (words-ext (isEnd m w₁) (isEnd m w) p (part p q pl) (wordsAt (isEnd m w) a (part a p pl) ws)
+          (λ c i f. end-kept (G .kept) c (pins-in (R .pins) c (part-in p q pl c i) f))) at (D .spots));
+    }
+
   -- past its last cell the row is done
   pub going-done : {p : ℕ} {w₁ : List ℕ} {k : ℕ} → Going m a e p ws pl w w₁ k → e ≤ p → Rowed m a e ws pl w w₁ k
   going-done {p} G h = let z : p ≡ e = omega (arith, G .upto) in record { kept = G .kept; spots = rw z at (G .spots) }
 
 -- ---- all levels
-
--- what is in a part of a plan is in the plan
-pub part-in : (a e : ℕ) (pl : List ℕ) (c : ℕ) → In c (part a e pl) → In c pl
-unfolding part
-part-in a e pl c i =
-    let d : take (e - a) (drop a pl) ++ drop (e - a) (drop a pl) ≡ drop a pl = take-append-drop (e - a) (drop a pl) in
-    let f : take a pl ++ drop a pl ≡ pl = take-append-drop a pl in
-    let j : In c (drop a pl) = rw d at (in-append-left c (take (e - a) (drop a pl)) (drop (e - a) (drop a pl)) i) in
-    rw f at (in-append-right c (take a pl) (drop a pl) j)
-
--- what is filled in the plan is a pin of the area
-pub pins-in : {m : ℕ} {pl : List ℕ} → Pins m pl → (c : ℕ) → In c pl → filled c ≡ true → c < m
-unfolding filled empty
-pins-in {m} {pl} P c i f =
-    let t = getD-in pl 0 c i in
-    rw (t .2) at (P .pin (t .0) (t .1) (λ z. true-false f (rw (← t .2, z) refl)))
 
 -- level h + 1's row, in a plan
 module _ (K h : ℕ) (b : h < K) where

@@ -7,7 +7,6 @@ use Rattle.rules.specs.Cells.{isHeight, levelOneSize, rowAt}
 use Rattle.cells.specs.Answers.{orZero}
 use Rattle.cells.proofs.Heights.{tall-answer}
 use Rattle.stage_walk.specs.Stands.{Context}
-use Rattle.stage_runs.specs.declared.WordRule.{WordRule}
 use Rattle.stage_runs.specs.Ran.{EndAt}
 
 -- it is where the row of level 1 begins
@@ -16,8 +15,8 @@ unfolding rowAt
 half-is {K} a b e = tall-answer K a b e
 
 -- rule 8 may start with it
-pub end-half : {C : Context} {m K half n : ℕ} {rule : WordRule} {at room : ℕ} {gates pl w words : List ℕ} → EndAt C m K (rowAt K 1) n rule at room gates pl w words →
-    half ≡ orZero (isHeight K) (levelOneSize K) → EndAt C m K half n rule at room gates pl w words
+pub end-half : {C : Context} {m K half n : ℕ} {at room : ℕ} {gates pl w words : List ℕ} → EndAt C m K (rowAt K 1) n at room gates pl w words →
+    half ≡ orZero (isHeight K) (levelOneSize K) → EndAt C m K half n at room gates pl w words
 end-half {C} A e = record {
   stands = A .stands;
   begun = A .begun;

@@ -32,7 +32,6 @@ use Rattle.stage_walk.specs.Stands.{Context}
 use Rattle.stage_walk.proofs.Contexts.{work}
 use Rattle.stage_tree.specs.Bits.{Standing}
 use Rattle.stage_tree.proofs.Bits.Standing.{stands-frame}
-use Rattle.stage_runs.specs.declared.WordRule.{WordRule}
 use Rattle.stage_runs.specs.declared.puts.Puts.{Puts}
 use Rattle.stage_runs.specs.declared.puts.Written.{Written}
 use Rattle.stage_sparse.specs.declared.Runs.{Runs}
@@ -93,7 +92,7 @@ module _ {C : Context} {m h : ℕ} {gates pl w : List ℕ} (A : Standing C m h g
   unfolding isUntouched
   untouched-is = rw (uncounted, level-is) refl
 
-module _ {C : Context} {m K half n : ℕ} {rule : WordRule} {at room : ℕ} {gates pl w words : List ℕ} (A : EndAt C m K half n rule at room gates pl w words) where
+module _ {C : Context} {m K half n : ℕ} {at room : ℕ} {gates pl w words : List ℕ} (A : EndAt C m K half n at room gates pl w words) where
   abbrev low : List ℕ
   low = lowWaiting (C .X) pl
 
@@ -144,7 +143,7 @@ module _ {C : Context} {m K half n : ℕ} {rule : WordRule} {at room : ℕ} {gat
           (t .0, leb-true (levelAt (C .X) x) 1 (and-true (not (mem x (treeOf (C .X) pl))) (leb (levelAt (C .X) x) 1) (t .1) .1))
 
       -- the sparse runs may be written
-      pub write-at : WriteAt C m half k rule at room R gates pl w1 words
+      pub write-at : WriteAt C m half k at room R gates pl w1 words
       write-at = record {
         now = record {
           stands = stands-frame (S .frame) refl refl refl (A .stands);

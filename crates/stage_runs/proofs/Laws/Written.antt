@@ -14,19 +14,17 @@ use Rattle.rules.specs.Ending as rules
 use Rattle.rules.proofs.Lists.Members.{split}
 use Rattle.rules.proofs.Needed.Lacks.{same-truth, leb-true, true-leb}
 use Rattle.rules.specs.Inside.Counts as counts
+use Rattle.rules.specs.Traversal.{neededRuns}
 use Rattle.rules.proofs.Stage.Branches.{runs-end, runs-go, runs-stop}
 use Rattle.columns.specs.Fields.{PHASE}
 use Rattle.columns.specs.Lists.{span}
 use Rattle.columns.proofs.Lists.Entries.{length-list}
 use Rattle.stage_walk.specs.Stands.{Context}
-use Rattle.stage_runs.specs.declared.WordRule.{WordRule}
-use Rattle.stage_runs.specs.declared.WordRule.the-variants.{EveryRun, NeededRuns}
 use Rattle.stage_runs.specs.declared.puts.Puts.{Puts}
 use Rattle.stage_sparse.specs.declared.Sparse.{Sparse}
 use Rattle.stage_sparse.specs.declared.Runs.{Runs}
 use Rattle.stage_sparse.specs.Runs.{known, listed}
 use Rattle.stage_runs.specs.Puts.{putOf, RunAt, Noted, RecordAt, PutRecord, wordsOf, WriteAt, Writing, Wrote}
-use Rattle.stage_runs.specs.Rule.{ruleOf}
 use Rattle.stage_runs.specs.Laid.{noted}
 use Rattle.stage_sparse.proofs.Laws.Places.{listed-length, listed-next, listed-take}
 use Rattle.stage_runs.proofs.Laws.Plain.{row-high}
@@ -35,21 +33,16 @@ use Rattle.stage_runs.proofs.Laws.Puts.{moved-none, moved-then}
 
 -- ---- the test
 
--- where every run is written, the last stage or enough pins decide
-pub goes-every : (rule : WordRule) (last : Bool) (f left : ℕ) → rule ≡ EveryRun → (last || leb (32 - f) left) ≡ rules.goesOn (ruleOf rule) last f left
-unfolding ruleOf rules.goesOn rules.allows
-goes-every rule last f left e = rw e
-
--- where only needed runs are, none is once no pin is left
-pub goes-none : (rule : WordRule) (last : Bool) (f left : ℕ) → rule ≡ NeededRuns → left ≡ 0 → false ≡ rules.goesOn (ruleOf rule) last f left
-unfolding ruleOf rules.goesOn rules.allows
-goes-none rule last f left e z = rw (e, z)
+-- no run is written once no pin is left
+pub goes-none : (last : Bool) (f left : ℕ) → left ≡ 0 → false ≡ rules.goesOn neededRuns last f left
+unfolding rules.goesOn rules.allows
+goes-none last f left z = rw z
 
 -- while pins are left, the last stage or enough pins decide
-pub goes-some : (rule : WordRule) (last : Bool) (f left : ℕ) → rule ≡ NeededRuns → left ≢ 0 → (last || leb (32 - f) left) ≡ rules.goesOn (ruleOf rule) last f left
-unfolding ruleOf rules.goesOn rules.allows
-goes-some rule last f zero e n = absurd (n refl)
-goes-some rule last f (suc k) e n = rw e
+pub goes-some : (last : Bool) (f left : ℕ) → left ≢ 0 → (last || leb (32 - f) left) ≡ rules.goesOn neededRuns last f left
+unfolding rules.goesOn rules.allows
+goes-some last f zero n = absurd (n refl)
+goes-some last f (suc k) n = refl
 
 -- enough pins: those left fill the run's empty cells
 pub enough-rest : (last : Bool) (f left w : ℕ) → last ≡ false → w ≡ f → leb 32 (left + w) ≡ (last || leb (32 - f) left)
@@ -101,7 +94,7 @@ length-left : (m k next : ℕ) (w : List ℕ) → k ≤ m → length (span PHASE
 unfolding span
 length-left m k next w h = rw (length-drop, length-list PHASE m k w h) refl
 
-module _ {C : Context} {m half k : ℕ} {rule : WordRule} {at room : ℕ} {R : Runs} {gates pl w words : List ℕ} (A : WriteAt C m half k rule at room R gates pl w words) (last : Bool) where
+module _ {C : Context} {m half k : ℕ} {at room : ℕ} {R : Runs} {gates pl w words : List ℕ} (A : WriteAt C m half k at room R gates pl w words) (last : Bool) where
   abbrev rs : List rules.Sparse
   rs = listed R
 
@@ -135,7 +128,7 @@ module _ {C : Context} {m half k : ℕ} {rule : WordRule} {at room : ℕ} {R : R
       left-is = length-left m k (t .next) w1 (B .now .needed .few)
 
       -- a record that is not written ends it
-      pub writing-stop : {b : Bool} → b ≡ rules.goesOn (ruleOf rule) last (r .filled) (k - t .next) → b ≡ false → Wrote C m half k last at room R gates pl w words (record { next = t .next; real = t .real; words = j }) pl1 w1 words1
+      pub writing-stop : {b : Bool} → b ≡ rules.goesOn neededRuns last (r .filled) (k - t .next) → b ≡ false → Wrote C m half k last at room R gates pl w words (record { next = t .next; real = t .real; words = j }) pl1 w1 words1
       unfolding putOf
       writing-stop e f = record {
         upto = B .upto;
@@ -174,7 +167,7 @@ module _ {C : Context} {m half k : ℕ} {rule : WordRule} {at room : ℕ} {R : R
             rw (e, words-more, A .row) refl
 
         -- a record that is written is put, with its word
-        pub writing-more : {b : Bool} → b ≡ rules.goesOn (ruleOf rule) last (r .filled) (k - t .next) → b ≡ true → Writing C m half k last at room R gates pl w words t2 (j + 1) pl2 w2 words2
+        pub writing-more : {b : Bool} → b ≡ rules.goesOn neededRuns last (r .filled) (k - t .next) → b ≡ true → Writing C m half k last at room R gates pl w words t2 (j + 1) pl2 w2 words2
         unfolding putOf
         writing-more e f =
             let z : (half + start) / 32 ≡ word = rw is-start (let y : half + r .start ≡ r .start + half = omega arith in rw y refl) in

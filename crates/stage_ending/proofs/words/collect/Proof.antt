@@ -20,11 +20,11 @@ level-one-size-requires c κs = search needs
 loop-holds : tie.Need-loop-holds Inv-loop μ-loop
 loop-holds c = let A = c .before .before .before .pre in rw (half-is (A .low) (A .high) (c .level-one-size .ensures)) (rising-none A)
 
-mul-row : tie.Need-mul-row Inv-loop μ-loop
-mul-row c = omega (arith, rising-row (c .before .before .before .before .before .before .pre) (c .before .before .loop .inv) (c .before .loop-test .taken) .high)
+mul-level : tie.Need-mul-level Inv-loop μ-loop
+mul-level c = omega (arith, rising-row (c .before .before .before .before .before .before .pre) (c .before .before .loop .inv) (c .before .loop-test .taken) .high)
 
-row-requires : tie.Need-row-requires Inv-loop μ-loop
-row-requires c κs = record { it = _; at = rising-row (c .before .before .before .before .before .before .pre) (c .before .before .loop .inv) (c .before .loop-test .taken) }
+level-requires : tie.Need-level-requires Inv-loop μ-loop
+level-requires c κs = record { it = _; at = rising-row (c .before .before .before .before .before .before .pre) (c .before .before .loop .inv) (c .before .loop-test .taken) }
 
 add-h : tie.Need-add-h Inv-loop μ-loop
 add-h c = search needs
@@ -33,7 +33,7 @@ loop-less : tie.Need-loop-less Inv-loop μ-loop
 loop-less c = search needs
 
 loop-again : tie.Need-loop-again Inv-loop μ-loop
-loop-again c = rising-more (c .before .before .before .before .before .before .before .before .before .pre) (c .before .before .before .before .before .loop .inv) (c .before .before .before .before .loop-test .taken) (c .before .before .row .ensures .all _ (rising-row (c .before .before .before .before .before .before .before .before .before .pre) (c .before .before .before .before .before .loop .inv) (c .before .before .before .before .loop-test .taken)))
+loop-again c = rising-more (c .before .before .before .before .before .before .before .before .before .pre) (c .before .before .before .before .before .loop .inv) (c .before .before .before .before .loop-test .taken) (c .before .before .level .ensures .all _ (rising-row (c .before .before .before .before .before .before .before .before .before .pre) (c .before .before .before .before .before .loop .inv) (c .before .before .before .before .loop-test .taken)))
 
 same-length : tie.Need-same-length Inv-loop μ-loop
 same-length c = c .before .loop .inv .kept .frame .len
@@ -49,8 +49,8 @@ collect-spec =
     μ-loop
     level-one-size-requires
     loop-holds
-    mul-row
-    row-requires
+    mul-level
+    level-requires
     add-h
     loop-less
     loop-again

@@ -9,10 +9,10 @@ use Rattle.stage_runs.proofs.puts.put_runs.Statement.{statement}
 use Rattle.stage_runs.proofs.puts.put_runs.Tie as tie
 
 abbrev Inv-loop : tie.InvT-loop
-Inv-loop gates stage₀ work₀ words₀ m half k every last at room runs n t₀ j₀ stage work words t j = Every (λ C. WriteAt C m half k every at room runs gates stage₀ work₀ words₀) (λ C. Writing C m half k last at room runs gates stage₀ work₀ words₀ t j stage work words)
+Inv-loop gates stage₀ work₀ words₀ m half k last at room runs n t₀ j₀ stage work words t j = Every (λ C. WriteAt C m half k at room runs gates stage₀ work₀ words₀) (λ C. Writing C m half k last at room runs gates stage₀ work₀ words₀ t j stage work words)
 
 abbrev μ-loop : tie.MeasureT-loop
-μ-loop gates stage₀ work₀ words₀ m half k every last at room runs n t₀ j₀ stage work words t j = n - j
+μ-loop gates stage₀ work₀ words₀ m half k last at room runs n t₀ j₀ stage work words t j = n - j
 
 loop-holds : tie.Need-loop-holds Inv-loop μ-loop
 loop-holds c = record { all = λ C A. writing-none A _ }
