@@ -16,10 +16,10 @@ use Rattle.explain_stages.proofs.tell.Statement.{statement}
 use Rattle.explain_stages.proofs.tell.Tie as tie
 
 abbrev Inv-loop : tie.InvT-loop
-Inv-loop gates plan₀ words₀ counts₀ work₀ list₀ m height rule rooms n room limit tally₀ k₀ left₀ cells₀ lines₀ plan words counts work list tally k left cells lines = Every (λ C. AllAt C m (height .0) (rowAt (height .0) 1) rule rooms 0 0 n room 0 list₀ gates plan₀ words₀ counts₀ work₀ list₀) (λ C. AllAt C m (height .0) (rowAt (height .0) 1) rule rooms k (tally .spent) left room lines list₀ gates plan words counts work list) × (length plan ≡ length plan₀) × (length words ≡ length words₀) × (length counts ≡ length counts₀) × (length work ≡ length work₀) × (length list ≡ length list₀) × Counted tally × (bound tally ≡ room) × (cells ≡ count filled plan)
+Inv-loop gates plan₀ words₀ counts₀ work₀ list₀ m height rooms n room limit tally₀ k₀ left₀ cells₀ lines₀ plan words counts work list tally k left cells lines = Every (λ C. AllAt C m (height .0) (rowAt (height .0) 1) rooms 0 0 n room 0 list₀ gates plan₀ words₀ counts₀ work₀ list₀) (λ C. AllAt C m (height .0) (rowAt (height .0) 1) rooms k (tally .spent) left room lines list₀ gates plan words counts work list) × (length plan ≡ length plan₀) × (length words ≡ length words₀) × (length counts ≡ length counts₀) × (length work ≡ length work₀) × (length list ≡ length list₀) × Counted tally × (bound tally ≡ room) × (cells ≡ count filled plan)
 
 abbrev μ-loop : tie.MeasureT-loop
-μ-loop gates plan₀ words₀ counts₀ work₀ list₀ m height rule rooms n room limit tally₀ k₀ left₀ cells₀ lines₀ plan words counts work list tally k left cells lines = rooms - k
+μ-loop gates plan₀ words₀ counts₀ work₀ list₀ m height rooms n room limit tally₀ k₀ left₀ cells₀ lines₀ plan words counts work list tally k left cells lines = rooms - k
 
 sub-t21 : tie.Need-sub-t21 Inv-loop μ-loop
 sub-t21 c = room-within (c .before .before .before .before .before .before .pre .at .stands)

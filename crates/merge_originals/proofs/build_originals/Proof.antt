@@ -1,4 +1,5 @@
 -- `merge_originals::build_originals` meets its contract: the slots passed are built. Assumes nothing.
+use Rattle.rules.specs.Traversal.{neededRuns}
 use mathlib.Core.Path.{ap}
 use lib.ListN.{length}
 use Prim.Native.Nat.{_-_}
@@ -9,11 +10,11 @@ use Rattle.merge_originals.proofs.build_originals.Statement.{statement}
 use Rattle.merge_originals.proofs.build_originals.Tie as tie
 
 abbrev Inv-loop : tie.InvT-loop
-Inv-loop height rule gates given records indices lengths plan₀ words₀ counts₀ work₀ m table base n most₀ at₀ s₀ plan words counts work most at s =
-    Building (ruleOf rule) (height .0) m table base gates given records indices lengths plan₀ words₀ counts₀ work₀ plan words counts work most at s
+Inv-loop height gates given records indices lengths plan₀ words₀ counts₀ work₀ m table base n most₀ at₀ s₀ plan words counts work most at s =
+    Building neededRuns (height .0) m table base gates given records indices lengths plan₀ words₀ counts₀ work₀ plan words counts work most at s
 
 abbrev μ-loop : tie.MeasureT-loop
-μ-loop height rule gates given records indices lengths plan₀ words₀ counts₀ work₀ m table base n most₀ at₀ s₀ plan words counts work most at s =
+μ-loop height gates given records indices lengths plan₀ words₀ counts₀ work₀ m table base n most₀ at₀ s₀ plan words counts work most at s =
     n - s
 
 loop-holds : tie.Need-loop-holds Inv-loop μ-loop

@@ -1,4 +1,5 @@
 -- `merge_rounds::merge_into` meets its contract: round after round, until none is taken. Assumes nothing.
+use Rattle.rules.specs.Traversal.{neededRuns}
 use mathlib.Core.Path.{_∙_}
 use native.Mathlib.Omega.{arith}
 use borrow.Author.Tests.{not-true, not-false}
@@ -11,11 +12,11 @@ use Rattle.merge_rounds.proofs.round.Reads as round-reads
 use Rattle.merge_trials.proofs.rank_all.Reads as rank-all-reads
 
 abbrev Inv-loop : tie.InvT-loop
-Inv-loop height rule gates given records indices₀ lengths₀ plan₀ words₀ counts₀ work₀ m table base i cap ranks fuel trials t₀ left₀ indices lengths plan words counts work t left =
-    Rounding (ruleOf rule) (height .0) m table base i cap ranks fuel trials t left gates given records indices₀ lengths₀ plan₀ work₀ indices lengths plan words counts work × Sizes indices₀ lengths₀ plan₀ words₀ counts₀ work₀ indices lengths plan words counts work
+Inv-loop height gates given records indices₀ lengths₀ plan₀ words₀ counts₀ work₀ m table base i cap ranks fuel trials t₀ left₀ indices lengths plan words counts work t left =
+    Rounding neededRuns (height .0) m table base i cap ranks fuel trials t left gates given records indices₀ lengths₀ plan₀ work₀ indices lengths plan words counts work × Sizes indices₀ lengths₀ plan₀ words₀ counts₀ work₀ indices lengths plan words counts work
 
 abbrev μ-loop : tie.MeasureT-loop
-μ-loop height rule gates given records indices₀ lengths₀ plan₀ words₀ counts₀ work₀ m table base i cap ranks fuel trials t₀ left₀ indices lengths plan words counts work t left =
+μ-loop height gates given records indices₀ lengths₀ plan₀ words₀ counts₀ work₀ m table base i cap ranks fuel trials t₀ left₀ indices lengths plan words counts work t left =
     left
 
 loop-holds : tie.Need-loop-holds Inv-loop μ-loop

@@ -1,4 +1,5 @@
 -- `merge_rounds::merge_slots` meets its contract: slot after slot is merged. Assumes nothing.
+use Rattle.rules.specs.Traversal.{neededRuns}
 use mathlib.Core.Path.{_∙_}
 use Prim.Native.Nat.{_-_}
 use borrow.Author.Needs.{needs}
@@ -11,11 +12,11 @@ use Rattle.merge_rounds.proofs.merge_slots.Lts as lts
 use Rattle.merge_rounds.proofs.merge_slot.Reads as merge-slot-reads
 
 abbrev Inv-loop : tie.InvT-loop
-Inv-loop height rule gates given records indices₀ lengths₀ plan₀ words₀ counts₀ work₀ m table base cap ranks n trials₀ fuel₀ i₀ indices lengths plan words counts work trials fuel i =
-    Slotting (ruleOf rule) (height .0) m table base cap ranks i fuel trials gates given records indices₀ lengths₀ plan₀ work₀ indices lengths plan words counts work × Sizes indices₀ lengths₀ plan₀ words₀ counts₀ work₀ indices lengths plan words counts work
+Inv-loop height gates given records indices₀ lengths₀ plan₀ words₀ counts₀ work₀ m table base cap ranks n trials₀ fuel₀ i₀ indices lengths plan words counts work trials fuel i =
+    Slotting neededRuns (height .0) m table base cap ranks i fuel trials gates given records indices₀ lengths₀ plan₀ work₀ indices lengths plan words counts work × Sizes indices₀ lengths₀ plan₀ words₀ counts₀ work₀ indices lengths plan words counts work
 
 abbrev μ-loop : tie.MeasureT-loop
-μ-loop height rule gates given records indices₀ lengths₀ plan₀ words₀ counts₀ work₀ m table base cap ranks n trials₀ fuel₀ i₀ indices lengths plan words counts work trials fuel i =
+μ-loop height gates given records indices₀ lengths₀ plan₀ words₀ counts₀ work₀ m table base cap ranks n trials₀ fuel₀ i₀ indices lengths plan words counts work trials fuel i =
     n - i
 
 loop-holds : tie.Need-loop-holds Inv-loop μ-loop

@@ -1,4 +1,5 @@
 -- `merge_rounds::round` meets its contract: the best open slot is tried until a union is accepted. Assumes nothing.
+use Rattle.rules.specs.Traversal.{neededRuns}
 use Rattle.merge_rounds.proofs.Laws.Round.{Trying, trying-none, trying-best, trying-stuck, trying-try, trying-takes, trying-more, trying-ends}
 use borrow.Author.Needs.{needs}
 use Rattle.merge_rounds.proofs.round.Statement.{statement}
@@ -9,11 +10,11 @@ use Rattle.merge_slots.proofs.best.Reads as best-reads
 use Rattle.merge_trials.proofs.try_union.Reads as try-union-reads
 
 abbrev Inv-loop : tie.InvT-loop
-Inv-loop height rule gates given records indices₀ lengths₀ plan₀ words₀ counts₀ work₀ m table base i cap ranks trials n end t₀ left₀ indices lengths plan words counts work t left =
-    Trying (ruleOf rule) (height .0) m table base i cap ranks trials gates given records indices₀ lengths₀ plan₀ words₀ counts₀ work₀ indices lengths plan words counts work t left
+Inv-loop height gates given records indices₀ lengths₀ plan₀ words₀ counts₀ work₀ m table base i cap ranks trials n end t₀ left₀ indices lengths plan words counts work t left =
+    Trying neededRuns (height .0) m table base i cap ranks trials gates given records indices₀ lengths₀ plan₀ words₀ counts₀ work₀ indices lengths plan words counts work t left
 
 abbrev μ-loop : tie.MeasureT-loop
-μ-loop height rule gates given records indices₀ lengths₀ plan₀ words₀ counts₀ work₀ m table base i cap ranks trials n end t₀ left₀ indices lengths plan words counts work t left =
+μ-loop height gates given records indices₀ lengths₀ plan₀ words₀ counts₀ work₀ m table base i cap ranks trials n end t₀ left₀ indices lengths plan words counts work t left =
     left
 
 mul-end : tie.Need-mul-end Inv-loop μ-loop

@@ -17,7 +17,7 @@ enum-known-opening : tie.Need-enum-known-opening
 enum-known-opening c = search needs
 
 sub-room : tie.Need-sub-room
-sub-room c = omega (arith, try-room (c .before .before .before .before .before .before .before .before .before .before .before .before .before .before .before .before .pre) refl (c .before .before .before .before .before .begin-both .ensures) (c .before .before .before .before .before .before .before .before .before .before .before .before .before .before .before .before .args .rule) (c .before .opening .given .1))
+sub-room c = omega (arith, try-room (c .before .before .before .before .before .before .before .before .before .before .before .before .before .before .before .before .pre) refl (c .before .before .before .before .before .begin-both .ensures) (c .before .opening .given .1))
 
 mul-size : tie.Need-mul-size
 mul-size c = search needs
@@ -41,7 +41,7 @@ same-length : tie.Need-same-length
 same-length c = search needs
 
 returns : tie.Need-returns
-returns c = try-over (c .before .before .before .before .before .before .before .before .before .before .before .before .before .before .before .pre) refl (c .before .before .before .before .begin-both .ensures) (c .before .before .before .before .before .before .before .before .before .before .before .before .before .before .before .args .rule) (c .enum-told .given .1)
+returns c = try-over (c .before .before .before .before .before .before .before .before .before .before .before .before .before .before .before .pre) refl (c .before .before .before .before .begin-both .ensures) (c .enum-told .given .1)
 
 same-length-2 : tie.Need-same-length-2
 same-length-2 c = search needs

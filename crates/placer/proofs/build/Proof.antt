@@ -1,10 +1,68 @@
--- `placer::build` meets its contract. Assumes nothing.
+-- `placer::build` meets its contract: what the checks refuse changes nothing, the rest is built in the parts that count. Assumes nothing.
+use Rattle.placer.proofs.Laws.Outcome.{checked}
+use Rattle.placer.proofs.Laws.Outcome.{need-is, pins-few, records-few}
+use native.Mathlib.Omega.{arith}
+use Rattle.placer.proofs.Laws.Outcome.{outcome-refused, words-inside, counts-inside, work-inside, place-at, outcome-built}
 use borrow.Author.Needs.{needs}
 use Rattle.placer.proofs.build.Statement.{statement}
 use Rattle.placer.proofs.build.Tie as tie
 
-build-by-requires : tie.Need-build-by-requires
-build-by-requires c κs = search needs
+check-requires : tie.Need-check-requires
+check-requires c κs = search needs
+
+returns : tie.Need-returns
+returns c = outcome-refused _ _ _ _ _ _ _ _ _ _ (c .before .before .before .check .ensures) (c .before .if1 .taken)
+
+word-limit-requires : tie.Need-word-limit-requires
+word-limit-requires c κs = search needs
+
+rooms-requires : tie.Need-rooms-requires
+rooms-requires c κs = search needs
+
+pin-count-requires : tie.Need-pin-count-requires
+pin-count-requires c κs = search needs
+
+mul-need : tie.Need-mul-need
+mul-need c = let H = checked (c .before .before .before .before .before .check .ensures) (c .before .before .before .if1 .left) in omega (arith, pins-few H, c .pin-count .ensures)
+
+mul-need-2 : tie.Need-mul-need-2
+mul-need-2 c = search needs
+
+add-need : tie.Need-add-need
+add-need c = let H = checked (c .before .before .before .before .before .check .ensures) (c .before .before .before .if1 .left) in omega (arith, pins-few H, records-few H, c .pin-count .ensures)
+
+add-need-2 : tie.Need-add-need-2
+add-need-2 c = let H = checked (c .before .before .before .before .before .check .ensures) (c .before .before .before .if1 .left) in omega (arith, pins-few H, records-few H, c .pin-count .ensures)
+
+sub-place : tie.Need-sub-place
+sub-place c = search needs
+
+part-place-start : tie.Need-part-place-start
+part-place-start c = search needs
+
+part-place-end : tie.Need-part-place-end
+part-place-end c = let H = checked (c .before .before .before .before .before .before .check .ensures) (c .before .before .before .before .if1 .left) in words-inside H (c .before .before .before .word-limit .ensures) (c .before .before .rooms .ensures) (need-is _ _ _ (c .before .pin-count .ensures))
+
+sub-place-2 : tie.Need-sub-place-2
+sub-place-2 c = search needs
+
+part-place-start-2 : tie.Need-part-place-start-2
+part-place-start-2 c = search needs
+
+part-place-end-2 : tie.Need-part-place-end-2
+part-place-end-2 c = let H = checked (c .before .before .before .before .before .before .before .check .ensures) (c .before .before .before .before .before .if1 .left) in counts-inside H (c .before .before .before .before .word-limit .ensures) (c .before .before .before .rooms .ensures) (need-is _ _ _ (c .before .before .pin-count .ensures))
+
+sub-place-3 : tie.Need-sub-place-3
+sub-place-3 c = search needs
+
+part-place-start-3 : tie.Need-part-place-start-3
+part-place-start-3 c = search needs
+
+part-place-end-3 : tie.Need-part-place-end-3
+part-place-end-3 c = let H = checked (c .before .before .before .before .before .before .before .before .check .ensures) (c .before .before .before .before .before .before .if1 .left) in work-inside H (c .before .before .before .before .before .word-limit .ensures) (c .before .before .before .before .rooms .ensures) (need-is _ _ _ (c .before .before .before .pin-count .ensures))
+
+place-requires : tie.Need-place-requires
+place-requires c κs = let H = checked (c .before .before .before .before .before .before .before .before .before .check .ensures) (c .before .before .before .before .before .before .before .if1 .left) in place-at _ _ _ _ H (c .before .before .before .before .before .before .word-limit .ensures) (c .before .before .before .before .before .rooms .ensures) (need-is _ _ _ (c .before .before .before .before .pin-count .ensures))
 
 same-length : tie.Need-same-length
 same-length c = search needs
@@ -18,11 +76,34 @@ same-length-3 c = search needs
 same-length-4 : tie.Need-same-length-4
 same-length-4 c = search needs
 
-returns : tie.Need-returns
-unfolding ruleOf
-returns c = c .before .before .before .before .before .before .before .before .build-by .ensures
+returns-2 : tie.Need-returns-2
+returns-2 c = let H = checked (c .before .before .before .before .before .before .before .before .before .before .before .before .before .before .before .before .before .before .check .ensures) (c .before .before .before .before .before .before .before .before .before .before .before .before .before .before .before .before .if1 .left) in outcome-built _ _ _ _ H (c .before .before .before .before .before .before .before .before .before .before .before .before .before .before .before .word-limit .ensures) (c .before .before .before .before .before .before .before .before .before .before .before .before .before .before .rooms .ensures) (need-is _ _ _ (c .before .before .before .before .before .before .before .before .before .before .before .before .before .pin-count .ensures)) _ (c .before .before .before .before .before .before .before .before .place .ensures) (c .before .before .before .before .before .before .before .before .place .kept .1 .1 .1 .1 .1 .0) (c .before .before .before .before .before .before .before .before .place .kept .1 .1 .1 .1 .1 .1 .0) (c .before .before .before .before .before .before .before .before .place .kept .1 .1 .1 .1 .1 .1 .1 .0)
 
 pub build-spec : {M : Type 1} → statement M
 build-spec =
     tie.close
-    (tie.spec build-by-requires same-length same-length-2 same-length-3 same-length-4 returns)
+    (tie.spec
+    check-requires
+    returns
+    word-limit-requires
+    rooms-requires
+    pin-count-requires
+    mul-need
+    mul-need-2
+    add-need
+    add-need-2
+    sub-place
+    part-place-start
+    part-place-end
+    sub-place-2
+    part-place-start-2
+    part-place-end-2
+    sub-place-3
+    part-place-start-3
+    part-place-end-3
+    place-requires
+    same-length
+    same-length-2
+    same-length-3
+    same-length-4
+    returns-2)

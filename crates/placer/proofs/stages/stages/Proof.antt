@@ -16,20 +16,20 @@ use Rattle.placer.proofs.stages.stages.Statement.{statement}
 use Rattle.placer.proofs.stages.stages.Tie as tie
 
 abbrev Inv-loop : tie.InvT-loop
-Inv-loop gates plan₀ words₀ counts₀ work₀ m height rule rooms n room limit tally₀ k₀ left₀ cells₀ plan words counts work tally k left cells =
-    Every (λ C. StagesAt C m (height .0) (rowAt (height .0) 1) rule rooms 0 0 n room gates plan₀ words₀ counts₀ work₀) (λ C. StagesAt C m (height .0) (rowAt (height .0) 1) rule rooms k (tally .spent) left room gates plan words counts work) × (length plan ≡ length plan₀) × (length words ≡ length words₀) × (length counts ≡ length counts₀) × (length work ≡ length work₀) × Counted tally × (bound tally ≡ room) × (cells ≡ count filled plan)
+Inv-loop gates plan₀ words₀ counts₀ work₀ m height rooms n room limit tally₀ k₀ left₀ cells₀ plan words counts work tally k left cells =
+    Every (λ C. StagesAt C m (height .0) (rowAt (height .0) 1) rooms 0 0 n room gates plan₀ words₀ counts₀ work₀) (λ C. StagesAt C m (height .0) (rowAt (height .0) 1) rooms k (tally .spent) left room gates plan words counts work) × (length plan ≡ length plan₀) × (length words ≡ length words₀) × (length counts ≡ length counts₀) × (length work ≡ length work₀) × Counted tally × (bound tally ≡ room) × (cells ≡ count filled plan)
 
 abbrev μ-loop : tie.MeasureT-loop
-μ-loop gates plan₀ words₀ counts₀ work₀ m height rule rooms n room limit tally₀ k₀ left₀ cells₀ plan words counts work tally k left cells = rooms - k
+μ-loop gates plan₀ words₀ counts₀ work₀ m height rooms n room limit tally₀ k₀ left₀ cells₀ plan words counts work tally k left cells = rooms - k
 
-sub-t19 : tie.Need-sub-t19 Inv-loop μ-loop
-sub-t19 c = room-within (c .before .before .before .before .before .pre .at)
+sub-t18 : tie.Need-sub-t18 Inv-loop μ-loop
+sub-t18 c = room-within (c .before .before .before .before .before .pre .at)
 
 loop-holds : tie.Need-loop-holds Inv-loop μ-loop
 loop-holds c = (record { all = λ C A. A }, refl, refl, refl, refl, record { within = omega arith; spent = omega arith; small = omega (arith, c .before .before .before .before .before .good .1 .1 .0 .1) }, omega (arith, room-within (c .before .before .before .before .before .pre .at)), none-filled (c .before .before .before .before .before .pre .at) refl)
 
-add-t21 : tie.Need-add-t21 Inv-loop μ-loop
-add-t21 c = let s = c .before .before .before .before .before .before .before .before .pre in let A = c .before .before .loop .inv .0 .all (s .it) (s .at) in omega (arith, A .now .few, A .all, A .short)
+add-t20 : tie.Need-add-t20 Inv-loop μ-loop
+add-t20 c = let s = c .before .before .before .before .before .before .before .before .pre in let A = c .before .before .loop .inv .0 .all (s .it) (s .at) in omega (arith, A .now .few, A .all, A .short)
 
 same-length : tie.Need-same-length Inv-loop μ-loop
 same-length c = search needs
@@ -49,8 +49,8 @@ returns c = record { all = λ C A. let B = c .before .before .loop .inv .0 .all 
 next-stage-requires : tie.Need-next-stage-requires Inv-loop μ-loop
 next-stage-requires c κs = let s = c .before .before .before .before .before .before .before .before .before .before .before .before .pre in (c .before .before .before .before .before .before .loop .inv .5, record { it = s .it; at = next-at (c .before .before .before .before .before .before .loop .inv .0 .all (s .it) (s .at)) (c .before .before .before .before .before .before .loop .inv .6) (c .before .before .before .before .before .loop-test .taken) (c .before .before .before .before .if1 .left) })
 
-add-t31 : tie.Need-add-t31 Inv-loop μ-loop
-add-t31 c = let s = c .before .before .before .before .before .before .before .before .before .before .before .before .before .before .before .before .before .before .before .before .before .before .pre in let A = c .before .before .before .before .before .before .before .before .before .before .before .before .before .before .before .before .loop .inv .0 .all (s .it) (s .at) in omega (arith, still-rooms A (c .before .before .before .before .before .before .before .before .before .before .before .before .before .before .before .loop-test .taken) (c .before .before .before .before .before .before .before .before .before .before .before .before .before .before .if1 .left), c .before .before .before .before .before .before .before .before .before .before .before .before .before .before .before .before .before .before .before .before .before .before .fits .rooms)
+add-t30 : tie.Need-add-t30 Inv-loop μ-loop
+add-t30 c = let s = c .before .before .before .before .before .before .before .before .before .before .before .before .before .before .before .before .before .before .before .before .before .before .pre in let A = c .before .before .before .before .before .before .before .before .before .before .before .before .before .before .before .before .loop .inv .0 .all (s .it) (s .at) in omega (arith, still-rooms A (c .before .before .before .before .before .before .before .before .before .before .before .before .before .before .before .loop-test .taken) (c .before .before .before .before .before .before .before .before .before .before .before .before .before .before .if1 .left), c .before .before .before .before .before .before .before .before .before .before .before .before .before .before .before .before .before .before .before .before .before .before .fits .rooms)
 
 same-length-5 : tie.Need-same-length-5 Inv-loop μ-loop
 same-length-5 c = search needs
@@ -103,16 +103,16 @@ stages-spec =
     (tie.spec
     Inv-loop
     μ-loop
-    sub-t19
+    sub-t18
     loop-holds
-    add-t21
+    add-t20
     same-length
     same-length-2
     same-length-3
     same-length-4
     returns
     next-stage-requires
-    add-t31
+    add-t30
     same-length-5
     same-length-6
     same-length-7
