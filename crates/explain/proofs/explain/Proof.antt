@@ -79,7 +79,7 @@ same-length-5 : tie.Need-same-length-5
 same-length-5 c = search needs
 
 returns-2 : tie.Need-returns-2
-returns-2 c = let H = checked (c .before .before .before .before .before .before .before .before .before .before .before .before .before .before .before .before .before .before .before .before .before .check .ensures) (c .before .before .before .before .before .before .before .before .before .before .before .before .before .before .before .before .before .before .before .if1 .left) in outcome-told _ _ _ _ H (c .before .before .before .before .before .before .before .before .before .before .before .before .before .before .before .before .before .before .word-limit .ensures) (c .before .before .before .before .before .before .before .before .before .before .before .before .before .before .before .before .before .rooms .ensures) (need-is _ _ _ (c .before .before .before .before .before .before .before .before .before .before .before .before .before .before .before .before .pin-count .ensures)) (c .before .before .before .before .before .before .before .before .before .before .place .kept .1 .1 .1 .1 .1 .1 .0) (c .before .before .before .before .before .before .before .before .before .before .place .kept .1 .1 .1 .1 .1 .1 .1 .0) (c .before .before .before .before .before .before .before .before .before .before .place .kept .1 .1 .1 .1 .1 .1 .1 .1 .0) _ (c .before .before .before .before .before .before .before .before .before .before .place .ensures)
+returns-2 c = let H = checked (c .before .before .before .before .before .before .before .before .before .before .before .before .before .before .before .before .before .before .before .before .before .check .ensures) (c .before .before .before .before .before .before .before .before .before .before .before .before .before .before .before .before .before .before .before .if1 .left) in outcome-told _ _ _ _ H (c .before .before .before .before .before .before .before .before .before .before .before .before .before .before .before .before .before .before .word-limit .ensures) (c .before .before .before .before .before .before .before .before .before .before .before .before .before .before .before .before .before .rooms .ensures) (need-is _ _ _ (c .before .before .before .before .before .before .before .before .before .before .before .before .before .before .before .before .pin-count .ensures)) (c .before .before .before .before .before .before .before .before .before .before .place .kept .1 .1 .1 .1 .1 .0) (c .before .before .before .before .before .before .before .before .before .before .place .kept .1 .1 .1 .1 .1 .1 .0) (c .before .before .before .before .before .before .before .before .before .before .place .kept .1 .1 .1 .1 .1 .1 .1 .0) _ (c .before .before .before .before .before .before .before .before .before .before .place .ensures)
 
 pub explain-spec : {M : Type 1} → statement M
 explain-spec =

@@ -13,13 +13,13 @@ sub-levels : tie.Need-sub-levels
 sub-levels c = omega (arith, tall (c .before .before .before .before .before .before .before .before .before .pre) (c .wide .ensures))
 
 mul-if1 : tie.Need-mul-if1
-mul-if1 c = record { fits = omega (arith, levels-few (c .before .before .before .before .before .before .before .before .before .pre) (c .wide .ensures), rooms-few (c .before .before .before .before .before .before .before .before .before .pre), c .before .before .before .before .before .before .before .before .before .good .1 .1 .1 .1 .1 .0 .1) }
+mul-if1 c = record { fits = omega (arith, levels-few (c .before .before .before .before .before .before .before .before .before .pre) (c .wide .ensures), rooms-few (c .before .before .before .before .before .before .before .before .before .pre), c .before .before .before .before .before .before .before .before .before .good .1 .1 .1 .1 .0 .1) }
 
 add-if1 : tie.Need-add-if1
-add-if1 c = record { fits = omega (arith, levels-few (c .before .before .before .before .before .before .before .before .before .pre) (c .wide .ensures), rooms-few (c .before .before .before .before .before .before .before .before .before .pre), c .before .before .before .before .before .before .before .before .before .good .1 .1 .1 .1 .1 .0 .1) }
+add-if1 c = record { fits = omega (arith, levels-few (c .before .before .before .before .before .before .before .before .before .pre) (c .wide .ensures), rooms-few (c .before .before .before .before .before .before .before .before .before .pre), c .before .before .before .before .before .before .before .before .before .good .1 .1 .1 .1 .0 .1) }
 
 mul-if1-2 : tie.Need-mul-if1-2
-mul-if1-2 c = record { fits = omega (arith, levels-few (c .before .before .before .before .before .before .before .before .before .pre) (c .wide .ensures), rooms-few (c .before .before .before .before .before .before .before .before .before .pre), c .before .before .before .before .before .before .before .before .before .good .1 .1 .1 .1 .1 .0 .1) }
+mul-if1-2 c = record { fits = omega (arith, levels-few (c .before .before .before .before .before .before .before .before .before .pre) (c .wide .ensures), rooms-few (c .before .before .before .before .before .before .before .before .before .pre), c .before .before .before .before .before .before .before .before .before .good .1 .1 .1 .1 .0 .1) }
 
 returns : tie.Need-returns
 returns c = measured-none (c .before .before .before .before .before .before .before .before .before .before .pre) _ (c .before .wide .ensures) (c .if1 .taken)
@@ -37,7 +37,7 @@ lay-requires : tie.Need-lay-requires
 lay-requires c κs = c .before .before .before .before .before .before .before .before .before .before .before .before .before .before .before .pre
 
 mul-result : tie.Need-mul-result
-mul-result c = record { fits = omega (arith, lines-few (c .before .before .before .before .before .before .before .before .before .before .before .before .before .before .before .before .before .before .before .before .before .before .before .before .before .before .before .pre) (c .before .before .before .before .before .before .before .before .before .before .before .lay .ensures), rooms-few (c .before .before .before .before .before .before .before .before .before .before .before .before .before .before .before .before .before .before .before .before .before .before .before .before .before .before .before .pre), c .before .before .before .before .before .before .before .before .before .before .before .before .before .before .before .before .before .before .before .before .before .before .before .before .before .before .before .good .1 .1 .1 .1 .1 .0 .1) }
+mul-result c = record { fits = omega (arith, lines-few (c .before .before .before .before .before .before .before .before .before .before .before .before .before .before .before .before .before .before .before .before .before .before .before .before .before .before .before .pre) (c .before .before .before .before .before .before .before .before .before .before .before .lay .ensures), rooms-few (c .before .before .before .before .before .before .before .before .before .before .before .before .before .before .before .before .before .before .before .before .before .before .before .before .before .before .before .pre), c .before .before .before .before .before .before .before .before .before .before .before .before .before .before .before .before .before .before .before .before .before .before .before .before .before .before .before .good .1 .1 .1 .1 .0 .1) }
 
 same-length : tie.Need-same-length
 same-length c = search needs
@@ -55,7 +55,7 @@ same-length-5 : tie.Need-same-length-5
 same-length-5 c = search needs
 
 returns-2 : tie.Need-returns-2
-returns-2 c = measured (c .before .before .before .before .before .before .before .before .before .before .before .before .before .before .before .before .before .before .before .before .before .before .before .before .before .before .before .pre) (c .before .before .before .before .before .before .before .before .before .before .before .lay .ensures) _ (c .before .before .before .before .before .before .before .before .before .before .before .lay .kept .1 .1 .1 .1 .1 .1 .1 .1 .1 .0) (c .before .before .before .before .before .before .before .before .before .before .plan .given) (c .before .before .before .before .before .before .before .before .words .given) (c .before .before .before .before .before .before .counts .given) (c .before .before .before .before .work .given)
+returns-2 c = measured (c .before .before .before .before .before .before .before .before .before .before .before .before .before .before .before .before .before .before .before .before .before .before .before .before .before .before .before .pre) (c .before .before .before .before .before .before .before .before .before .before .before .lay .ensures) _ (c .before .before .before .before .before .before .before .before .before .before .before .lay .kept .1 .1 .1 .1 .1 .1 .1 .1 .0) (c .before .before .before .before .before .before .before .before .before .before .plan .given) (c .before .before .before .before .before .before .before .before .words .given) (c .before .before .before .before .before .before .counts .given) (c .before .before .before .before .work .given)
 
 pub too-short-spec : {M : Type 1} → statement M
 too-short-spec =

@@ -21,8 +21,8 @@ Inv-loop gates plan₀ words₀ counts₀ work₀ list₀ m height rooms n room 
 abbrev μ-loop : tie.MeasureT-loop
 μ-loop gates plan₀ words₀ counts₀ work₀ list₀ m height rooms n room limit tally₀ k₀ left₀ cells₀ lines₀ plan words counts work list tally k left cells lines = rooms - k
 
-sub-t21 : tie.Need-sub-t21 Inv-loop μ-loop
-sub-t21 c = room-within (c .before .before .before .before .before .before .pre .at .stands)
+sub-t20 : tie.Need-sub-t20 Inv-loop μ-loop
+sub-t20 c = room-within (c .before .before .before .before .before .before .pre .at .stands)
 
 loop-holds : tie.Need-loop-holds Inv-loop μ-loop
 loop-holds c = (record { all = λ C A. A }, refl, refl, refl, refl, refl, record { within = omega arith; spent = omega arith; small = omega (arith, c .before .before .before .before .before .before .good .1 .1 .0 .1) }, omega (arith, room-within (c .before .before .before .before .before .before .pre .at .stands)), none-filled (c .before .before .before .before .before .before .pre .at .stands) refl)
@@ -117,7 +117,7 @@ tell-spec =
     (tie.spec
     Inv-loop
     μ-loop
-    sub-t21
+    sub-t20
     loop-holds
     add-refused
     refused-requires

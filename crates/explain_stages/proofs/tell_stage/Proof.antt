@@ -45,8 +45,8 @@ over-line-requires c κs = let A = c .before .before .before .before .before .be
 put-line-requires : tie.Need-put-line-requires
 put-line-requires c κs = let A = c .before .before .before .before .before .before .before .before .before .before .before .before .before .before .before .before .before .before .before .before .before .before .before .before .before .before .before .before .before .before .pre .1 .at in let O = c .before .before .before .before .before .before .before .before .before .before .before .before .before .before .before .before .before .before .before .next-stage .ensures .all _ (A .one) in omega (arith, stages-few A, told-few A O (rw (add-one _) at (c .before .before .before .before .before .before .before .before .copy-notes .ensures)))
 
-add-t26 : tie.Need-add-t26
-add-t26 c = let A = c .before .before .before .before .before .before .before .before .before .before .before .before .before .before .before .before .before .before .before .before .before .before .before .before .before .before .before .before .before .before .before .before .before .pre .1 .at in let O = c .before .before .before .before .before .before .before .before .before .before .before .before .before .before .before .before .before .before .before .before .before .before .next-stage .ensures .all _ (A .one) in record { fits = omega (arith, stages-few A, told-few A O (rw (add-one _) at (c .before .before .before .before .before .before .before .before .before .before .before .copy-notes .ensures))) }
+add-t25 : tie.Need-add-t25
+add-t25 c = let A = c .before .before .before .before .before .before .before .before .before .before .before .before .before .before .before .before .before .before .before .before .before .before .before .before .before .before .before .before .before .before .before .before .before .pre .1 .at in let O = c .before .before .before .before .before .before .before .before .before .before .before .before .before .before .before .before .before .before .before .before .before .before .next-stage .ensures .all _ (A .one) in record { fits = omega (arith, stages-few A, told-few A O (rw (add-one _) at (c .before .before .before .before .before .before .before .before .before .before .before .copy-notes .ensures))) }
 
 same-length-6 : tie.Need-same-length-6
 same-length-6 c = search needs
@@ -83,7 +83,7 @@ tell-stage-spec =
     left-requires
     over-line-requires
     put-line-requires
-    add-t26
+    add-t25
     same-length-6
     same-length-7
     same-length-8

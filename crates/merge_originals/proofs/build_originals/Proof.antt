@@ -47,8 +47,8 @@ part-measure-end c = part-end (c .before .before .before .before .before .before
 measure-requires : tie.Need-measure-requires Inv-loop μ-loop
 measure-requires c κs = building-at (c .before .before .before .before .before .before .before .before .before .before .before .before .before .before .before .before .before .before .pre) (c .before .before .before .before .before .before .before .before .loop .inv) (c .before .before .before .before .before .before .before .loop-test .taken) (c .before .before .before .before .before .wide .ensures)
 
-add-t37 : tie.Need-add-t37 Inv-loop μ-loop
-add-t37 c = omega (arith, c .before .before .before .before .before .before .before .before .before .before .before .before .before .before .before .before .before .before .loop-test .taken, c .before .before .before .before .before .before .before .before .before .before .before .before .before .before .before .before .before .before .before .before .before .before .before .before .before .before .before .before .before .pre .ground .few)
+add-t36 : tie.Need-add-t36 Inv-loop μ-loop
+add-t36 c = omega (arith, c .before .before .before .before .before .before .before .before .before .before .before .before .before .before .before .before .before .before .loop-test .taken, c .before .before .before .before .before .before .before .before .before .before .before .before .before .before .before .before .before .before .before .before .before .before .before .before .before .before .before .before .before .pre .ground .few)
 
 same-length : tie.Need-same-length Inv-loop μ-loop
 same-length c = omega (arith, ap length (c .before .before .before .before .before .before .before .before .before .before .measure .ensures .plan), ap length (c .before .before .before .before .before .before .before .before .before .before .before .before .before .before .before .before .before .before .before .loop .inv .plan))
@@ -108,7 +108,7 @@ build-originals-spec =
     part-measure-start
     part-measure-end
     measure-requires
-    add-t37
+    add-t36
     same-length
     same-length-2
     same-length-3

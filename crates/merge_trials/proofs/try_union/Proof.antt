@@ -47,13 +47,13 @@ add-work : tie.Need-add-work
 add-work c = omega (arith, c .before .before .before .before .before .before .before .before .before .before .before .before .before .before .before .before .before .before .before .before .before .before .before .before .before .before .pre .at .few, c .before .before .before .before .before .before .before .before .before .before .before .before .before .before .before .before .before .before .before .before .before .before .before .before .before .before .pre .second)
 
 add-work-2 : tie.Need-add-work-2
-add-work-2 c = omega (arith, try-place (c .before .before .before .before .before .before .before .before .before .before .before .before .before .before .before .before .before .before .before .before .before .before .before .before .before .before .pre) (c .before .before .before .before .before .before .before .before .before .before .build-pair .ensures) (c .before .accepts .ensures), c .before .before .before .before .before .before .before .before .before .before .build-pair .ensures .leaves .len, c .before .before .before .before .before .before .before .before .before .before .before .before .before .before .before .before .before .before .before .before .before .before .before .before .before .before .good .1 .1 .1 .1 .1 .1 .1 .1 .1 .1 .0 .1)
+add-work-2 c = omega (arith, try-place (c .before .before .before .before .before .before .before .before .before .before .before .before .before .before .before .before .before .before .before .before .before .before .before .before .before .before .pre) (c .before .before .before .before .before .before .before .before .before .before .build-pair .ensures) (c .before .accepts .ensures), c .before .before .before .before .before .before .before .before .before .before .build-pair .ensures .leaves .len, c .before .before .before .before .before .before .before .before .before .before .before .before .before .before .before .before .before .before .before .before .before .before .before .before .before .before .good .1 .1 .1 .1 .1 .1 .1 .1 .1 .0 .1)
 
 mul-work-2 : tie.Need-mul-work-2
-mul-work-2 c = omega (arith, try-place (c .before .before .before .before .before .before .before .before .before .before .before .before .before .before .before .before .before .before .before .before .before .before .before .before .before .before .pre) (c .before .before .before .before .before .before .before .before .before .before .build-pair .ensures) (c .before .accepts .ensures), c .before .before .before .before .before .before .before .before .before .before .build-pair .ensures .leaves .len, c .before .before .before .before .before .before .before .before .before .before .before .before .before .before .before .before .before .before .before .before .before .before .before .before .before .before .good .1 .1 .1 .1 .1 .1 .1 .1 .1 .1 .0 .1)
+mul-work-2 c = omega (arith, try-place (c .before .before .before .before .before .before .before .before .before .before .before .before .before .before .before .before .before .before .before .before .before .before .before .before .before .before .pre) (c .before .before .before .before .before .before .before .before .before .before .build-pair .ensures) (c .before .accepts .ensures), c .before .before .before .before .before .before .before .before .before .before .build-pair .ensures .leaves .len, c .before .before .before .before .before .before .before .before .before .before .before .before .before .before .before .before .before .before .before .before .before .before .before .before .before .before .good .1 .1 .1 .1 .1 .1 .1 .1 .1 .0 .1)
 
 slice-write-work : tie.Need-slice-write-work
-slice-write-work c = omega (arith, try-place (c .before .before .before .before .before .before .before .before .before .before .before .before .before .before .before .before .before .before .before .before .before .before .before .before .before .before .pre) (c .before .before .before .before .before .before .before .before .before .before .build-pair .ensures) (c .before .accepts .ensures), c .before .before .before .before .before .before .before .before .before .before .build-pair .ensures .leaves .len, c .before .before .before .before .before .before .before .before .before .before .before .before .before .before .before .before .before .before .before .before .before .before .before .before .before .before .good .1 .1 .1 .1 .1 .1 .1 .1 .1 .1 .0 .1)
+slice-write-work c = omega (arith, try-place (c .before .before .before .before .before .before .before .before .before .before .before .before .before .before .before .before .before .before .before .before .before .before .before .before .before .before .pre) (c .before .before .before .before .before .before .before .before .before .before .build-pair .ensures) (c .before .accepts .ensures), c .before .before .before .before .before .before .before .before .before .before .build-pair .ensures .leaves .len, c .before .before .before .before .before .before .before .before .before .before .before .before .before .before .before .before .before .before .before .before .before .before .before .before .before .before .good .1 .1 .1 .1 .1 .1 .1 .1 .1 .0 .1)
 
 same-length-7 : tie.Need-same-length-7
 same-length-7 c = search needs

@@ -35,7 +35,7 @@ part-stages-end : tie.Need-part-stages-end
 part-stages-end c = search needs
 
 stages-requires : tie.Need-stages-requires
-stages-requires c κs = let A = c .before .before .before .before .before .before .before .before .before .before .before .before .before .before .before .before .before .before .before .before .pre in let v = c .before .before .before .before .before .before .before .before .before .before .before .before .before .before .before .before .before .before .before .before .args .rule in let B = c .before .before .before .before .before .before .before .before .before .begin-both .ensures in let e = c .before .before .before .before .before .opening .given .1 in record { it = course A refl B v e; at = try-stages A refl B v e refl refl (omega (arith, c .before .before .before .before .before .before .before .before .before .before .before .before .before .before .before .before .before .before .before .before .good .1 .1 .1 .1 .1 .1 .1 .1 .1 .0 .1)) }
+stages-requires c κs = let A = c .before .before .before .before .before .before .before .before .before .before .before .before .before .before .before .before .before .before .before .before .pre in let B = c .before .before .before .before .before .before .before .before .before .begin-both .ensures in let e = c .before .before .before .before .before .opening .given .1 in record { it = course A refl B e; at = try-stages A refl B e refl refl (omega (arith, c .before .before .before .before .before .before .before .before .before .before .before .before .before .before .before .before .before .before .before .before .good .1 .1 .1 .1 .1 .1 .1 .1 .0 .1)) }
 
 same-length : tie.Need-same-length
 same-length c = search needs
@@ -56,7 +56,7 @@ same-length-5 : tie.Need-same-length-5
 same-length-5 c = search needs
 
 returns-2 : tie.Need-returns-2
-returns-2 c = let A = c .before .before .before .before .before .before .before .before .before .before .before .before .before .before .before .before .before .before .before .before .before .before .before .before .before .before .before .before .before .pre in let v = c .before .before .before .before .before .before .before .before .before .before .before .before .before .before .before .before .before .before .before .before .before .before .before .before .before .before .before .before .before .args .rule in let B = c .before .before .before .before .before .before .before .before .before .before .before .before .before .before .before .before .before .before .begin-both .ensures in let e = c .before .before .before .before .before .before .before .before .before .before .before .before .before .before .opening .given .1 in try-ran A refl B v e (c .before .before .before .before .before .before .before .before .stages .ensures .all _ (try-stages A refl B v e refl refl (omega (arith, c .before .before .before .before .before .before .before .before .before .before .before .before .before .before .before .before .before .before .before .before .before .before .before .before .before .before .before .before .before .good .1 .1 .1 .1 .1 .1 .1 .1 .1 .0 .1))))
+returns-2 c = let A = c .before .before .before .before .before .before .before .before .before .before .before .before .before .before .before .before .before .before .before .before .before .before .before .before .before .before .before .before .before .pre in let B = c .before .before .before .before .before .before .before .before .before .before .before .before .before .before .before .before .before .before .begin-both .ensures in let e = c .before .before .before .before .before .before .before .before .before .before .before .before .before .before .opening .given .1 in try-ran A refl B e (c .before .before .before .before .before .before .before .before .stages .ensures .all _ (try-stages A refl B e refl refl (omega (arith, c .before .before .before .before .before .before .before .before .before .before .before .before .before .before .before .before .before .before .before .before .before .before .before .before .before .before .before .before .before .good .1 .1 .1 .1 .1 .1 .1 .1 .0 .1))))
 
 pub attempt-spec : {M : Type 1} → statement M
 attempt-spec =
