@@ -1,4 +1,5 @@
 pub mod Entry
+pub mod Rule
 pub mod Build
 pub mod Explain
 pub mod Depth

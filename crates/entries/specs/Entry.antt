@@ -22,3 +22,7 @@ written ns xs = elim (ltb (length xs) (length ns)) [ true ↦ xs | false ↦ lai
 -- a reply, its number first, and the areas as they were and as it leaves them; a slice shorter than the reply gives 2 and nothing is changed
 unfoldable pub entered : {A : Type 0} → (before after : A) → ℕ → List ℕ → List ℕ → Entry A
 entered a b n ns xs = elim (ltb (length xs) (suc (length ns))) [ true ↦ entry 2 a xs | false ↦ entry n b (written (n ∷ ns) xs) ]
+
+-- turned away before anything is looked at: nothing lent is changed, and a slice that is long enough has the number
+unfoldable pub turnedAway : {A : Type 0} → A → ℕ → List ℕ → List ℕ → Entry A
+turnedAway a n ns xs = entry n a (written (n ∷ ns) xs)

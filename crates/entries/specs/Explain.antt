@@ -1,12 +1,12 @@
 -- What the entry of an explanation returns and leaves. Assumes nothing.
 use mathlib.Core.List.{List, [], _∷_}
 use Prim.Native.Nat.{ℕ}
-use Rattle.rules.specs.Traversal.{WordRule}
+use Rattle.rules.specs.Traversal.{neededRuns}
 use Rattle.rules.specs.Build as rules
-use Rattle.stage_runs.specs.Rule.{Rule?, unknown, named}
 use Rattle.placer.specs.Answers.{areas}
 use Rattle.why_form.specs.Why.{explainer}
 use Rattle.entries.specs.Entry.{Entry, entered}
+use Rattle.entries.specs.Rule.{Rule?, refusalOf, ruled}
 
 -- the areas of a build, and the list for the lines
 pub record Lent : Type 0 where
@@ -20,12 +20,10 @@ lentTo plan words counts work list = record { areas = areas plan words counts wo
 unfoldable pub told : rules.Reply → ℕ → List ℕ
 told r lines = r .stages ∷ r .words ∷ r .stage ∷ r .pin ∷ r .cells ∷ lines ∷ []
 
-unfoldable pub buildExplained : WordRule → ℕ → (gates given records : List ℕ) → Lent → List ℕ → Entry Lent
-buildExplained rule K gates given records l xs =
-    let o = explainer rule K gates given records (l .list) (l .areas) in
+unfoldable pub buildExplained : ℕ → (gates given records : List ℕ) → Lent → List ℕ → Entry Lent
+buildExplained K gates given records l xs =
+    let o = explainer neededRuns K gates given records (l .list) (l .areas) in
     entered l (record { areas = o .areas; list = o .list }) (o .reply .number) (told (o .reply) (o .lines)) xs
 
--- where no rule is named: 2 and no area changed, before anything else
 unfoldable pub buildExplainedBy : Rule? → ℕ → (gates given records : List ℕ) → Lent → List ℕ → Entry Lent
-buildExplainedBy unknown K gates given records l xs = entered l l 2 (told (rules.refuse 2 0) 0) xs
-buildExplainedBy (named rule) K gates given records l xs = buildExplained rule K gates given records l xs
+buildExplainedBy r K gates given records l xs = ruled (refusalOf r) l (told (rules.refuse (refusalOf r) 0) 0) xs (buildExplained K gates given records l xs)

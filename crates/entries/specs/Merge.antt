@@ -1,12 +1,12 @@
 -- What the entries of a merge return and leave. Assumes nothing.
 use mathlib.Core.List.{List, [], _∷_}
 use Prim.Native.Nat.{ℕ}
-use Rattle.rules.specs.Traversal.{WordRule}
+use Rattle.rules.specs.Traversal.{neededRuns}
 use Rattle.rules.specs.Build.{Areas}
 use Rattle.rules.specs.Merge.{MergeReply, GroupList, refuseMerge, merger}
-use Rattle.stage_runs.specs.Rule.{Rule?, unknown, named}
 use Rattle.merge_checks.specs.Values.{groupList, areas}
 use Rattle.entries.specs.Entry.{Entry, entered}
+use Rattle.entries.specs.Rule.{Rule?, refusalOf, ruled}
 
 -- the group list and the areas
 pub record Lent : Type 0 where
@@ -20,12 +20,10 @@ lent xs ls st pl ws cs w = record { groups = groupList xs ls st; areas = areas p
 unfoldable pub rest : MergeReply → List ℕ
 rest r = r .stages ∷ r .words ∷ r .stage ∷ r .partitions ∷ r .trials ∷ r .refused ∷ r .pin ∷ r .cells ∷ []
 
-unfoldable pub merged : WordRule → ℕ → (gates given records : List ℕ) → ℕ → Lent → List ℕ → Entry Lent
-merged rule K gates given records extra l xs =
-    let o = merger rule K gates given records (l .groups) extra (l .areas) in
+unfoldable pub merged : ℕ → (gates given records : List ℕ) → ℕ → Lent → List ℕ → Entry Lent
+merged K gates given records extra l xs =
+    let o = merger neededRuns K gates given records (l .groups) extra (l .areas) in
     entered l (record { groups = o .groups; areas = o .areas }) (o .reply .number) (rest (o .reply)) xs
 
--- where no rule is named: 2 and nothing lent changed, before anything else
 unfoldable pub mergedBy : Rule? → ℕ → (gates given records : List ℕ) → ℕ → Lent → List ℕ → Entry Lent
-mergedBy unknown K gates given records extra l xs = entered l l 2 (rest (refuseMerge 2 0 0)) xs
-mergedBy (named rule) K gates given records extra l xs = merged rule K gates given records extra l xs
+mergedBy r K gates given records extra l xs = ruled (refusalOf r) l (rest (refuseMerge (refusalOf r) 0 0)) xs (merged K gates given records extra l xs)

@@ -1,6 +1,6 @@
 // The entry of a build.
 use crate::answers::tell;
-use crate::word_rules::rule_refusal;
+use crate::rule_number::rule_refusal;
 use columns::wide;
 use placer::build;
 use refusals::WRONG_SIZE;
@@ -34,8 +34,8 @@ fn enter(
     a.number
 }
 
-// As `build_by`, by the number of a word rule, 0 or 1, with the answer in the first six numbers of `answer`. Returns the number. Where `answer` is
-// shorter that is 2, and nothing is changed; another word rule gives 2 before anything else. C's header has the same without a rule.
+// As `build`, with the answer in the first six numbers of `answer`. Returns the number. Where `answer` is shorter that is 2, and nothing is changed. The
+// word rule is 0; 1, the old one, gives 25 before anything else, any other number 2. C's header has the same without a rule.
 #[no_mangle]
 pub extern "C" fn placer_build_by(
     rule: u32,

@@ -1,6 +1,6 @@
 // The entry of an explanation.
 use crate::answers::tell;
-use crate::word_rules::rule_refusal;
+use crate::rule_number::rule_refusal;
 use columns::wide;
 use explain::explain;
 use refusals::WRONG_SIZE;
@@ -53,8 +53,8 @@ fn enter(
     a.number
 }
 
-// As `explain_by`, by the number of a word rule, 0 or 1, with the build's answer and the lines in the first seven numbers of `answer`. Returns the number.
-// Where `answer` is shorter that is 2, and nothing is changed; another word rule gives 2 before anything else. C's header has the same without a rule.
+// As `explain`, with the build's answer and the lines in the first seven numbers of `answer`. Returns the number. Where `answer` is shorter that is 2, and
+// nothing is changed. The word rule is as for `placer_build_by`. C's header has the same without a rule.
 #[no_mangle]
 pub extern "C" fn explain_build_by(
     rule: u32,

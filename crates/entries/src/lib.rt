@@ -10,6 +10,6 @@ mod merge_entry;
 mod plan_entry;
 mod read_entry;
 mod replay_entry;
+mod rule_number;
 mod sheet_entry;
-mod word_rules;
 mod write_entry;

@@ -1,6 +1,6 @@
 // The entry of a merge.
 use crate::answers::tell;
-use crate::word_rules::rule_refusal;
+use crate::rule_number::rule_refusal;
 use columns::wide;
 use merge::merge;
 use refusals::WRONG_SIZE;
@@ -60,8 +60,8 @@ fn enter(
     a.number
 }
 
-// As `merge_by`, by the number of a word rule, 0 or 1, with the answer in the first nine numbers of `answer`. Returns the number. Where `answer` is
-// shorter that is 2, and nothing is changed; another word rule gives 2 before anything else. C's header has the same without a rule.
+// As `merge`, with the answer in the first nine numbers of `answer`. Returns the number. Where `answer` is shorter that is 2, and nothing is changed. The
+// word rule is as for `placer_build_by`. C's header has the same without a rule.
 #[no_mangle]
 pub extern "C" fn merge_partitions_by(
     rule: u32,

@@ -31,7 +31,8 @@ use Rattle.theorems.proofs.Rooms.{rooms-enough, refused-where, refusal-
 use Rattle.theorems.proofs.Folding.{stages-there}
 use Rattle.theorems.proofs.Reading.{endpoints-read}
 
--- a call of `build`, by its contract
+-- a call of `build`, by its contract; of the old word rule too, by the contract that `build` had under it, so that what follows holds of the plans and sheets
+-- that it left
 pub record Call : Type 0 where
   pub rule : WordRule
   pub height : ℕ

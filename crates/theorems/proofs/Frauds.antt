@@ -1,4 +1,4 @@
--- The four frauds of the scope document: no function that plays one of them meets the contract of `placer::build_by`, since one of the document's
+-- The four frauds of the scope document: no function that plays one of them meets the contract of `placer::build`, since one of the document's
 -- examples comes out otherwise. Assumes nothing.
 use Prim.Native.Nat.{ℕ, _*_, _^_}
 use mathlib.Core.Path.{_≡_, refl, sym, _∙_, ap}
@@ -10,7 +10,7 @@ use lib.Dec.{ltb}
 use lib.ListN.{length, getD}
 use Rattle.rules.specs.Lists.{every, upTo}
 use Rattle.rules.specs.Cells.{empty, stageOf}
-use Rattle.rules.specs.Traversal.{WordRule, neededRuns}
+use Rattle.rules.specs.Traversal.{neededRuns}
 use Rattle.rules.specs.Checks.{workSize}
 use Rattle.rules.specs.Build.{Areas, Outcome, placer}
 use Rattle.rules.specs.Inside.Opened.{everything}
@@ -24,7 +24,6 @@ Fits ns = every (λ n. ltb n (2 ^ 32)) ns ≡ true
 
 -- what a call hands in and lends
 pub record Handed : Type 0 where
-  pub rule : WordRule
   pub height : ℕ
   pub gates : List ℕ
   pub given : List ℕ
@@ -39,7 +38,7 @@ pub record Left : Type 0 where
 
 -- what the rules make of it
 abbrev pub right : Handed → Outcome
-right x = placer (x .rule) (x .height) (x .gates) (x .given) (x .records) (x .entry)
+right x = placer neededRuns (x .height) (x .gates) (x .given) (x .records) (x .entry)
 
 -- a function, any at all, meets the contract: whatever it is handed, its answer and the areas at exit are those of the rules
 pub record Meets (f : Handed → Left) : Type 0 where
@@ -54,7 +53,7 @@ abbrev all : (gates records : List ℕ) → List ℕ
 all gates records = 6 ∷ gates ++ [] ++ records ++ lent gates records .plan ++ lent gates records .words ++ lent gates records .counts ++ lent gates records .work
 
 abbrev handed : (gates records : List ℕ) → Fits (all gates records) → Handed
-handed gates records fits = record { rule = neededRuns; height = 6; gates = gates; given = []; records = records; entry = lent gates records; fits = fits }
+handed gates records fits = record { height = 6; gates = gates; given = []; records = records; entry = lent gates records; fits = fits }
 
 one-fits : Fits (all first (outputs (14 ∷ [])))
 unfolding everything

@@ -1,6 +1,6 @@
 -- The word rules compared: the new one never costs a job. Assumes nothing.
 use Prim.Native.Nat.{ℕ, zero, suc, _≤_}
-use mathlib.Core.Path.{_≡_, refl, sym, ap, _∙_}
+use mathlib.Core.Path.{_≡_, refl}
 use mathlib.Core.List.{List}
 use native.Mathlib.Omega.{arith}
 use lib.ListN.{length}
@@ -9,11 +9,9 @@ use Rattle.rules.specs.Graph.{graphOf}
 use Rattle.rules.specs.Records.{groupsOf}
 use Rattle.rules.specs.Traversal.{everyRun, neededRuns}
 use Rattle.rules.specs.Checks.{refusalOf}
-use Rattle.rules.specs.Build.{Stage, Answer, refusal, whole, build, reply, refuse, refuseChecked, Areas, Outcome, sizesRight, answerOf, placer}
+use Rattle.rules.specs.Build.{Stage, Answer, refusal, whole, build, reply, refuse, refuseChecked, Areas, sizesRight, answerOf, placer}
 use Rattle.rules.proofs.Stage.Refusals.{refused-some}
 use Rattle.rules.proofs.Demand as demand
-use Rattle.placer.specs.declared.Answer.{Answer as Answered}
-use Rattle.placer.specs.Answers.{told, outcome}
 use Rattle.theorems.specs.Inputs.{Input, graph, groups, built, under}
 use Rattle.theorems.proofs.Passing.{tall, small, valid, named}
 
@@ -40,17 +38,3 @@ module _ (K : ℕ) (gates given records : List ℕ) (a : Areas) where
           answered (whole ss) d =
               let t = never-costs (record { rule = everyRun; K = K; sized = sizesRight K gates records a; gates = gates; given = given; records = records; passes = e }) (rooms K (length (a .plan))) ss d in
               rw (e, d, t .1, placer) (refl, t .2)
-
--- And for the code, by the contract of `placer::build_by`, in the same areas: an answer of 0 under the old rule, then an answer of 0 with no more stages
--- under the new one.
-pub code-never-costs : (K : ℕ) (gates given records : List ℕ) (entry : Areas) (old new : Answered) (x y : Areas) →
-    outcome old (x .plan) (x .words) (x .counts) (x .work) ≡ placer everyRun K gates given records entry → outcome new (y .plan) (y .words) (y .counts) (y .work) ≡ placer neededRuns K gates given records entry →
-    old .number ≡ 0 → (new .number ≡ 0) × (new .stages ≤ old .stages)
-unfolding outcome told
-code-never-costs K gates given records entry old new x y d e z =
-    let n : old .number ≡ placer everyRun K gates given records entry .reply .number = ap (λ (o : Outcome). o .reply .number) d in
-    let s : old .stages ≡ placer everyRun K gates given records entry .reply .stages = ap (λ (o : Outcome). o .reply .stages) d in
-    let m : new .number ≡ placer neededRuns K gates given records entry .reply .number = ap (λ (o : Outcome). o .reply .number) e in
-    let t : new .stages ≡ placer neededRuns K gates given records entry .reply .stages = ap (λ (o : Outcome). o .reply .stages) e in
-    let b = call-never-costs K gates given records entry (sym n ∙ z) in
-    (m ∙ b .0, omega (arith, s, t, b .1))

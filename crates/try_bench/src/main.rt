@@ -3,14 +3,11 @@ use cell::Cell;
 use graph::EMPTY;
 use libc::STDOUT_FILENO;
 use placer::Answer;
-use placer::build_by;
-use stage_runs::WordRule;
+use placer::build;
 
 fn main() {
-    first(WordRule::EveryRun);
-    first(WordRule::NeededRuns);
-    one_leaf(WordRule::EveryRun);
-    one_leaf(WordRule::NeededRuns);
+    first();
+    one_leaf();
     memories_64();
     memories_65();
 }
@@ -61,7 +58,7 @@ fn all(words: &[u32]) {
 }
 
 // Height 6: pins 1 to 4 are leaves, 5 = (2, 4), 6 = (6, 9), 7 = (10, 12), output 14.
-fn first(rule: WordRule) {
+fn first() {
     io::write_all(STDOUT_FILENO, b"height 6, output 14:");
     let gates: [u32; 16] = [
         EMPTY,
@@ -87,8 +84,7 @@ fn first(rule: WordRule) {
     let mut words: [u32; 2] = [0; 2];
     let mut counts: [u32; 1] = [0; 1];
     let mut work: [u32; 656] = [0; 656];
-    tell(build_by(
-        rule,
+    tell(build(
         6,
         &gates,
         &given,
@@ -103,7 +99,7 @@ fn first(rule: WordRule) {
 }
 
 // Height 13: pin 1 is a leaf, output 2.
-fn one_leaf(rule: WordRule) {
+fn one_leaf() {
     io::write_all(STDOUT_FILENO, b"height 13, one leaf:");
     let gates: [u32; 4] = [EMPTY; 4];
     let given: [u32; 0] = [];
@@ -112,8 +108,7 @@ fn one_leaf(rule: WordRule) {
     let mut words: [u32; 256] = [0; 256];
     let mut counts: [u32; 1] = [0; 1];
     let mut work: [u32; 560] = [0; 560];
-    tell(build_by(
-        rule,
+    tell(build(
         13,
         &gates,
         &given,
@@ -147,8 +142,7 @@ fn memories(records: &mut [u32]) {
     let mut words: [u32; 256] = [0; 256];
     let mut counts: [u32; 1] = [0; 1];
     let mut work: [u32; 48368] = [0; 48368];
-    tell(build_by(
-        WordRule::NeededRuns,
+    tell(build(
         13,
         &gates,
         &given,

@@ -1,16 +1,16 @@
 -- What any entry returns and leaves, by its slice for the answer; the numbers written there. Assumes nothing.
-use Prim.Native.Nat.{ℕ, suc, _+_, _≤_, _<_}
+use Prim.Native.Nat.{ℕ, zero, suc, _+_, _≤_, _<_}
 use mathlib.Core.List.{List, _∷_, _++_}
-use mathlib.Core.Path.{_≡_, refl, sym, ap, _∙_}
+use mathlib.Core.Path.{_≡_, refl, ap, _∙_}
+use mathlib.Core.Logic.{_≢_}
 use native.Mathlib.Numerals.{add-one}
 use native.Mathlib.Omega.{arith}
-use lib.Dec.{ltb}
 use lib.ListN.{length, take, drop, getD, set, length-set}
 use lib.Seq.{paste-suc, take-length}
-use borrow.Author.Tests.{lt-ltb, le-ltb, ltb-true, ltb-false}
+use borrow.Author.Tests.{lt-ltb, le-ltb}
 use Rattle.rules.specs.Lists.{laidOver}
-use Rattle.rules.proofs.Lists.Members.{split}
-use Rattle.entries.specs.Entry.{entry, written, entered}
+use Rattle.entries.specs.Entry.{Entry, entry, written, entered, turnedAway}
+use Rattle.entries.specs.Rule.{ruled}
 
 -- ---- the numbers written
 
@@ -58,8 +58,16 @@ module _ {A : Type 0} (a b : A) (n : ℕ) (ns xs : List ℕ) where
   unfolding entered
   entry-told h d = rw (d, le-ltb (length xs) (suc (length ns)) h, entered)
 
--- a reply of 2 that changes no area is the same in any slice
-pub entry-same : {A : Type 0} (a : A) (ns xs : List ℕ) {ys : List ℕ} → ys ≡ written (2 ∷ ns) xs → entry 2 a ys ≡ entered a a 2 ns xs
-entry-same a ns xs d = rw d (split (ltb (length xs) (suc (length ns)))
-    (λ t. let h = ltb-true (length xs) (suc (length ns)) t in ap (λ (l : List ℕ). entry 2 a l) (sym (told-short (2 ∷ ns) xs h)) ∙ entry-short a a 2 ns xs h)
-    (λ t. entry-told a a 2 ns xs (ltb-false (length xs) (suc (length ns)) t) refl))
+-- ---- the rule that is asked for
+
+module _ {A : Type 0} (a : A) (ns xs : List ℕ) (go : Entry A) where
+  -- a rule that is refused turns the call away
+  pub ruled-away : (n : ℕ) → n ≢ 0 → {ys : List ℕ} → ys ≡ written (n ∷ ns) xs → entry n a ys ≡ ruled n a ns xs go
+  unfolding ruled turnedAway
+  ruled-away zero h d = absurd (h refl)
+  ruled-away (suc n) h d = rw d
+
+  -- else the call goes on
+  pub ruled-on : (n : ℕ) → n ≡ 0 → go ≡ ruled n a ns xs go
+  unfolding ruled
+  ruled-on n e = rw e

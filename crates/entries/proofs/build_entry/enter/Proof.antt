@@ -11,8 +11,8 @@ returns : tie.Need-returns
 unfolding built rest
 returns c = entry-short _ _ _ _ _ (omega (arith, c .if1 .taken))
 
-build-by-requires : tie.Need-build-by-requires
-build-by-requires c κs = search needs
+build-requires : tie.Need-build-requires
+build-requires c κs = search needs
 
 index-requires : tie.Need-index-requires
 index-requires c κs = search needs
@@ -42,14 +42,14 @@ same-length-5 : tie.Need-same-length-5
 same-length-5 c = search needs
 
 returns-2 : tie.Need-returns-2
-returns-2 c = entry-built _ _ _ _ _ _ _ _ _ _ (omega (arith, c .before .before .before .before .before .before .before .before .before .before .before .before .before .before .before .before .before .before .before .before .before .if1 .left)) _ _ _ _ _ _ _ _ (c .before .before .before .before .before .before .before .before .before .before .before .before .before .before .before .before .build-by .ensures) (c .before .before .before .before .before .wide .ensures) (c .before .before .before .before .before .before .index .ensures) (c .before .before .tell .ensures)
+returns-2 c = entry-built _ _ _ _ _ _ _ _ _ (omega (arith, c .before .before .before .before .before .before .before .before .before .before .before .before .before .before .before .before .before .before .before .before .before .if1 .left)) _ _ _ _ _ _ _ _ (c .before .before .before .before .before .before .before .before .before .before .before .before .before .before .before .before .build .ensures) (c .before .before .before .before .before .wide .ensures) (c .before .before .before .before .before .before .index .ensures) (c .before .before .tell .ensures)
 
 pub enter-spec : {M : Type 1} → statement M
 enter-spec =
     tie.close
     (tie.spec
     returns
-    build-by-requires
+    build-requires
     index-requires
     wide-requires
     slice-aggregate-tell

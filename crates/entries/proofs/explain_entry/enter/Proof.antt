@@ -11,8 +11,8 @@ returns : tie.Need-returns
 unfolding buildExplained told
 returns c = entry-short _ _ _ _ _ (omega (arith, c .if1 .taken))
 
-explain-by-requires : tie.Need-explain-by-requires
-explain-by-requires c κs = search needs
+explain-requires : tie.Need-explain-requires
+explain-requires c κs = search needs
 
 index-requires : tie.Need-index-requires
 index-requires c κs = search needs
@@ -45,14 +45,14 @@ same-length-6 : tie.Need-same-length-6
 same-length-6 c = search needs
 
 returns-2 : tie.Need-returns-2
-returns-2 c = entry-explained _ _ _ _ _ _ _ _ _ _ _ (omega (arith, c .before .before .before .before .before .before .before .before .before .before .before .before .before .before .before .before .before .before .before .before .before .before .before .before .before .if1 .left)) _ _ _ _ _ _ _ _ _ (c .before .before .before .before .before .before .before .before .before .before .before .before .before .before .before .before .before .before .before .explain-by .ensures) (c .before .before .before .before .before .wide .ensures) (c .before .before .before .before .before .before .index .ensures) (c .before .before .tell .ensures)
+returns-2 c = entry-explained _ _ _ _ _ _ _ _ _ _ (omega (arith, c .before .before .before .before .before .before .before .before .before .before .before .before .before .before .before .before .before .before .before .before .before .before .before .before .before .if1 .left)) _ _ _ _ _ _ _ _ _ (c .before .before .before .before .before .before .before .before .before .before .before .before .before .before .before .before .before .before .before .explain .ensures) (c .before .before .before .before .before .wide .ensures) (c .before .before .before .before .before .before .index .ensures) (c .before .before .tell .ensures)
 
 pub enter-spec : {M : Type 1} → statement M
 enter-spec =
     tie.close
     (tie.spec
     returns
-    explain-by-requires
+    explain-requires
     index-requires
     wide-requires
     slice-aggregate-tell

@@ -11,8 +11,8 @@ returns : tie.Need-returns
 unfolding merged rest
 returns c = entry-short _ _ _ _ _ (omega (arith, c .if1 .taken))
 
-merge-by-requires : tie.Need-merge-by-requires
-merge-by-requires c κs = search needs
+merge-requires : tie.Need-merge-requires
+merge-requires c κs = search needs
 
 index-requires : tie.Need-index-requires
 index-requires c κs = search needs
@@ -51,14 +51,14 @@ same-length-8 : tie.Need-same-length-8
 same-length-8 c = search needs
 
 returns-2 : tie.Need-returns-2
-returns-2 c = entry-merged _ _ _ _ _ _ _ _ _ _ _ _ _ _ (omega (arith, c .before .before .before .before .before .before .before .before .before .before .before .before .before .before .before .before .before .before .before .before .before .before .before .before .before .before .before .before .before .before .if1 .left)) _ _ _ _ _ _ _ _ _ _ _ (c .before .before .before .before .before .before .before .before .before .before .before .before .before .before .before .before .before .before .before .before .before .before .merge-by .ensures) (c .before .before .before .before .before .wide .ensures) (c .before .before .before .before .before .before .index .ensures) (c .before .before .tell .ensures)
+returns-2 c = entry-merged _ _ _ _ _ _ _ _ _ _ _ _ _ (omega (arith, c .before .before .before .before .before .before .before .before .before .before .before .before .before .before .before .before .before .before .before .before .before .before .before .before .before .before .before .before .before .before .if1 .left)) _ _ _ _ _ _ _ _ _ _ _ (c .before .before .before .before .before .before .before .before .before .before .before .before .before .before .before .before .before .before .before .before .before .before .merge .ensures) (c .before .before .before .before .before .wide .ensures) (c .before .before .before .before .before .before .index .ensures) (c .before .before .tell .ensures)
 
 pub enter-spec : {M : Type 1} → statement M
 enter-spec =
     tie.close
     (tie.spec
     returns
-    merge-by-requires
+    merge-requires
     index-requires
     wide-requires
     slice-aggregate-tell
