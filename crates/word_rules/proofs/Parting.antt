@@ -13,11 +13,11 @@ use Rattle.rules.specs.Reservation.{reserved, reservable}
 use Rattle.rules.specs.Traversal.{WordRule, everyRun, neededRuns}
 use Rattle.rules.specs.Ending.{stage, oneStage}
 use Rattle.rules.specs.Build.{Stage, more, stages, build}
-use Rattle.rules.specs.States.{State, state, afterFrom, after, firstFrom, firstStages}
+use Rattle.rules.specs.States.{state, afterFrom, after, firstFrom, firstStages}
 use Rattle.rules.proofs.Lists.Members.{split}
 use Rattle.rules.proofs.Stage.Depth.{stage-cases}
-use Rattle.word_rules.specs.Parting.{alike, partsFrom, parts, idleStage}
-use Rattle.word_rules.proofs.Stages.{same-stage, alike-self, alike-same}
+use Rattle.word_rules.specs.Parting.{alike, partsFrom, parts}
+use Rattle.word_rules.proofs.Stages.{alike-same}
 
 never : {P : Type 0} {k : ℕ} → found k ≡ nothing → P
 never {P} {k} e = absurd (let z : _≡_ {A = ℕ} 0 1 = cc in omega arith)

@@ -2,15 +2,15 @@
 use Prim.Native.Nat.{ℕ, _+_}
 use mathlib.Core.Path.{_≡_, refl, sym, _∙_, ap}
 use mathlib.Core.Bool.{true, false, _&&_}
-use mathlib.Core.List.{List, [], _∷_, _++_}
+use mathlib.Core.List.{List, [], _∷_}
 use lib.Dec.{eqb, ltb, leb}
 use lib.ListN.{length}
-use Rattle.rules.specs.Lists.{sameList, nothing, found}
+use Rattle.rules.specs.Lists.{sameList}
 use Rattle.rules.specs.Cells.{row, firstEmpty}
 use Rattle.rules.specs.Graph.{Node}
 use Rattle.rules.specs.Traversal.{everyRun, neededRuns, Setting, setting}
 use Rattle.rules.specs.Placing.{tree, treeOf, neededOf, filledPlan}
-use Rattle.rules.specs.Ending.{sparseRuns, plan, full, Stage?, refused, stage, close, inTree, inNeed, untouched, lastStage, written, rest, moreWords, ending, finish, oneStage}
+use Rattle.rules.specs.Ending.{sparseRuns, plan, Stage?, refused, stage, close, inTree, inNeed, untouched, lastStage, written, rest, moreWords, finish, oneStage}
 use Rattle.rules.proofs.Lists.Members.{split, true-false, and-true, eqb-true, eqb-same}
 use Rattle.rules.proofs.Stage.Puts.{cell}
 use Rattle.rules.proofs.Stage.Branches.{finish-seven, finish-full, finish-none, finish-last, finish-more}
