@@ -136,7 +136,7 @@ module _ (K : ℕ) (g : List Node) (done waiting : List ℕ) (room : ℕ) where
   X = setting everyRun K g done waiting
 
   -- both rules refuse the stage, and by the same number
-  abbrev SameRefusal : Type 0
+  abbrev pub SameRefusal : Type 0
   SameRefusal = (n : ℕ) × (oneStage everyRun K g done waiting room ≡ refused n) × (oneStage neededRuns K g done waiting room ≡ refused n)
 
   apart : alike (oneStage everyRun K g done waiting room) (oneStage neededRuns K g done waiting room) ≡ false → (idleStage K g done waiting ≡ true) × (SameRefusal → ⊥)
@@ -164,6 +164,6 @@ module _ (K : ℕ) (g : List Node) (done waiting : List ℕ) (room : ℕ) where
   pub parts-where : (alike (oneStage everyRun K g done waiting room) (oneStage neededRuns K g done waiting room) ≡ false) ↔ ((idleStage K g done waiting ≡ true) × (SameRefusal → ⊥))
   parts-where = (apart, λ h. idle-apart (h .0) (h .1))
 
--- so the stage in which a build parts has one
+-- so the stage in which a build parts has an idle run
 pub parting-idle : {K : ℕ} {g : List Node} {given : List ℕ} {groups : List Group} {rooms k : ℕ} (P : Parting K g given groups rooms k) → idleStage K g (P .done) (P .waiting) ≡ true
 parting-idle {K} {g} P = parts-where K g (P .done) (P .waiting) (P .room) .0 (P .differs) .0

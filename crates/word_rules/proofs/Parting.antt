@@ -4,7 +4,7 @@ use mathlib.Core.Path.{_≡_, refl, sym, _∙_, ap}
 use mathlib.Core.Bool.{true, false}
 use mathlib.Core.List.{List, [], _∷_, _++_}
 use native.Mathlib.Omega.{arith}
-use lib.ListN.{length}
+use lib.ListN.{length, take, length-take}
 use Rattle.rules.specs.Lists.{nothing, found}
 use Rattle.rules.specs.Cells.{wordLimit}
 use Rattle.rules.specs.Graph.{Node}
@@ -12,12 +12,13 @@ use Rattle.rules.specs.Records.{Group, waitingOf}
 use Rattle.rules.specs.Reservation.{reserved, reservable}
 use Rattle.rules.specs.Traversal.{WordRule, everyRun, neededRuns}
 use Rattle.rules.specs.Ending.{stage, oneStage}
-use Rattle.rules.specs.Build.{Stage, more, stages, build}
+use Rattle.rules.specs.Build.{Stage, whole, more, stages, build, cellsOf}
 use Rattle.rules.specs.States.{state, afterFrom, after, firstFrom, firstStages}
 use Rattle.rules.proofs.Lists.Members.{split}
 use Rattle.rules.proofs.Stage.Depth.{stage-cases}
+use Rattle.rules.proofs.Stage.Refusals.{first-stages}
 use Rattle.word_rules.specs.Parting.{alike, partsFrom, parts}
-use Rattle.word_rules.proofs.Stages.{alike-same}
+use Rattle.word_rules.proofs.Stages.{parting-cells, alike-same}
 
 never : {P : Type 0} {k : ℕ} → found k ≡ nothing → P
 never {P} {k} e = absurd (let z : _≡_ {A = ℕ} 0 1 = cc in omega arith)
@@ -71,7 +72,30 @@ module _ (K : ℕ) (g : List Node) where
       rw (q, d, firstFrom, afterFrom) (ap (λ (ss : List Stage). record { plan = p; words = us } ∷ ss) (t .0), t .1)))
       (λ a. let f : found k ≡ found j = rw (a, partsFrom) at e in let i : k ≡ j = cc in absurd (omega arith))
 
-  -- the same, s stages on from a state
+  -- the stage where they part counted: its cells are the same too, where both rules finish it
+  cells-from : (s r k : ℕ) (done waiting : List ℕ) (room j : ℕ) → partsFrom K g r k done waiting room ≡ found j → j ≡ k + s →
+      length (firstFrom everyRun K g (suc s) done waiting room) ≡ suc s → length (firstFrom neededRuns K g (suc s) done waiting room) ≡ suc s →
+      cellsOf (firstFrom everyRun K g (suc s) done waiting room) ≡ cellsOf (firstFrom neededRuns K g (suc s) done waiting room)
+  unfolding partsFrom firstFrom cellsOf
+  cells-from s zero k done waiting room j e h l m = never (sym e)
+  cells-from s (suc r) k done [] room j e h l m = never (sym e)
+  cells-from zero (suc r) k done (w ∷ ws) room j e h l m = stage-cases (oneStage everyRun K g done (w ∷ ws) room)
+      (λ n d. absurd (let z = rw (d, firstFrom) at l in omega arith))
+      (λ p us rs vs d. stage-cases (oneStage neededRuns K g done (w ∷ ws) room)
+      (λ n c. absurd (let z = rw (c, firstFrom) at m in omega arith))
+      (λ p2 us2 rs2 vs2 c. rw (d, c, firstFrom) (ap (λ (cs : List ℕ). cs ++ []) (parting-cells K g done (w ∷ ws) room d c .0))))
+  cells-from (suc s) (suc r) k done (w ∷ ws) room j e h l m = split (alike (oneStage everyRun K g done (w ∷ ws) room) (oneStage neededRuns K g done (w ∷ ws) room))
+      (λ a.
+      let q = alike-same K g done (w ∷ ws) room a in
+      stage-cases (oneStage neededRuns K g done (w ∷ ws) room)
+      (λ n d. never (sym (rw (a, d, partsFrom) at e)))
+      (λ p us rs vs d.
+      let l2 = rw (q, d, firstFrom) at l in
+      let m2 = rw (d, firstFrom) at m in
+      rw (q, d, firstFrom) (ap (λ (cs : List ℕ). p ++ cs) (cells-from s r (suc k) (rs ++ done) vs (room - length us) j (rw (a, d, partsFrom) at e) (omega arith) (omega arith) (omega arith)))))
+      (λ a. let f : found k ≡ found j = rw (a, partsFrom) at e in let i : k ≡ j = cc in absurd (omega arith))
+
+  -- what `Parting` says, s stages on from a state
   record From (r k : ℕ) (done waiting : List ℕ) (room j : ℕ) : Type 0 where
     s : ℕ
     number : j ≡ k + s
@@ -143,3 +167,23 @@ module _ (K : ℕ) (g : List Node) where
             comes = λ rule. rw (begun .0, after, n) (t .comes rule);
             differs = t .differs;
           }
+
+      module _ (ss ts : List Stage) (before : build everyRun K g given groups rooms ≡ whole ss) (now : build neededRuns K g given groups rooms ≡ whole ts) where
+        -- two whole plans have the same stages before that one
+        pub plans-same : take (k - 1) ss ≡ take (k - 1) ts
+        plans-same = sym (first-stages everyRun K g given groups rooms (k - 1) ss before) ∙ before-parting (k - 1) (omega (arith, parts-there .first)) .stages ∙ first-stages neededRuns K g given groups rooms (k - 1) ts now
+
+        -- and the same cells up to its end
+        pub cells-same : k ≤ length ss → k ≤ length ts → cellsOf (take k ss) ≡ cellsOf (take k ts)
+        unfolding firstStages
+        cells-same h i = counted (k - 1) (omega (arith, parts-there .first))
+          where
+            counted : (s : ℕ) → k ≡ suc s → cellsOf (take k ss) ≡ cellsOf (take k ts)
+            counted s n =
+                let ws : List ℕ = waitingOf groups [] in
+                let room : ℕ = wordLimit K - reserved groups in
+                let a : firstFrom everyRun K g (suc s) given ws room ≡ take (suc s) ss = rw (begun .0, firstStages) at (first-stages everyRun K g given groups rooms (suc s) ss before) in
+                let b : firstFrom neededRuns K g (suc s) given ws room ≡ take (suc s) ts = rw (begun .0, firstStages) at (first-stages neededRuns K g given groups rooms (suc s) ts now) in
+                let l : length (take (suc s) ss) ≡ suc s = simp length-take (omega arith) in
+                let m : length (take (suc s) ts) ≡ suc s = simp length-take (omega arith) in
+                rw (n, ← a, ← b) (cells-from s rooms 1 given ws room k (begun .1) (omega arith) (ap length a ∙ l) (ap length b ∙ m))
