@@ -164,7 +164,7 @@ fn place(
     a
 }
 
-// Merges partitions of the records' groups while no union has more stages than the greatest of them and `extra` more, as `placer::build`
+// Merges partitions of the records' groups while no union has more stages than the greatest of them and `extra` more, built as `placer::build`
 // does. The group list holds the merged partitions in their final order; plan, words, counts and work are scratch.
 pub fn merge(
     height: u32,

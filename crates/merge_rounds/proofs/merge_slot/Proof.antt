@@ -41,8 +41,8 @@ open-all-requires c κs = search needs
 merge-into-requires : tie.Need-merge-into-requires
 merge-into-requires c κs = into-at (c .before .before .before .before .before .before .before .before .before .before .before .before .before .before .before .before .before .before .before .before .before .before .pre) (c .before .before .before .before .before .before .before .before .before .before .before .if1 .left) (c .before .before .before .before .before .before .before .before .open-all .ensures)
 
-sub-t22 : tie.Need-sub-t22
-sub-t22 c = slot-fuel (c .before .before .before .before .before .before .before .before .before .before .before .before .before .before .before .before .before .before .before .before .before .before .before .before .before .before .before .before .before .before .before .before .before .before .before .pre)
+sub-t21 : tie.Need-sub-t21
+sub-t21 c = slot-fuel (c .before .before .before .before .before .before .before .before .before .before .before .before .before .before .before .before .before .before .before .before .before .before .before .before .before .before .before .before .before .before .before .before .before .before .before .pre)
 
 same-length : tie.Need-same-length
 same-length c = search needs
@@ -80,7 +80,7 @@ merge-slot-spec =
     part-open-all-end
     open-all-requires
     merge-into-requires
-    sub-t22
+    sub-t21
     same-length
     same-length-2
     same-length-3
