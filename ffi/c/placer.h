@@ -28,7 +28,7 @@ extern "C" {
 #endif
 
 /* The version of this header and of the library that it is for: CHANGELOG.md. */
-#define PLACER_VERSION "0.9.0"
+#define PLACER_VERSION "0.10.0"
 
 /* An empty cell of a plan, an unused word, and each literal of a leaf. */
 #define PLACER_EMPTY 4294967295u

@@ -14,7 +14,7 @@
 use core::fmt;
 
 /// The version of this file and of the library that it is for: CHANGELOG.md.
-pub const VERSION: &str = "0.9.0";
+pub const VERSION: &str = "0.10.0";
 
 /// An empty cell of a plan, an unused word, and each literal of a leaf.
 pub const EMPTY: u32 = u32::MAX;
