@@ -1,11 +1,11 @@
-/* Two of the scope document's bench examples at height 6. Pins 1 to 4 are leaves, 5 = (2, 4), 6 = (6, 9), 7 = (10, 12), output 14: as a job
- * file, which is read back, built in D + 1 rooms, listed, with what each cell does, and folded; and built under the rule that writes idle runs too, with
- * too few counts, and under a number that names no rule. D of a chain of 60 gates, and with a given pin near its end. A merge: the leaf outputs 2 and 4, a
- * partition each, no extra stages. The first example's plan as a sheet, which is read back and listed again, into too few words, cut, and of an unknown
- * number; and its sheet 1, as earlier versions wrote it, with its graph and without. The same plan checked, whole, with a cell damaged and with its word not
- * written, and replayed, with a flip-flop from pin 7 to leaf 4; and mended, as it is, with cells damaged, with too short a list, and with a top that nothing tells.
- * Builds explained: 30 and 31 leaf outputs with a gate of level 2, a list that is too short, words that run out, a memory. And the AIGER document's half adder,
- * read whole and cut, and written again, with its two unused variables as inputs. */
+/* Two of the scope document's bench examples at height 6. Pins 1 to 4 are leaves, 5 = (2, 4), 6 = (6, 9), 7 = (10, 12), output 14: as a job file, which is
+ * read back, built in D + 1 rooms, listed, with what each cell does, and folded; and built with too few counts; and what is told who asks for the old word
+ * rule, of a build, an explanation and a merge, or for a number that names no rule. D of a chain of 60 gates, and with a given pin near its end. A merge: the
+ * leaf outputs 2 and 4, a partition each, no extra stages. The first example's plan as a sheet, which is read back and listed again, into too few words, cut,
+ * and of an unknown number; and its sheet 1, as earlier versions wrote it, with its graph and without. The same plan checked, whole, with a cell damaged and
+ * with its word not written, and replayed, with a flip-flop from pin 7 to leaf 4; and mended, as it is, with cells damaged, with too short a list, and with a
+ * top that nothing tells. Builds explained: 30 and 31 leaf outputs with a gate of level 2, a list that is too short, words that run out, a memory. And the
+ * AIGER document's half adder, read whole and cut, and written again, with its two unused variables as inputs. */
 #include "placer.h"
 #include <stdio.h>
 #include <stdlib.h>
@@ -96,21 +96,62 @@ static uint32_t job(void) {
     return number;
 }
 
-/* The same by the number of a word rule, with so many counts, at most one. */
-static uint32_t first(uint32_t rule, size_t counts_len, size_t *answer) {
+/* The same in a room without its count. */
+static uint32_t uncounted(void) {
     uint32_t plan[128], words[2], counts[1], work[16 * 8 + 8 * 2 + 512];
-    return placer_build_by(rule, 6, gates, 16, given, 0, records, 2, plan, 128, words, 2, counts, counts_len, work,
-                           sizeof work / sizeof *work, answer, PLACER_BUILD_LEN);
+    size_t answer[PLACER_BUILD_LEN];
+    uint32_t number = placer_build(6, gates, 16, given, 0, records, 2, plan, 128, words, 2, counts, 0, work, sizeof work / sizeof *work, answer, PLACER_BUILD_LEN);
+    printf("without counts: refused %u: %s\n", number, placer_describe(number));
+    return number;
 }
 
-static uint32_t show(uint32_t rule, size_t counts_len) {
-    size_t answer[PLACER_BUILD_LEN];
-    uint32_t number = first(rule, counts_len, answer);
-    if (number == PLACER_DONE)
-        printf("rule %u: stages %zu words %zu cells %zu\n", rule, answer[PLACER_BUILD_STAGES], answer[PLACER_BUILD_WORDS], answer[PLACER_BUILD_CELLS]);
+/* What a build, an explanation or a merge of it is lent, the one record in one partition. */
+struct areas {
+    uint32_t plan[128], words[2], counts[1], work[16 * 8 + 8 * 2 + 512 + 8 * 1 + 8 * 1], list[6 * 6], indices[1], lengths[1], stages[1];
+};
+enum { A_BUILD, AN_EXPLANATION, A_MERGE };
+
+/* Whether a call by the number of a word rule returns this number, with an answer of it and zeros where there is room for all of that, else as it was, and
+ * changes nothing else. */
+static int told(int call, uint32_t rule, uint32_t height, size_t answer_len, uint32_t wanted) {
+    static const size_t whole[] = {PLACER_BUILD_LEN, PLACER_EXPLAIN_LEN, PLACER_MERGE_LEN};
+    struct areas a, before;
+    size_t answer[PLACER_MERGE_LEN], expected[PLACER_MERGE_LEN], work_len = sizeof a.work / sizeof *a.work;
+    uint32_t number;
+    memset(&a, 7, sizeof a);
+    memset(answer, 7, sizeof answer);
+    a.indices[0] = 0, a.lengths[0] = 1;
+    memcpy(&before, &a, sizeof a);
+    memcpy(expected, answer, sizeof answer);
+    for (size_t i = 0; i < whole[call] && answer_len >= whole[call]; i++)
+        expected[i] = i ? 0 : wanted;
+    if (call == A_BUILD)
+        number = placer_build_by(rule, height, gates, 16, given, 0, records, 2, a.plan, 128, a.words, 2, a.counts, 1, a.work, work_len, answer, answer_len);
+    else if (call == AN_EXPLANATION)
+        number = explain_build_by(rule, height, gates, 16, given, 0, records, 2, a.plan, 128, a.words, 2, a.counts, 1, a.work, work_len, a.list, 6 * 6, answer,
+                                  answer_len);
     else
-        printf("rule %u: refused %u: %s\n", rule, number, placer_describe(number));
-    return number;
+        number = merge_partitions_by(rule, height, gates, 16, given, 0, records, 2, a.indices, 1, a.lengths, 1, a.stages, 1, 0, a.plan, 128, a.words, 2, a.counts,
+                                     1, a.work, work_len, answer, answer_len);
+    return number == wanted && memcmp(answer, expected, sizeof answer) == 0 && memcmp(&a, &before, sizeof a) == 0;
+}
+
+/* The old word rule asked for, at height 6, at none, and in answers of all lengths; and numbers that name no rule, in the same way. */
+static int old_rule(void) {
+    static const char *const names[] = {"a build", "an explanation", "a merge"};
+    int fine = 1;
+    for (int call = A_BUILD; call <= A_MERGE; call++) {
+        int right = 1;
+        for (size_t answer_len = 0; answer_len <= PLACER_MERGE_LEN; answer_len++)
+            for (uint32_t height = 5; height <= 6; height++) {
+                right = right && told(call, PLACER_EVERY_RUN, height, answer_len, PLACER_OLD_RULE);
+                fine = fine && told(call, 2, height, answer_len, PLACER_WRONG_SIZE) && told(call, 4294967295u, height, answer_len, PLACER_WRONG_SIZE);
+            }
+        if (right)
+            printf("%s by the old rule: refused %u: %s; nothing is changed\n", names[call], PLACER_OLD_RULE, placer_describe(PLACER_OLD_RULE));
+        fine = fine && right;
+    }
+    return fine;
 }
 
 /* The same plan as version 0.6.0 wrote it: sheet 1, pins alone. */
@@ -332,10 +373,11 @@ static uint32_t aiger(void) {
 }
 
 int main(void) {
-    size_t answer[PLACER_BUILD_LEN];
-    uint32_t whole = job(), every = show(PLACER_EVERY_RUN, 1), small = show(PLACER_NEEDED_RUNS, 0), none = first(2, 1, answer), deep = splitting();
+    uint32_t whole = job(), small = uncounted();
+    int old = old_rule();
+    uint32_t deep = splitting();
     merging();
     if (sheet() != PLACER_DONE || checking() != PLACER_DONE || !wet() || !why() || aiger() != PLACER_DONE)
         return 1;
-    return whole != PLACER_DONE || deep != PLACER_DONE || every != PLACER_DONE || small != PLACER_WRONG_SIZE || none != PLACER_WRONG_SIZE;
+    return whole != PLACER_DONE || deep != PLACER_DONE || small != PLACER_WRONG_SIZE || !old;
 }

@@ -28,20 +28,20 @@ extern "C" {
 #endif
 
 /* The version of this header and of the library that it is for: CHANGELOG.md. */
-#define PLACER_VERSION "0.9.0"
+#define PLACER_VERSION "0.10.0"
 
 /* An empty cell of a plan, an unused word, and each literal of a leaf. */
 #define PLACER_EMPTY 4294967295u
 
 /* What a call returns. 6 to 9 leave plan and words as empty marks, counts and work 0, and so does 21, which leaves the list as it was; every other
  * refusal leaves everything lent as it was, but for the answer, and for 22 and 24 the work of a plan mended, which is 0. The first that applies is given,
- * in the order 1, 2, 3, 23, 4, 5, 10, 6, then for each stage 9, 7, 8; of a job file 11, then 2; of an AIGER file read 12, 13, 2, 3, 23, 4, and of one written
+ * in the order 25, 1, 2, 3, 23, 4, 5, 10, 6, then for each stage 9, 7, 8; of a job file 11, then 2; of an AIGER file read 12, 13, 2, 3, 23, 4, and of one written
  * 14, then 2; of a plan sheet read 16, 15, 17, and of one written 15, then 17; a replay has 18, 19, 20, 17 between 5 and 6; a plan checked has 22 after 5, and
  * a replay over a plan has it after 17; a plan mended has 22 after 5, then 24; an explanation has 21 after 5, where its lines, of whatever answer, don't fit. */
 enum placer_refusal {
     PLACER_DONE = 0,          /* not refused */
     PLACER_NO_HEIGHT = 1,     /* the height is not 6 to 13 */
-    PLACER_WRONG_SIZE = 2,    /* a lent area has the wrong size, the slice for the answer is too short, or no such word rule */
+    PLACER_WRONG_SIZE = 2,    /* a lent area has the wrong size, the slice for the answer is too short, or the number asked for names no word rule */
     PLACER_WRONG_GRAPH = 3,   /* more than 65,535 pins, none at all, or a gate whose operands aren't above 0 and at most N; pin 0 is no gate */
     PLACER_WRONG_RECORD = 4,  /* a record is of an unknown kind, cut, or names a pin above N; or more than 65,536 numbers of records */
     PLACER_WRONG_GIVEN = 5,   /* a given pin is above N */
@@ -63,7 +63,8 @@ enum placer_refusal {
     PLACER_SHORT_LINES = 21,  /* the list is too short for the lines of an explanation */
     PLACER_WRONG_PLAN = 22,   /* a plan made elsewhere, or a mended one, has a fault; the answer has the place of the first */
     PLACER_LOOP = 23,         /* a loop of gates, given or not; the answer shows the smallest pin on any */
-    PLACER_SHORT_LIST = 24    /* the list is too short for the changes of a plan mended */
+    PLACER_SHORT_LIST = 24,   /* the list is too short for the changes of a plan mended */
+    PLACER_OLD_RULE = 25      /* the old word rule is asked for, which nothing is built by any more */
 };
 
 /* A line on a number that a call returned, for people. */
@@ -94,6 +95,7 @@ static inline const char *placer_describe(uint32_t number) {
     case PLACER_WRONG_PLAN: return "the plan has a fault";
     case PLACER_LOOP: return "a loop of gates";
     case PLACER_SHORT_LIST: return "the list is too short for the changes";
+    case PLACER_OLD_RULE: return "the old word rule, which nothing is built by any more";
     default: return "no number of the placer";
     }
 }
@@ -212,9 +214,12 @@ static inline size_t placer_aiger_size(size_t gates_len, size_t records_len) {
 
 /* ---- A build */
 
-/* The word rules. Once nothing is untouched, rule 8 writes no run after the last needed waiting pin; or every sparse run, idle ones too,
- * as the published Rust does. The first is that of placer_build and merge_partitions; placer_build_by and merge_partitions_by take either,
- * and return 2 for any other number. */
+/* The word rules, which placer_build_by, explain_build_by and merge_partitions_by are asked for by number. By PLACER_NEEDED_RUNS, that of placer_build,
+ * explain_build and merge_partitions, rule 8 writes no run after the last needed waiting pin. PLACER_EVERY_RUN, the old one, wrote every sparse run once
+ * nothing was untouched, idle ones too, as the published Rust does. Nothing is built by it any more, and it is named so that who asks for it is told: the
+ * number returned is 25, whatever else is handed in, even a slice that is too short for the answer; for any number that names no rule it is 2 in the same
+ * way. Then the answer is that number and zeros where there is room for all of it, else it stays as it was, and nothing else lent is changed. Plans and
+ * sheets that were made by the old rule are read, listed, folded, checked, replayed and mended as any other. */
 enum placer_word_rule { PLACER_NEEDED_RUNS = 0, PLACER_EVERY_RUN = 1 };
 
 /* The answer of a build: what is returned; the plan's stages and written words; with 7, 8 and 9 the refused stage, from 1; with 23 the pin; the
@@ -237,6 +242,7 @@ enum placer_build_answer {
  * counts:  at least placer_counts_size(rooms) numbers, for how many words each stage writes
  * work:    at least placer_build_work_size(gates_len, records_len) numbers; scratch, 0 afterwards
  * answer:  at least PLACER_BUILD_LEN numbers
+ * rule:    PLACER_NEEDED_RUNS; any other number is refused, as said above
  *
  * Returns the number. Where `answer` is too short that is 2, and nothing is changed. */
 uint32_t placer_build_by(uint32_t rule, uint32_t height, const uint32_t *gates, size_t gates_len, const uint32_t *given,
@@ -244,7 +250,7 @@ uint32_t placer_build_by(uint32_t rule, uint32_t height, const uint32_t *gates, 
                          uint32_t *words, size_t words_len, uint32_t *counts, size_t counts_len, uint32_t *work, size_t work_len,
                          size_t *answer, size_t answer_len);
 
-/* The same under PLACER_NEEDED_RUNS, which writes no idle word: what to call unless the published Rust's plan is wanted. */
+/* The same under PLACER_NEEDED_RUNS: what to call. */
 static inline uint32_t placer_build(uint32_t height, const uint32_t *gates, size_t gates_len, const uint32_t *given, size_t given_len,
                                     const uint32_t *records, size_t records_len, uint32_t *plan, size_t plan_len, uint32_t *words,
                                     size_t words_len, uint32_t *counts, size_t counts_len, uint32_t *work, size_t work_len,
@@ -450,7 +456,7 @@ enum placer_check_answer { PLACER_CHECK_NUMBER, PLACER_CHECK_STAGE, PLACER_CHECK
  *   beside those that are reserved, which is none where as many or more are reserved;
  * - the reservation is not over, and each endpoint pin but the constant stands in a written word.
  * Then each filled cell folds to its pin's value in the graph, for any bits of leaves and given pins, and so reading the written words gives that of each
- * endpoint. Whatever a build leaves is accepted, by either word rule.
+ * endpoint. Whatever a build leaves is accepted, and what one by the old word rule left.
  * gates, given, records: as for a build
  * plan, words, counts: as a build leaves them or a sheet is read: the cells stage after stage, the words of all stages, how many each has. The plan is a
  *          multiple of a stage, and plan and counts have at least so many stages; cells and counts past them are not looked at. The words may have any

@@ -1,18 +1,18 @@
-//! Two of the scope document's bench examples at height 6. Pins 1 to 4 are leaves, 5 = (2, 4), 6 = (6, 9), 7 = (10, 12), output 14: as a job
-//! file, which is read back, built in D + 1 rooms, listed, with what each cell does, and folded; and built under the rule that writes idle runs too, and
-//! with too few counts. D of a chain of 60 gates, and with a given pin near its end. A merge: the leaf outputs 2 and 4, a partition each, no extra stages.
-//! The first example's plan as a sheet, which is read back and listed again, into too few words, cut, and of an unknown number; and its sheet 1, as earlier
-//! versions wrote it, with its graph and without. The same plan checked, whole, with a cell damaged and with its word not written, and replayed, with a
-//! flip-flop from pin 7 to leaf 4; and mended, as it is, with cells damaged, with too short a list, and with a top that nothing tells. Builds explained: 30 and 31
-//! leaf outputs with a gate of level 2, a list that is too short, words that run out, a memory. And the AIGER document's half adder, read whole and cut, and
-//! written again, with its two unused variables as inputs.
+//! Two of the scope document's bench examples at height 6. Pins 1 to 4 are leaves, 5 = (2, 4), 6 = (6, 9), 7 = (10, 12), output 14: as a job file, which is
+//! read back, built in D + 1 rooms, listed, with what each cell does, and folded; and built with too few counts; and what is told who asks for the old word
+//! rule, of a build, an explanation and a merge. D of a chain of 60 gates, and with a given pin near its end. A merge: the leaf outputs 2 and 4, a partition
+//! each, no extra stages. The first example's plan as a sheet, which is read back and listed again, into too few words, cut, and of an unknown number; and its
+//! sheet 1, as earlier versions wrote it, with its graph and without. The same plan checked, whole, with a cell damaged and with its word not written, and
+//! replayed, with a flip-flop from pin 7 to leaf 4; and mended, as it is, with cells damaged, with too short a list, and with a top that nothing tells. Builds
+//! explained: 30 and 31 leaf outputs with a gate of level 2, a list that is too short, words that run out, a memory. And the AIGER document's half adder, read
+//! whole and cut, and written again, with its two unused variables as inputs.
 #[allow(dead_code)] // not all of it is shown
 #[path = "placer.rs"]
 mod placer;
 
-use placer::{build, build_by, changes, check_plan, depth, explain, fold, lines, list_answer, mend_plan, merge, read_aiger, read_job, read_sheet, replay_plan};
-use placer::{reserved, write_aiger, write_job, write_sheet};
-use placer::{Answer, Areas, Cell, Checked, Damaged, Groups, Line, Mended, Plan, Recording, Refusal, Run, Tape, WordRule, EMPTY as E};
+use placer::{build, build_by, changes, check_plan, depth, explain, explain_by, fold, lines, list_answer, mend_plan, merge, merge_by, read_aiger, read_job};
+use placer::{read_sheet, replay_plan, reserved, write_aiger, write_job, write_sheet};
+use placer::{Answer, Areas, Cell, Checked, Damaged, Explained, Groups, Line, Mended, Merged, Plan, Recording, Refusal, Run, Tape, WordRule, EMPTY as E};
 
 const GATES: [u32; 16] = [E, E, E, E, E, E, E, E, E, E, 2, 4, 6, 9, 10, 12];
 const RECORDS: [u32; 2] = [1, 14];
@@ -73,14 +73,36 @@ fn job() {
     }
 }
 
-/// The same by a word rule, with so many counts.
-fn first(rule: WordRule, counts: usize) {
-    let (mut plan, mut words, mut counts, mut work) = ([0; 128], [0; 2], vec![0; counts], [0; 16 * 8 + 8 * 2 + 512]);
-    let areas = Areas { plan: &mut plan, words: &mut words, counts: &mut counts, work: &mut work };
-    let answer = build_by(rule, 6, &GATES, &[], &RECORDS, areas);
-    match Refusal::of(answer.number) {
-        None => println!("rule {}: stages {} words {} cells {}", rule as u32, answer.stages, answer.words, answer.cells),
-        Some(refusal) => println!("rule {}: {refusal}", rule as u32),
+/// The same in a room without its count.
+fn uncounted() {
+    let (mut plan, mut words, mut work) = ([0; 128], [0; 2], [0; 16 * 8 + 8 * 2 + 512]);
+    let areas = Areas { plan: &mut plan, words: &mut words, counts: &mut [], work: &mut work };
+    if let Some(refusal) = Refusal::of(build(6, &GATES, &[], &RECORDS, areas).number) {
+        println!("without counts: {refusal}");
+    }
+}
+
+/// The old word rule asked for: at height 6, where a build, an explanation or a merge of the one record is else accepted, and at none.
+fn old_rule() {
+    for (call, name) in ["a build", "an explanation", "a merge"].into_iter().enumerate() {
+        let right = [6, 5].into_iter().all(|height| {
+            let (mut plan, mut words, mut counts, mut work, mut list) = ([7; 128], [7; 2], [7; 1], [7; 16 * 8 + 8 * 2 + 512 + 8 + 8], [7; 36]);
+            let (mut indices, mut lengths, mut stages) = ([0], [1], [7]);
+            let areas = Areas { plan: &mut plan, words: &mut words, counts: &mut counts, work: &mut work };
+            let refused = Answer { number: Refusal::OldRule as u32, ..Answer::default() };
+            let told = match call {
+                0 => build_by(WordRule::EveryRun, height, &GATES, &[], &RECORDS, areas) == refused,
+                1 => explain_by(WordRule::EveryRun, height, &GATES, &[], &RECORDS, areas, &mut list) == Explained { answer: refused, lines: 0 },
+                _ => {
+                    let groups = Groups { indices: &mut indices, lengths: &mut lengths, stages: &mut stages };
+                    merge_by(WordRule::EveryRun, height, &GATES, &[], &RECORDS, groups, 0, areas) == Merged { number: refused.number, ..Merged::default() }
+                }
+            };
+            told && [&plan[..], &words, &counts, &work, &list, &stages].concat().iter().all(|&number| number == 7) && (indices, lengths) == ([0], [1])
+        });
+        if right {
+            println!("{name} by the old rule: {}; nothing is changed", Refusal::OldRule);
+        }
     }
 }
 
@@ -266,8 +288,8 @@ fn aiger() {
 
 fn main() {
     job();
-    first(WordRule::EveryRun, 1);
-    first(WordRule::NeededRuns, 0);
+    uncounted();
+    old_rule();
     splitting();
     merging();
     sheet();

@@ -14,7 +14,7 @@
 use core::fmt;
 
 /// The version of this file and of the library that it is for: CHANGELOG.md.
-pub const VERSION: &str = "0.9.0";
+pub const VERSION: &str = "0.10.0";
 
 /// An empty cell of a plan, an unused word, and each literal of a leaf.
 pub const EMPTY: u32 = u32::MAX;
@@ -72,6 +72,8 @@ pub enum Refusal {
     Loop = 23,
     /// The list is too short for the changes of a plan mended.
     ShortList = 24,
+    /// The old word rule is asked for, which nothing is built by any more.
+    OldRule = 25,
 }
 
 impl Refusal {
@@ -102,6 +104,7 @@ impl Refusal {
             22 => Refusal::WrongPlan,
             23 => Refusal::Loop,
             24 => Refusal::ShortList,
+            25 => Refusal::OldRule,
             _ => return None,
         })
     }
@@ -133,6 +136,7 @@ impl Refusal {
             Refusal::WrongPlan => "the plan has a fault",
             Refusal::Loop => "a loop of gates",
             Refusal::ShortList => "the list is too short for the changes",
+            Refusal::OldRule => "the old word rule, which nothing is built by any more",
         }
     }
 }
@@ -301,9 +305,10 @@ pub const fn aiger_size(gates: usize, records: usize) -> usize {
 #[derive(Clone, Copy, Debug, PartialEq, Eq)]
 #[repr(u32)]
 pub enum WordRule {
-    /// None after the last needed waiting pin: the rule of `build` and `merge`.
+    /// None after the last needed waiting pin: the rule of `build`, `explain` and `merge`.
     NeededRuns = 0,
-    /// Every one, idle runs too, as the published Rust does.
+    /// Every one, idle runs too, as the published Rust does: the old rule, which nothing is built by any more. It is named so that who asks for it is told:
+    /// `OldRule`, before any other refusal, and every slice stays as it was. Plans and sheets that were made by it are taken as any other.
     EveryRun = 1,
 }
 
@@ -369,7 +374,7 @@ pub struct Areas<'a> {
 
 /// The numbers that a merge answers: 0, the sums of the stages, words and filled cells, the partitions left and the unions examined; or what refuses it,
 /// in which stage, and which partition from 1; with 23 the smallest pin on any loop.
-#[derive(Clone, Copy, Debug, PartialEq, Eq)]
+#[derive(Clone, Copy, Debug, Default, PartialEq, Eq)]
 pub struct Merged {
     pub number: u32,
     pub stages: usize,
@@ -751,7 +756,7 @@ pub fn build(height: u32, gates: &[u32], given: &[u32], records: &[u32], areas: 
     build_by(WordRule::NeededRuns, height, gates, given, records, areas)
 }
 
-/// As `build`, by the word rule that is asked for.
+/// As `build`, by the word rule that is asked for; `EveryRun` is refused with `OldRule`.
 pub fn build_by(rule: WordRule, height: u32, gates: &[u32], given: &[u32], records: &[u32], areas: Areas<'_>) -> Answer {
     let mut answer = [0usize; 6];
     let Areas { plan, words, counts, work } = areas;
@@ -780,7 +785,7 @@ pub fn explain(height: u32, gates: &[u32], given: &[u32], records: &[u32], areas
     explain_by(WordRule::NeededRuns, height, gates, given, records, areas, list)
 }
 
-/// As `explain`, by the word rule that is asked for.
+/// As `explain`, by the word rule that is asked for; `EveryRun` is refused with `OldRule`.
 pub fn explain_by(rule: WordRule, height: u32, gates: &[u32], given: &[u32], records: &[u32], areas: Areas<'_>, list: &mut [u32]) -> Explained {
     let mut answer = [0usize; 7];
     let Areas { plan, words, counts, work } = areas;
@@ -842,7 +847,7 @@ pub fn merge(height: u32, gates: &[u32], given: &[u32], records: &[u32], groups:
     merge_by(WordRule::NeededRuns, height, gates, given, records, groups, extra, areas)
 }
 
-/// As `merge`, by the word rule that is asked for.
+/// As `merge`, by the word rule that is asked for; `EveryRun` is refused with `OldRule`.
 #[allow(clippy::too_many_arguments)]
 pub fn merge_by(rule: WordRule, height: u32, gates: &[u32], given: &[u32], records: &[u32], groups: Groups<'_>, extra: usize, areas: Areas<'_>) -> Merged {
     let mut answer = [0usize; 9];
