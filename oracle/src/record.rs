@@ -2,8 +2,7 @@
 use crate::case::{Case, EMPTY};
 use crate::check;
 use crate::merge::{self, Answer, Merge, Ruled};
-use crate::placer::WordRule;
-use crate::published::{self, Outcome, Part, Stage};
+use crate::published::{self, Outcome, Part, Rust, Stage};
 use crate::random::{self, Random};
 use crate::record_needed;
 use std::collections::HashMap;
@@ -71,7 +70,7 @@ fn build(case: &Case) -> Option<Recorded> {
     if !fits || !case.in_order() || check::input(case) != 0 {
         return None;
     }
-    let (outcome, seen) = published::build(case.height, &published::graph(WordRule::EveryRun, case));
+    let (outcome, seen) = published::build(case.height, &published::graph(Rust::Published, case));
     let (number, stage, stages) = match outcome {
         Outcome::Panicked => panic!("the Rust panics"),
         Outcome::Refused { number, stage } => (number, stage, Vec::new()),
@@ -166,7 +165,7 @@ fn merge_marks(merge: &Merge, ruled: &Ruled) -> u16 {
     let parts = merge.split();
     let (full, seen) = (parts.iter().filter(|part| !part.is_empty()).count(), parts.concat());
     let twice = (1..seen.len()).any(|i| seen[..i].contains(&seen[i]));
-    let graph = published::graph(WordRule::EveryRun, &merge.case);
+    let graph = published::graph(Rust::Published, &merge.case);
     let stages = |part: &Vec<usize>| match published::build_records(merge.case.height, &graph, part).0 {
         Outcome::Whole(stages) => stages.len(),
         _ => usize::MAX,
@@ -209,7 +208,7 @@ fn recorded(merge: &Merge, ruled: &Ruled) -> Recorded {
 }
 
 fn answered(merge: &Merge) -> Ruled {
-    merge::answer(merge, &published::graph(WordRule::EveryRun, &merge.case)).unwrap_or_else(|what| panic!("{what}"))
+    merge::answer(merge, &published::graph(Rust::Published, &merge.case)).unwrap_or_else(|what| panic!("{what}"))
 }
 
 /// Merges of random cases, few of them dull, then crowded ones, then those with a partition that level 1 is too small for.
