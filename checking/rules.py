@@ -216,7 +216,7 @@ class Built:
 
     def plan(self):
         """The stages as (words, cells), each cell with what it does."""
-        return [(words, {position: self.cell(pins, position) for position in pins}) for words, pins in self.stages]
+        return [(words, {position: self.cell(pins, position) for position in sorted(pins)}) for words, pins in self.stages]
 
     def cell(self, pins, position):
         pin, lower = pins[position], position + (1 << position.bit_length() - 1)
