@@ -74,7 +74,11 @@ fn parts(own: &[u8]) -> bool {
 // Stages whose words are recorded: those before the one where the word rules part.
 fn worded(own: &[u8]) -> usize {
     let parted = number(own, PARTED);
-    if parted > 0 { parted - 1 } else { number(own, STAGES) }
+    if parted > 0 {
+        parted - 1
+    } else {
+        number(own, STAGES)
+    }
 }
 
 fn answer_agrees(own: &[u8], a: Answer) -> bool {
@@ -90,6 +94,7 @@ fn goes_on(own: &[u8], a: Answer) -> bool {
     a.stages >= number(own, PARTED)
         && a.stages <= number(own, STAGES)
         && a.words >= number(own, WORDS)
+        && a.words <= number(own, LIMIT)
         && a.cells >= number(own, CELLS)
 }
 
@@ -105,14 +110,7 @@ fn words_agree(own: &[u8], rest: &[u8], words: &[u32]) -> bool {
 }
 
 fn counts_agree(own: &[u8], counted: &[u8], counts: &[u32]) -> bool {
-    holds(
-        counts,
-        counted,
-        worded(own),
-        0,
-        number(own, ROOMS),
-        ROOMS,
-    )
+    holds(counts, counted, worded(own), 0, number(own, ROOMS), ROOMS)
 }
 
 fn plan_agrees(own: &[u8], cells: &[u8], plan: &mut [u32]) -> bool {
@@ -176,8 +174,11 @@ fn built(head: &[u8], own: &[u8], rest: &[u8], input: &[u32]) -> bool {
         &mut counts,
         &mut work,
     );
+    if !answer_agrees(own, a) {
+        return false;
+    }
     clear_loose(own, a, &mut plan, &mut words, &mut counts);
-    answer_agrees(own, a) && areas_agree(own, rest, &mut plan, &words, &counts, &work)
+    areas_agree(own, rest, &mut plan, &words, &counts, &work)
 }
 
 // Counts how much of a plan is compared.
