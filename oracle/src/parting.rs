@@ -157,3 +157,70 @@ pub fn parting(case: &Case, records: &[Vec<u32>], stages: &[Stage]) -> Result<Op
         (_, parted) => Ok(parted),
     }
 }
+
+#[cfg(test)]
+mod tests {
+    use super::*;
+    use crate::case::EMPTY;
+    use crate::check;
+    use crate::published::{self, Outcome, Rust};
+    use crate::random;
+
+    fn built(case: &Case) -> Option<Vec<Stage>> {
+        match published::build(case.height, &published::graph(Rust::Published, case)).0 {
+            Outcome::Whole(stages) => Some(stages),
+            _ => None,
+        }
+    }
+
+    fn read(case: &Case, stages: &[Stage]) -> Result<Option<usize>, String> {
+        parting(case, &case.split(), stages)
+    }
+
+    // The scope document's examples that the Rust builds.
+    #[test]
+    fn examples() {
+        let parted = |height: u32, gates: &[u32], records: Vec<u32>| {
+            let case = Case { height, gates: gates.to_vec(), given: Vec::new(), records, rooms: 0, beyond: [0; 4], old: 0 };
+            read(&case, &built(&case).unwrap())
+        };
+        let gates = [EMPTY, EMPTY, EMPTY, EMPTY, EMPTY, EMPTY, EMPTY, EMPTY, EMPTY, EMPTY, 2, 4, 6, 9, 10, 12];
+        assert_eq!(parted(6, &gates, vec![1, 14]), Ok(Some(1)));
+        assert_eq!(parted(13, &[EMPTY; 4], vec![1, 2]), Ok(Some(1)));
+        // The one run is written for its pins.
+        assert_eq!(parted(6, &[EMPTY; 66], (1..=31).flat_map(|pin| [1, 2 * pin]).collect()), Ok(None));
+    }
+
+    // Stages that the rules can't have made are told from those that they can.
+    #[test]
+    fn nothing_else_is_read() {
+        let mut told = [0; 3];
+        for index in 0..600 {
+            let case = random::case(3, index, 7);
+            let stages = if check::input(&case) == 0 { built(&case) } else { None };
+            let mut stages = match stages {
+                Some(stages) if !stages.is_empty() => stages,
+                _ => continue,
+            };
+            let parted = read(&case, &stages).unwrap();
+            if let Some(at) = parted {
+                // A word less, of an idle run or of the last.
+                let word = stages[at - 1].words.pop().unwrap();
+                assert!(read(&case, &stages).is_err(), "case {index}");
+                stages[at - 1].words.push(word);
+                told[0] += 1;
+            }
+            if let Some(at) = stages.iter().position(|stage| stage.words.len() > 1 && stage.words[0] != stage.words[1]) {
+                stages[at].words.swap(0, 1);
+                assert!(read(&case, &stages).is_err(), "case {index}");
+                stages[at].words.swap(0, 1);
+                told[1] += 1;
+            }
+            // The last stage missing: somebody waits.
+            stages.pop();
+            assert!(read(&case, &stages).is_err(), "case {index}");
+            told[2] += 1;
+        }
+        assert!(told.iter().all(|&n| n > 50), "{told:?}");
+    }
+}
