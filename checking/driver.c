@@ -2,9 +2,9 @@
  * byte first.
  *
  * A question begins with fourteen: 0 for a build, 1 for a check, 2 for a replay over a plan, 3 for a plan mended, 4 for a build explained; the height; for a build
- * and an explained one the word rule, else the stages; for these two the rooms, for a replay the lines, for a plan mended the numbers of its list; for a replay the
- * bytes that are lent for what comes out, for a plan mended the numbers of its work, for a build explained those of its list; how many numbers gates, given,
- * records, plan, words, counts, driven, start and recording have (0 for those that aren't asked for); then these lists.
+ * and an explained one the rooms, else the stages; for a replay the lines, for a plan mended and a build explained the numbers of its list; for a replay the
+ * bytes that are lent for what comes out, for a plan mended the numbers of its work; how many numbers gates, given, records, plan, words, counts, driven, start
+ * and recording have (0 for those that aren't asked for); then these lists.
  * A build is answered with its number, stages and words, and after 0 with plan, words and counts of that size. The others are answered with the numbers of their
  * answer, and a 1 where something lent is not as the header says afterwards, 0 where all is; a replay after 0 also with what came out and the end bits, a plan
  * mended after 0 with plan and changes, a build explained with its lines.
@@ -55,12 +55,12 @@ static void take(uint32_t *to, size_t count) {
         stop("the input ends within a question");
 }
 
-static void build(uint32_t height, uint32_t rule, size_t rooms, uint32_t *const list[], const uint32_t *size) {
+static void build(uint32_t height, size_t rooms, uint32_t *const list[], const uint32_t *size) {
     size_t answer[PLACER_BUILD_LEN], plan_len = placer_plan_size(height, rooms), words_len = placer_words_size(height);
     size_t work_len = placer_build_work_size(size[0], size[2]);
     uint32_t *plan = numbers(plan_len), *words = numbers(words_len), *counts = numbers(rooms), *work = numbers(work_len);
-    uint32_t number = placer_build_by(rule, height, list[0], size[0], list[1], size[1], list[2], size[2], plan, plan_len, words, words_len, counts, rooms,
-                                      work, work_len, answer, PLACER_BUILD_LEN);
+    uint32_t number = placer_build(height, list[0], size[0], list[1], size[1], list[2], size[2], plan, plan_len, words, words_len, counts, rooms, work,
+                                   work_len, answer, PLACER_BUILD_LEN);
     size_t stages = answer[PLACER_BUILD_STAGES];
     uint32_t head[3] = {number, (uint32_t)stages, (uint32_t)answer[PLACER_BUILD_WORDS]};
     give(head, 3);
@@ -150,16 +150,16 @@ static void mend(uint32_t height, size_t stages, size_t list_len, size_t work_le
 }
 
 /* A build, and the same explained: their areas and answers are the same, but where the list is too short. */
-static void explain(uint32_t height, uint32_t rule, size_t rooms, size_t list_len, uint32_t *const list[], const uint32_t *size) {
+static void explain(uint32_t height, size_t rooms, size_t list_len, uint32_t *const list[], const uint32_t *size) {
     size_t answer[PLACER_EXPLAIN_LEN], built[PLACER_BUILD_LEN], length[4] = {placer_plan_size(height, rooms), placer_words_size(height), rooms,
                                                                              placer_build_work_size(size[0], size[2])};
     uint32_t *area[4], *same[4], *lines = numbers(list_len);
     for (int i = 0; i < 4; i++)
         area[i] = numbers(length[i]), same[i] = numbers(length[i]);
-    uint32_t number = explain_build_by(rule, height, list[0], size[0], list[1], size[1], list[2], size[2], area[0], length[0], area[1], length[1], area[2],
-                                       length[2], area[3], length[3], lines, list_len, answer, PLACER_EXPLAIN_LEN);
-    uint32_t alone = placer_build_by(rule, height, list[0], size[0], list[1], size[1], list[2], size[2], same[0], length[0], same[1], length[1], same[2],
-                                     length[2], same[3], length[3], built, PLACER_BUILD_LEN);
+    uint32_t number = explain_build(height, list[0], size[0], list[1], size[1], list[2], size[2], area[0], length[0], area[1], length[1], area[2], length[2],
+                                    area[3], length[3], lines, list_len, answer, PLACER_EXPLAIN_LEN);
+    uint32_t alone = placer_build(height, list[0], size[0], list[1], size[1], list[2], size[2], same[0], length[0], same[1], length[1], same[2], length[2],
+                                  same[3], length[3], built, PLACER_BUILD_LEN);
     size_t told = answer[PLACER_EXPLAIN_LINES] * PLACER_LINE;
     int right = answer[PLACER_EXPLAIN_NUMBER] == number && told <= list_len && holds(lines + told, 0, 0, 4 * (list_len + BEHIND - told));
     for (int i = 0; i < 4; i++) {
@@ -183,7 +183,7 @@ int main(void) {
             take(list[i], head[HEAD + i]);
         }
         if (head[0] == 0)
-            build(head[1], head[2], head[3], list, head + HEAD);
+            build(head[1], head[2], list, head + HEAD);
         else if (head[0] == 1)
             check(head[1], head[2], list, head + HEAD);
         else if (head[0] == 2)
@@ -191,7 +191,7 @@ int main(void) {
         else if (head[0] == 3)
             mend(head[1], head[2], head[3], head[4], list, head + HEAD);
         else
-            explain(head[1], head[2], head[3], head[4], list, head + HEAD);
+            explain(head[1], head[2], head[3], list, head + HEAD);
         if (fflush(stdout) != 0)
             stop("nobody reads on");
         for (int i = 0; i < LISTS; i++)

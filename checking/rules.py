@@ -1,10 +1,10 @@
 """What the placer does with a job, and why it refuses one: rules 1 to 11 and the reservation, written from the scope document's words. It shares nothing with
-the library, and is slow: for jobs of some hundred pins.
+the library, and is slow: for jobs of some hundred pins. It has both word rules: the library builds by the new one, and plans by the old one are still plans.
 
 A job is as in checking/checker.py: two literals a pin from pin 0 on, both LEAF for a leaf; given pins; records as one list of numbers. It has passed the checks 1 to
 5 and 23.
 """
-from checker import endpoints, is_leaf, reservation
+from checker import endpoints, is_leaf, number_of, reservation
 
 NEEDED_RUNS, EVERY_RUN = 0, 1  # the word rules
 TAKEN_BACK = 1  # the first number of such a line
@@ -180,6 +180,7 @@ class Built:
     """A build: its number and refused stage, the lines that explain it, and the stages as (words, cells of pins), none where it is refused."""
 
     def __init__(self, rule, height, gates, given, records, rooms):
+        self.gates = gates
         self.number = self.stage = 0
         self.lines, self.stages = [], []
         limit = 1 << height - 5
@@ -212,6 +213,16 @@ class Built:
                 place = waiting.index(pin)
                 waiting[place] = waiting[-1]
                 waiting.pop()
+
+    def plan(self):
+        """The stages as (words, cells), each cell with what it does."""
+        return [(words, {position: self.cell(pins, position) for position in sorted(pins)}) for words, pins in self.stages]
+
+    def cell(self, pins, position):
+        pin, lower = pins[position], position + (1 << position.bit_length() - 1)
+        if pins.get(lower, pin) == pin:  # it loads or copies
+            return number_of(pin)
+        return number_of(pin, 1, self.gates[2 * pin] % 2, self.gates[2 * pin + 1] % 2)
 
     def refused(self, number, stage, *counts):
         self.number, self.stage, self.stages = number, stage, []

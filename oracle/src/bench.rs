@@ -1,10 +1,10 @@
-//! Both builds on the same large inputs, in turns, and the ratio of their medians.
+//! The published Rust and the library on the same large inputs, in turns, and the ratio of their medians.
 use crate::case::Case;
 use crate::check;
 use crate::compare::compare;
 use crate::merge;
-use crate::placer::{self, Areas, WordRule};
-use crate::published;
+use crate::placer::{self, Areas};
+use crate::published::{self, Rust};
 use crate::random::{self, Random};
 use std::time::Instant;
 
@@ -35,7 +35,7 @@ pub fn median(mut seconds: Vec<f64>) -> f64 {
 }
 
 fn measure(case: &Case, stages: usize, turns: usize) -> (f64, f64) {
-    let graph = published::graph(WordRule::EveryRun, case);
+    let graph = published::graph(Rust::Published, case);
     let mut areas = case.sizes(stages).map(|size| vec![1u32; size]);
     let (mut theirs, mut ours) = (Vec::new(), Vec::new());
     for _ in 0..turns {
@@ -43,7 +43,7 @@ fn measure(case: &Case, stages: usize, turns: usize) -> (f64, f64) {
         let [plan, words, counts, work] = &mut areas;
         let lent = Areas { plan, words, counts, work };
         let start = Instant::now();
-        placer::build_by(WordRule::EveryRun, case.height, &case.gates, &case.given, &case.records, lent);
+        placer::build(case.height, &case.gates, &case.given, &case.records, lent);
         ours.push(start.elapsed().as_secs_f64());
     }
     (median(theirs), median(ours))
@@ -60,7 +60,7 @@ pub fn bench(turns: usize) -> bool {
     println!("cleared first: no area is cleared for the library, which clears what it is lent within its time; the Rust takes new memory within its own");
     for (name, case) in inputs() {
         assert_eq!(check::input(&case), 0);
-        match compare(WordRule::EveryRun, &case) {
+        match compare(&case) {
             Err((what, _)) => {
                 println!("{name}: a difference: {what}");
                 return false;

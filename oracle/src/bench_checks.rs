@@ -3,7 +3,7 @@ use crate::bench::{median, outputs};
 use crate::case::{Case, EMPTY};
 use crate::check;
 use crate::order;
-use crate::placer::{self, Answer, Areas, WordRule};
+use crate::placer::{self, Answer, Areas};
 use crate::random::{self, Random};
 use std::time::Instant;
 
@@ -80,7 +80,7 @@ fn once(case: &Case, areas: &mut [Vec<u32>; 4]) -> (f64, Answer) {
     let [plan, words, counts, work] = areas;
     let lent = Areas { plan, words, counts, work };
     let start = Instant::now();
-    let answer = placer::build_by(WordRule::EveryRun, case.height, &case.gates, &case.given, &case.records, lent);
+    let answer = placer::build(case.height, &case.gates, &case.given, &case.records, lent);
     (start.elapsed().as_secs_f64(), answer)
 }
 

@@ -1,10 +1,10 @@
-//! One merge to both sides, and what must be the same.
+//! One merge to the library, to the published Rust and to the Rust with one line changed, and what must be the same.
 use crate::case::{Sizes, EMPTY};
 use crate::check;
 use crate::compare::AROUND;
-use crate::merge::{self, Answer, Merge};
-use crate::placer::{self, Areas, Groups, Merged, WordRule};
-use crate::published;
+use crate::merge::{self, Answer, Merge, Ruled};
+use crate::placer::{self, Areas, Groups, Merged};
+use crate::published::{self, Rust};
 use crate::random::Random;
 use std::panic::{catch_unwind, AssertUnwindSafe};
 
@@ -23,6 +23,7 @@ pub struct Agreed {
     pub failed: bool,
     /// A block was not begun.
     pub not_begun: bool,
+    pub decided: Decided,
 }
 
 fn refused(number: u32, stage: usize, refused: usize) -> Merged {
@@ -76,19 +77,19 @@ fn inner(numbers: &mut [u32]) -> &mut [u32] {
 }
 
 /// What the library made of a merge: its answer, and all that is lent.
-fn library(rule: WordRule, merge: &Merge, before: &Lent) -> (Merged, Lent) {
+fn library(merge: &Merge, before: &Lent) -> (Merged, Lent) {
     let mut after = before.clone();
     let [indices, lengths, stages, plan, words, counts, work] = &mut after;
     let groups = Groups { indices: inner(indices), lengths: inner(lengths), stages: inner(stages) };
     let areas = Areas { plan: inner(plan), words: inner(words), counts: inner(counts), work: inner(work) };
     let case = &merge.case;
-    let answer = placer::merge_by(rule, case.height, &case.gates, &case.given, &case.records, groups, merge.extra, areas);
+    let answer = placer::merge(case.height, &case.gates, &case.given, &case.records, groups, merge.extra, areas);
     (answer, after)
 }
 
 /// The library's answer to a merge in so many rooms, with the indices, lengths and stages that it leaves.
-pub fn merged(rule: WordRule, merge: &Merge, rooms: usize) -> (Merged, [Vec<u32>; 3]) {
-    let (answer, mut after) = library(rule, merge, &filled(merge, merge.sizes(rooms)));
+pub fn merged(merge: &Merge, rooms: usize) -> (Merged, [Vec<u32>; 3]) {
+    let (answer, mut after) = library(merge, &filled(merge, merge.sizes(rooms)));
     (answer, [0, 1, 2].map(|area| inner(&mut after[area]).to_vec()))
 }
 
@@ -103,50 +104,123 @@ fn filled(merge: &Merge, lent: Sizes) -> Lent {
     out
 }
 
-/// Err says what differs, and what the areas' sizes are.
-pub fn compare(rule: WordRule, merge: &Merge) -> Result<Agreed, (String, Sizes)> {
-    let (mut stages, mut not_begun, mut answer) = (1, false, None);
-    if check::merge_input(merge) {
-        let graph = published::graph(rule, &merge.case);
-        let ruled = catch_unwind(AssertUnwindSafe(|| merge::answer(merge, &graph)))
-            .unwrap_or_else(|_| Err("the Rust panics on a partition or a union".into()))
-            .map_err(|what| (what, merge.sizes(stages)))?;
-        stages = ruled.deepest;
-        not_begun = ruled.not_begun;
+/// How much of a merge the published Rust decides.
+#[derive(Clone, Copy, Debug, PartialEq)]
+pub enum Decided {
+    /// Nothing: the checks refuse the merge, and it isn't asked.
+    Unasked,
+    /// All: each build that the merge makes is the same by both rules, or the refusal is.
+    Whole,
+    /// That the merge is not refused, or in no partition before the one that the Rust refuses.
+    Bounds,
+}
+
+/// What a Rust makes of a merge, in rooms that follow from its own builds or are given.
+fn ruled(rust: Rust, merge: &Merge, rooms: Option<usize>) -> Result<Ruled, String> {
+    let graph = published::graph(rust, &merge.case);
+    catch_unwind(AssertUnwindSafe(|| {
+        let ruled = merge::answer(merge, &graph)?;
+        let rooms = rooms.unwrap_or_else(|| rooms_of(merge, ruled.deepest));
         // With fewer rooms than the Rust's builds take, the rules alone tell what is to come.
-        let rooms = merge.sizes(stages)[0] / merge.case.stage_size();
-        answer = Some(if rooms < stages { merge::by_the_rules(merge, &graph, rooms).answer } else { ruled.answer });
+        Ok(if rooms < ruled.deepest { Ruled { deepest: ruled.deepest, ..merge::by_the_rules(merge, &graph, rooms) } } else { ruled })
+    }))
+    .unwrap_or_else(|_| Err("the Rust panics on a partition or a union, or its stages are not as its rules are read".into()))
+}
+
+fn rooms_of(merge: &Merge, stages: usize) -> usize {
+    merge.sizes(stages)[0] / merge.case.stage_size()
+}
+
+/// What is not as a Rust that decides all has it, if anything.
+fn differs(merge: &Merge, ruled: &Ruled, lent: Sizes, before: &Lent, given: &Merged, after: &Lent) -> Option<String> {
+    let wanted = expected(&ruled.answer);
+    if *given != wanted {
+        return Some(format!("the answer is {given:?}, not {wanted:?}"));
     }
-    let lent = merge.sizes(stages);
-    let fail = |what: String| Err((what, lent));
-    let wanted = match (check::merge_number(merge, lent), &answer) {
-        (0, Some(answer)) => expected(answer),
-        (0, None) => unreachable!(),
-        (number, _) => Merged { pin: check::pin_shown(number, &merge.case.gates), ..refused(number, 0, 0) },
-    };
-    let before = filled(merge, lent);
-    let copy = merge.clone();
-    let (given, after) = library(rule, merge, &before);
-    if given != wanted {
-        return fail(format!("the answer is {given:?}, not {wanted:?}"));
-    }
-    if copy != *merge {
-        return fail("an input was changed".into());
-    }
-    let right = left(merge, wanted.number, answer.as_ref(), lent, &before);
+    changed(&left(merge, wanted.number, Some(&ruled.answer), lent, before), after)
+}
+
+/// The first number of what is lent that is not right.
+fn changed(right: &Lent, after: &Lent) -> Option<String> {
     for area in 0..right.len() {
         if let Some(i) = (0..right[area].len()).find(|&i| right[area][i] != after[area][i]) {
-            let at = i as i64 - AROUND as i64;
-            return fail(format!("{} {at} is {}, not {}", NAMES[area], after[area][i], right[area][i]));
+            return Some(format!("{} {} is {}, not {}", NAMES[area], i as i64 - AROUND as i64, after[area][i], right[area][i]));
         }
     }
+    None
+}
+
+/// What doesn't follow from the published Rust's answer where it doesn't decide all: what it accepts the new rule accepts.
+fn out_of_bounds(answer: &Answer, given: &Merged) -> Option<String> {
+    let first = match answer {
+        Answer::Whole { .. } => usize::MAX,
+        Answer::Refused { part, .. } => *part,
+    };
+    // The partition that the Rust refuses is not refused with 6, since the Rust would have done so too.
+    let later = given.refused > first || given.refused == first && given.number != 6;
+    if given.number == 0 || (6..=9).contains(&given.number) && later {
+        return None;
+    }
+    Some(format!("the answer is {given:?}, where the Rust {}", if first == usize::MAX { "merges".into() } else { format!("refuses partition {first}") }))
+}
+
+/// Err says what differs, and what the areas' sizes are.
+pub fn compare(merge: &Merge) -> Result<Agreed, (String, Sizes)> {
+    let at_first = merge.sizes(1);
+    let valid = check::merge_input(merge);
+    let theirs = if valid { Some(ruled(Rust::Published, merge, None).map_err(|what| (what, at_first))?) } else { None };
+    let lent = merge.sizes(theirs.as_ref().map_or(1, |ruled| ruled.deepest));
+    let fail = |what: String| (what, lent);
+    let rooms = lent[0] / merge.case.stage_size();
+    let other = if valid { Some(ruled(Rust::Changed, merge, Some(rooms)).map_err(fail)?) } else { None };
+    let before = filled(merge, lent);
+    let copy = merge.clone();
+    let (given, after) = library(merge, &before);
+    if copy != *merge {
+        return Err(fail("an input was changed".into()));
+    }
+    let checked = check::merge_number(merge, lent);
+    let mut agreed = Agreed { number: given.number, partitions: merge.list().1.len(), left: given.partitions, trials: given.trials, failed: false, not_begun: false, decided: Decided::Unasked };
+    let (theirs, other) = match (theirs, other) {
+        (Some(theirs), Some(other)) if checked == 0 => (theirs, other),
+        _ => {
+            let wanted = Merged { pin: check::pin_shown(checked, &merge.case.gates), ..refused(checked, 0, 0) };
+            return match changed(&before, &after) {
+                _ if given != wanted => Err(fail(format!("the answer is {given:?}, not {wanted:?}"))),
+                Some(what) => Err(fail(what)),
+                None => Ok(agreed),
+            };
+        }
+    };
+    let (decided, wrong) = if theirs.decided {
+        (Decided::Whole, differs(merge, &theirs, lent, &before, &given, &after))
+    } else {
+        (Decided::Bounds, out_of_bounds(&theirs.answer, &given))
+    };
+    if let Some(what) = wrong {
+        return Err(fail(format!("beside the published Rust: {what}")));
+    }
+    if let Some(what) = differs(merge, &other, lent, &before, &given, &after) {
+        return Err(fail(format!("beside the Rust with one line changed: {what}")));
+    }
     let full = merge.parts.iter().filter(|part| !part.is_empty()).count();
-    Ok(Agreed {
-        number: wanted.number,
-        partitions: merge.list().1.len(),
-        left: wanted.partitions,
-        trials: wanted.trials,
-        failed: wanted.number == 0 && wanted.trials > full - wanted.partitions,
-        not_begun: wanted.number == 0 && not_begun,
-    })
+    agreed.decided = decided;
+    agreed.failed = given.number == 0 && given.trials > full - given.partitions;
+    agreed.not_begun = given.number == 0 && other.not_begun;
+    Ok(agreed)
+}
+
+#[cfg(test)]
+mod tests {
+    use super::*;
+
+    #[test]
+    fn what_follows_where_a_build_parts() {
+        let whole = Answer::Whole { parts: Vec::new(), trials: 0 };
+        let second = Answer::Refused { number: 7, stage: 3, part: 2 };
+        let odd = |answer: &Answer, number: u32, part: usize| out_of_bounds(answer, &refused(number, 1, part)).is_some();
+        assert!(!odd(&whole, 0, 0) && odd(&whole, 7, 1) && odd(&whole, 9, 4));
+        assert!(!odd(&second, 0, 0) && !odd(&second, 7, 2) && !odd(&second, 8, 2) && !odd(&second, 6, 3) && !odd(&second, 9, 3));
+        assert!(odd(&second, 6, 2) && odd(&second, 7, 1) && odd(&second, 10, 3));
+    }
 }

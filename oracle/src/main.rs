@@ -8,6 +8,7 @@ mod compare_merge;
 mod loops;
 mod merge;
 mod order;
+mod parting;
 #[allow(dead_code)] // builds and merges alone are compared
 #[path = "../../ffi/rust/placer.rs"]
 mod placer;
@@ -19,9 +20,7 @@ mod rules;
 mod run;
 mod shrink;
 
-use placer::WordRule;
-
-const USAGE: &str = "usage: oracle run SECONDS BUILDS MERGES SEED LOW HIGH RULE | oracle loops COUNT SEED MOST |
+const USAGE: &str = "usage: oracle run SECONDS BUILDS MERGES SEED LOW HIGH | oracle loops COUNT SEED MOST |
        oracle rules COUNT SEED LOW HIGH | oracle bench TURNS [checks] | oracle record VECTORS RECORDED";
 
 /// The published traversal calls itself as deep as the graph is.
@@ -38,22 +37,11 @@ fn height(word: &str) -> u32 {
     number(word).clamp(6, 13) as u32
 }
 
-fn rule(word: &str) -> WordRule {
-    match word {
-        "every" => WordRule::EveryRun,
-        "needed" => WordRule::NeededRuns,
-        _ => {
-            eprintln!("oracle: '{word}' is no word rule: every or needed");
-            std::process::exit(2)
-        }
-    }
-}
-
 fn work(words: &[String]) -> bool {
     let words: Vec<&str> = words.iter().map(String::as_str).collect();
     match words[..] {
-        ["run", seconds, builds, merges, seed, low, high, by] => {
-            run::run(rule(by), number(seconds), [number(builds), number(merges)], number(seed), height(low), height(high))
+        ["run", seconds, builds, merges, seed, low, high] => {
+            run::run(number(seconds), [number(builds), number(merges)], number(seed), height(low), height(high))
         }
         ["loops", count, seed, most] => loops::loops(number(count), number(seed), number(most) as usize),
         ["rules", count, seed, low, high] => rules::rules(number(count), number(seed), height(low), height(high)),

@@ -1,6 +1,7 @@
 //! Merges: random ones, the Rust's answers, and the unions that it examines.
 use crate::case::{joined, Case, Sizes, EMPTY};
-use crate::published::{self, Graph, Merged, Outcome, Part};
+use crate::parting::parting;
+use crate::published::{self, Graph, Merged, Outcome, Part, Rust};
 use crate::random::{self, Random};
 use std::collections::HashSet;
 
@@ -28,6 +29,9 @@ pub struct Ruled {
     pub deepest: usize,
     /// A round that ended with unions in blocks that were not begun.
     pub not_begun: bool,
+    /// Whether every build that the merge makes, of a partition or a union, is the same by both word rules: whole without parting, or refused
+    /// with 6 or 8. Then the merge is.
+    pub decided: bool,
 }
 
 fn spread(r: &mut Random, case: Case, many: usize) -> Merge {
@@ -140,9 +144,11 @@ pub fn reach(case: &Case, records: &[Vec<u32>], chosen: &[usize]) -> usize {
 /// The Rust's builds, as so many rooms would have them.
 struct Builds<'a> {
     case: &'a Case,
+    records: Vec<Vec<u32>>,
     graph: &'a Graph,
     rooms: usize,
     deepest: usize,
+    decided: bool,
 }
 
 impl Builds<'_> {
@@ -154,6 +160,15 @@ impl Builds<'_> {
             Outcome::Panicked => panic!("the Rust panics on a partition"),
         };
         self.deepest = self.deepest.max(taken);
+        // The Rust with one line changed has nothing to part from.
+        self.decided &= self.graph.rust == Rust::Changed || match &outcome {
+            Outcome::Whole(stages) => {
+                let chosen: Vec<Vec<u32>> = records.iter().map(|&record| self.records[record].clone()).collect();
+                parting(self.case, &chosen, stages).unwrap_or_else(|what| panic!("{what}")).is_none()
+            }
+            Outcome::Refused { number, .. } => *number != 7,
+            Outcome::Panicked => unreachable!(),
+        };
         match outcome {
             _ if taken > self.rooms => Err((9, self.rooms + 1)),
             Outcome::Whole(stages) => Ok(Part {
@@ -181,11 +196,13 @@ fn begun(rank: usize, limit: usize) -> bool {
 /// The scope document's merging over the Rust's builds, with so many rooms lent.
 pub fn by_the_rules(merge: &Merge, graph: &Graph, rooms: usize) -> Ruled {
     let (case, records, given) = (&merge.case, merge.case.split(), merge.split());
-    let mut builds = Builds { case, graph, rooms, deepest: 0 };
+    let mut builds = Builds { case, records: records.clone(), graph, rooms, deepest: 0, decided: true };
     let own: Vec<_> = given.iter().map(|part| builds.build(part)).collect();
     if let Some(part) = own.iter().position(Result::is_err) {
         let (number, stage) = *own[part].as_ref().unwrap_err();
-        return Ruled { answer: Answer::Refused { number, stage, part: part + 1 }, deepest: builds.deepest, not_begun: false };
+        // The partitions before are accepted by the new rule too, and those behind don't matter.
+        let decided = builds.decided || number == 6 || number == 8;
+        return Ruled { answer: Answer::Refused { number, stage, part: part + 1 }, deepest: builds.deepest, not_begun: false, decided };
     }
     let mut parts: Vec<Part> = own.into_iter().map(Result::unwrap).collect();
     let most = parts.iter().map(|part| part.stages).max().unwrap() + merge.extra;
@@ -227,7 +244,7 @@ pub fn by_the_rules(merge: &Merge, graph: &Graph, rooms: usize) -> Ruled {
         }
     }
     out.sort_by_key(|part| std::cmp::Reverse(part.stages));
-    Ruled { answer: Answer::Whole { parts: out, trials }, deepest: builds.deepest, not_begun }
+    Ruled { answer: Answer::Whole { parts: out, trials }, deepest: builds.deepest, not_begun, decided: builds.decided }
 }
 
 /// What the Rust answers to a merge that passes the checks, with the unions that the rules examine; an error where the rules, over its own

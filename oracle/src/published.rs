@@ -1,12 +1,20 @@
 //! The published Rust, on a case that passes the checks; and the same with rule 8's loop ended where no needed waiting pin is left, which
-//! is the rule of the needed runs.
+//! is the library's word rule.
 use crate::case::{Case, EMPTY};
-use crate::placer::WordRule;
 use clilog::Seen;
 use gem::aig::{DriverType, RAMBlock, AIG, DFF};
 use gem::staging::StagedAIG;
 use std::panic::{catch_unwind, AssertUnwindSafe};
 
+/// Which of the two is asked.
+#[derive(Clone, Copy, Debug, PartialEq)]
+pub enum Rust {
+    Published,
+    /// With the one line changed.
+    Changed,
+}
+
+#[derive(PartialEq)]
 pub struct Stage {
     pub rows: Vec<Vec<usize>>,
     pub words: Vec<usize>,
@@ -33,9 +41,9 @@ pub enum Merged {
     Panicked,
 }
 
-/// The graph in the published form, with the word rule to build it by. Each record has a staged endpoint of its own.
+/// The graph in the published form, with the Rust that is to build it. Each record has a staged endpoint of its own.
 pub struct Graph {
-    rule: WordRule,
+    pub rust: Rust,
     aig: AIG,
     staged: StagedAIG,
     /// From a record's index to its endpoint's, and back.
@@ -96,23 +104,23 @@ mod needed {
 }
 
 fn build_one(height: u32, graph: &Graph, endpoints: &Vec<usize>) -> Option<Vec<Stage>> {
-    match graph.rule {
-        WordRule::EveryRun => every::build_one(height, graph, endpoints),
-        WordRule::NeededRuns => needed::build_one(height, graph, endpoints),
+    match graph.rust {
+        Rust::Published => every::build_one(height, graph, endpoints),
+        Rust::Changed => needed::build_one(height, graph, endpoints),
     }
 }
 
 pub fn timed(height: u32, graph: &Graph) -> f64 {
-    match graph.rule {
-        WordRule::EveryRun => every::timed(height, graph),
-        WordRule::NeededRuns => needed::timed(height, graph),
+    match graph.rust {
+        Rust::Published => every::timed(height, graph),
+        Rust::Changed => needed::timed(height, graph),
     }
 }
 
 fn process(height: u32, graph: &Graph, parts: Vec<Vec<usize>>, extra: usize) -> Option<Vec<(Vec<usize>, usize, usize, usize)>> {
-    match graph.rule {
-        WordRule::EveryRun => every::process(height, graph, parts, extra),
-        WordRule::NeededRuns => needed::process(height, graph, parts, extra),
+    match graph.rust {
+        Rust::Published => every::process(height, graph, parts, extra),
+        Rust::Changed => needed::process(height, graph, parts, extra),
     }
 }
 
@@ -130,7 +138,7 @@ fn memory(literals: &[u32]) -> RAMBlock {
     ram
 }
 
-pub fn graph(rule: WordRule, case: &Case) -> Graph {
+pub fn graph(rust: Rust, case: &Case) -> Graph {
     let mut aig = AIG { num_aigpins: case.pins(), ..Default::default() };
     for (pin, gate) in case.gates.chunks(2).enumerate() {
         aig.drivers.push(match (pin, gate[0]) {
@@ -175,7 +183,7 @@ pub fn graph(rule: WordRule, case: &Case) -> Graph {
     for (e, &r) in record.iter().enumerate() {
         endpoint[r] = e;
     }
-    Graph { rule, aig, staged, endpoint, record }
+    Graph { rust, aig, staged, endpoint, record }
 }
 
 /// The published `None` says nothing; its trace messages tell the scope document's number and stage.

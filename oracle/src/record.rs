@@ -1,9 +1,12 @@
-//! Recorded answers of the Rust for crates/try_vectors, as numbers of 16 bits: builds, then merges; these in the text of PROTOCOL.md too.
+//! Recorded answers for crates/try_vectors, as numbers of 16 bits: builds, then merges; first what the published Rust decides, builds up to the stage
+//! where the word rules part, then whole what it doesn't decide whole, by the Rust with one line changed. The published Rust's merges in the text of
+//! PROTOCOL.md too.
 use crate::case::{Case, EMPTY};
 use crate::check;
+use crate::compare::stages_taken;
 use crate::merge::{self, Answer, Merge, Ruled};
-use crate::placer::WordRule;
-use crate::published::{self, Outcome, Part, Stage};
+use crate::parting::parting;
+use crate::published::{self, Outcome, Part, Rust, Stage};
 use crate::random::{self, Random};
 use crate::record_needed;
 use std::collections::HashMap;
@@ -22,12 +25,13 @@ const MOST_PARTITIONS: usize = 64;
 const MOST_PLAN: usize = 32_768;
 const MOST_WORK: usize = 25_600;
 
-/// The numbers of a build's head; so many zeros end the builds.
-const HEAD: usize = 15;
+/// The numbers of a build's head and of a merge's; so many zeros end a list of them.
+const HEAD: usize = 17;
+const MERGE_HEAD: usize = 20;
 
-const BUILDS: usize = 400;
+const BUILDS: usize = 300;
 /// At most so many builds that are alike: of one height, number and marks.
-const ALIKE: usize = 6;
+const ALIKE: usize = 4;
 const MOST_BYTES: usize = 800_000;
 
 /// Marks of a build, by bit.
@@ -44,6 +48,10 @@ struct Recorded {
     height: u32,
     number: u32,
     marks: u16,
+    /// Stages whose cells and whose words are recorded.
+    stages: [usize; 2],
+    /// Whether that is all.
+    whole: bool,
     numbers: Vec<u16>,
 }
 
@@ -64,36 +72,50 @@ fn cells(case: &Case, stages: &[Stage]) -> Vec<u16> {
     out
 }
 
-/// A build in that form; None if it is damaged, too large or not in order.
-fn build(case: &Case) -> Option<Recorded> {
-    let fits = case.pins() <= MOST_PINS && case.records.len() <= MOST_RECORDS && case.given.len() <= MOST_GIVEN;
-    // Those recorded have gates in order, as when all others were refused: the same builds must give the same plans.
-    if !fits || !case.in_order() || check::input(case) != 0 {
-        return None;
-    }
-    let (outcome, seen) = published::build(case.height, &published::graph(WordRule::EveryRun, case));
-    let (number, stage, stages) = match outcome {
+/// Whether there is room for a build, and gates are in order, as when all others were refused: the same builds must give the same plans.
+fn fits(case: &Case) -> bool {
+    let small = case.pins() <= MOST_PINS && case.records.len() <= MOST_RECORDS && case.given.len() <= MOST_GIVEN;
+    small && case.in_order() && check::input(case) == 0
+}
+
+/// A build in that form, as far as this Rust decides it; None if it doesn't decide even the answer, or the build is too large.
+fn build(case: &Case, rust: Rust) -> Option<Recorded> {
+    let (outcome, seen) = published::build(case.height, &published::graph(rust, case));
+    let taken = stages_taken(Some(&outcome));
+    // Too few rooms where the case says so: 9 in the stage behind the last.
+    let rooms = (taken as i64 + case.rooms).max(0) as usize;
+    let parted = match &outcome {
+        Outcome::Whole(stages) if rust == Rust::Published => parting(case, &case.split(), stages).unwrap_or_else(|what| panic!("{what}")).unwrap_or(0),
+        Outcome::Refused { number: 7, .. } if rust == Rust::Published => return None,
         Outcome::Panicked => panic!("the Rust panics"),
+        _ => 0,
+    };
+    let (number, stage, mut stages) = match outcome {
+        _ if taken > rooms && parted > 0 && parted <= rooms => return None,
+        _ if taken > rooms => (9, rooms + 1, Vec::new()),
         Outcome::Refused { number, stage } => (number, stage, Vec::new()),
         Outcome::Whole(stages) => (0, 0, stages),
+        Outcome::Panicked => unreachable!(),
     };
-    // Too few rooms where the case says so: 9 in the stage behind the last.
-    let taken = stages.len().max(stage);
-    let rooms = (taken as i64 + case.rooms).max(0) as usize;
-    let (number, stage, stages) = if taken > rooms { (9, rooms + 1, Vec::new()) } else { (number, stage, stages) };
     if rooms > MOST_ROOMS {
         return None;
     }
+    let parted = if number == 0 { parted } else { 0 };
+    let (most, whole) = (stages.len(), number == 0 && parted == 0);
+    if parted > 0 {
+        stages.truncate(parted);
+    }
+    let worded = if parted > 0 { &stages[..parted - 1] } else { &stages[..] };
     let mut marks = 0;
     marks |= TAKEN_BACK * (seen.reversed > 0) as u16;
-    marks |= TWICE * stages.iter().any(twice) as u16;
+    marks |= TWICE * worded.iter().any(twice) as u16;
     marks |= SEVERAL * (stages.len() > 1) as u16;
     marks |= GIVEN * !case.given.is_empty() as u16;
     for record in case.split() {
         marks |= KIND << (record[0] - 1);
     }
-    let words: Vec<u16> = stages.iter().flat_map(|stage| stage.words.iter().map(|&word| word as u16)).collect();
-    let counts: Vec<u16> = stages.iter().map(|stage| stage.words.len() as u16).collect();
+    let words: Vec<u16> = worded.iter().flat_map(|stage| stage.words.iter().map(|&word| word as u16)).collect();
+    let counts: Vec<u16> = worded.iter().map(|stage| stage.words.len() as u16).collect();
     let cells = cells(case, &stages);
     let short = |numbers: &[u32]| numbers.iter().map(|&n| if n == EMPTY { 0 } else { n as u16 }).collect::<Vec<_>>();
     let body = [&short(&case.gates)[..], &short(&case.given), &short(&case.records), &words, &counts, &cells].concat();
@@ -103,16 +125,16 @@ fn build(case: &Case) -> Option<Recorded> {
     let head: [usize; HEAD] = [
         body.len(), case.height as usize, case.gates.len(), case.given.len(), case.records.len(),
         rooms * case.stage_size(), case.word_limit(), rooms, case.work_size(),
-        number as usize, counts.len(), words.len(), stage, cells.len() / 2, marks as usize,
+        number as usize, most, words.len(), stage, cells.len() / 2, parted, parted * case.stage_size(), marks as usize,
     ];
     let numbers = head.iter().map(|&n| u16::try_from(n).unwrap()).chain(body).collect();
-    Some(Recorded { height: case.height, number, marks, numbers })
+    Some(Recorded { height: case.height, number, marks, stages: [stages.len(), counts.len()], whole, numbers })
 }
 
-/// What is printed of the builds or the merges if all agree: `whole` and `all` are the words for those that aren't refused and for all.
-fn tally(kept: &[Recorded], whole: &str, all: &str, refusals: &[u32], marks: &[&str]) -> String {
+/// What is printed of a list if all agree, behind its name: how much is compared of those that aren't refused, then the refusals, marks and heights.
+fn tally(kept: &[Recorded], name: &str, compared: &str, all: &str, refusals: &[u32], marks: &[&str]) -> String {
     let count = |has: &dyn Fn(&Recorded) -> bool| kept.iter().filter(|one| has(one)).count();
-    let mut out = format!("recorded {all}\n{whole} {}\n", count(&|one| one.number == 0));
+    let mut out = format!("{name}\n{compared}\n");
     for &number in refusals {
         out += &format!("refused with {number}: {}\n", count(&|one| one.number == number));
     }
@@ -125,27 +147,55 @@ fn tally(kept: &[Recorded], whole: &str, all: &str, refusals: &[u32], marks: &[&
     out + &format!("{} {all} agree, 0 differ\n", kept.len())
 }
 
-/// Builds of random cases, few of them alike.
-fn drawn_builds() -> Vec<Recorded> {
-    let (mut alike, mut size, mut kept) = (HashMap::new(), 0, Vec::new());
+fn build_tally(kept: &[Recorded], name: &str) -> String {
+    let sum = |whole: bool| {
+        let mut sum = [0; 3];
+        for one in kept.iter().filter(|one| one.number == 0 && one.whole == whole) {
+            sum.iter_mut().zip([1, one.stages[0], one.stages[1]]).for_each(|(sum, n)| *sum += n);
+        }
+        sum
+    };
+    let ([whole, stages, _], [part, cells, words]) = (sum(true), sum(false));
+    let compared = format!("the whole plan compared: {whole} builds, {stages} stages\nup to the stage where the word rules part: {part} builds, cells of {cells} stages, words of {words}");
+    tally(kept, name, &compared, "builds", &[6, 7, 8, 9], &MARKS)
+}
+
+fn merge_tally(kept: &[Recorded], name: &str) -> String {
+    let merged = kept.iter().filter(|one| one.number == 0).count();
+    tally(kept, name, &format!("merged {merged}"), "merges", &[6, 7, 8], &MERGE_MARKS)
+}
+
+/// Builds of random cases, few of them alike: what the published Rust decides; and what it doesn't decide whole, by the Rust with one line changed.
+fn drawn_builds() -> [Vec<Recorded>; 2] {
+    let (mut alike, mut size, mut kept) = (HashMap::new(), 0, [Vec::new(), Vec::new()]);
     for index in 0.. {
         let height = 6 + (index % 4) as u32;
-        let found = match build(&random::case(SEED, index, height)) {
-            Some(found) if size + 2 * found.numbers.len() <= MOST_BYTES => found,
-            Some(_) => break,
-            None => continue,
-        };
-        let so_far = alike.entry((height, found.number, found.marks)).or_insert(0);
-        if *so_far < ALIKE {
-            *so_far += 1;
-            size += 2 * found.numbers.len();
-            kept.push(found);
+        let case = random::case(SEED, index, height);
+        if !fits(&case) {
+            continue;
         }
-        if kept.len() == BUILDS {
+        let found = build(&case, Rust::Published);
+        let undecided = found.as_ref().map_or(true, |one| one.number == 0 && !one.whole);
+        let other = if undecided { build(&case, Rust::Changed) } else { None };
+        // Of those that it doesn't decide whole only what both lists have room for.
+        if undecided && other.is_none() {
+            continue;
+        }
+        let one = other.as_ref().or(found.as_ref()).unwrap();
+        let so_far = alike.entry((height, undecided, one.number, one.marks)).or_insert(0);
+        if *so_far == ALIKE {
+            continue;
+        }
+        *so_far += 1;
+        for (list, one) in kept.iter_mut().zip([found, other]) {
+            size += one.as_ref().map_or(0, |one| 2 * one.numbers.len());
+            list.extend(one);
+        }
+        if kept[0].len() == BUILDS || size > MOST_BYTES {
             break;
         }
     }
-    println!("{} builds, {size} bytes", kept.len());
+    println!("{} builds of the published Rust, {} of the one with a line changed, {size} bytes", kept[0].len(), kept[1].len());
     kept
 }
 
@@ -162,11 +212,11 @@ const FULL: usize = 4;
 const MERGE_MARKS: [&str; 8] = ["unions that fail", "a block not begun", "over 30 partitions", "more stages than before",
                                 "no extra stages allowed", "a group twice", "an empty partition", "given pins"];
 
-fn merge_marks(merge: &Merge, ruled: &Ruled) -> u16 {
+fn merge_marks(merge: &Merge, ruled: &Ruled, rust: Rust) -> u16 {
     let parts = merge.split();
     let (full, seen) = (parts.iter().filter(|part| !part.is_empty()).count(), parts.concat());
     let twice = (1..seen.len()).any(|i| seen[..i].contains(&seen[i]));
-    let graph = published::graph(WordRule::EveryRun, &merge.case);
+    let graph = published::graph(rust, &merge.case);
     let stages = |part: &Vec<usize>| match published::build_records(merge.case.height, &graph, part).0 {
         Outcome::Whole(stages) => stages.len(),
         _ => usize::MAX,
@@ -181,7 +231,7 @@ fn merge_marks(merge: &Merge, ruled: &Ruled) -> u16 {
 }
 
 /// A merge in the form that crates/try_vectors reads; it has room for all that are recorded.
-fn recorded(merge: &Merge, ruled: &Ruled) -> Recorded {
+fn recorded(merge: &Merge, ruled: &Ruled, rust: Rust) -> Recorded {
     let (case, rooms) = (&merge.case, ruled.deepest);
     let (indices, lengths, _) = merge.list();
     let none = Vec::new();
@@ -200,16 +250,16 @@ fn recorded(merge: &Merge, ruled: &Ruled) -> Recorded {
     assert!(case.pins() <= MOST_PINS && case.records.len() <= MOST_RECORDS && case.given.len() <= MOST_GIVEN && body.len() <= MOST_BODY);
     assert!(indices.len() <= MOST_INDICES && lengths.len() <= MOST_PARTITIONS);
     assert!(rooms <= MOST_ROOMS && plan <= MOST_PLAN && work <= MOST_WORK);
-    let marks = merge_marks(merge, ruled);
-    let head = [body.len(), case.height as usize, case.gates.len(), case.given.len(), case.records.len(), indices.len(), lengths.len(),
+    let marks = merge_marks(merge, ruled, rust);
+    let head: [usize; MERGE_HEAD] = [body.len(), case.height as usize, case.gates.len(), case.given.len(), case.records.len(), indices.len(), lengths.len(),
                 merge.extra, plan, case.word_limit(), rooms, work,
                 number as usize, sum(&|part| part.stages), sum(&|part| part.words), stage, parts.len(), trials, refused, marks as usize];
     let numbers = head.iter().map(|&n| u16::try_from(n).unwrap()).chain(body).collect();
-    Recorded { height: case.height, number, marks, numbers }
+    Recorded { height: case.height, number, marks, stages: [0; 2], whole: true, numbers }
 }
 
-fn answered(merge: &Merge) -> Ruled {
-    merge::answer(merge, &published::graph(WordRule::EveryRun, &merge.case)).unwrap_or_else(|what| panic!("{what}"))
+fn answered(merge: &Merge, rust: Rust) -> Ruled {
+    merge::answer(merge, &published::graph(rust, &merge.case)).unwrap_or_else(|what| panic!("{what}"))
 }
 
 /// Merges of random cases, few of them dull, then crowded ones, then those with a partition that level 1 is too small for.
@@ -222,7 +272,7 @@ fn drawn_merges() -> Vec<(Merge, Ruled)> {
             continue;
         }
         let merge = merge::random(&mut Random::new(index), case);
-        let ruled = answered(&merge);
+        let ruled = answered(&merge, Rust::Published);
         let kind = match &ruled.answer {
             Answer::Refused { .. } => Some(0),
             Answer::Whole { trials: 0, .. } => Some(1),
@@ -242,7 +292,7 @@ fn drawn_merges() -> Vec<(Merge, Ruled)> {
     }
     for index in 0.. {
         let merge = merge::crowded(&mut Random::new(SEED + index), 6 + (index % 2) as u32);
-        let ruled = answered(&merge);
+        let ruled = answered(&merge, Rust::Published);
         if ruled.not_begun && merge.list().0.len() <= MOST_INDICES && merge.work_size() <= MOST_WORK {
             out.push((merge, ruled));
         }
@@ -255,7 +305,7 @@ fn drawn_merges() -> Vec<(Merge, Ruled)> {
         if !check::merge_input(&merge) || merge.list().0.len() > MERGE_RECORDS || merge.case.records.len() > MOST_RECORDS {
             continue;
         }
-        let ruled = answered(&merge);
+        let ruled = answered(&merge, Rust::Published);
         if let Answer::Refused { number: 8, .. } = ruled.answer {
             out.push((merge, ruled));
         }
@@ -266,9 +316,10 @@ fn drawn_merges() -> Vec<(Merge, Ruled)> {
     out
 }
 
-/// The merges, and their text to this folder.
-fn merges(texts: &Path) -> io::Result<Vec<Recorded>> {
-    let (mut asked, mut told, mut kept, mut trials, mut parts) = (String::new(), String::new(), Vec::new(), 0, 0);
+/// The merges that the published Rust decides whole, and the others by the Rust with one line changed. The published Rust's answers to all of them go
+/// as text to this folder.
+fn merges(texts: &Path) -> io::Result<[Vec<Recorded>; 2]> {
+    let (mut asked, mut told, mut kept, mut trials, mut parts) = (String::new(), String::new(), [Vec::new(), Vec::new()], 0, 0);
     for (i, (merge, ruled)) in drawn_merges().iter().enumerate() {
         if let Answer::Whole { trials: n, .. } = ruled.answer {
             trials += n;
@@ -276,10 +327,15 @@ fn merges(texts: &Path) -> io::Result<Vec<Recorded>> {
         parts += merge.parts.len();
         asked += &merge.text(&format!("m{}", i + 1), None);
         told += &ruled.answer.text(&format!("m{}", i + 1));
-        kept.push(recorded(merge, ruled));
+        if ruled.decided {
+            kept[0].push(recorded(merge, ruled, Rust::Published));
+        } else {
+            kept[1].push(recorded(merge, &answered(merge, Rust::Changed), Rust::Changed));
+        }
     }
-    let bytes = 2 * kept.iter().map(|one| one.numbers.len()).sum::<usize>();
-    println!("{} merges of {parts} partitions, {trials} unions examined, {bytes} bytes", kept.len());
+    let bytes = 2 * kept.iter().flatten().map(|one| one.numbers.len()).sum::<usize>();
+    println!("{} merges that the published Rust decides, {} of the one with a line changed; all of {parts} partitions, {trials} unions examined by the published one, {bytes} bytes",
+             kept[0].len(), kept[1].len());
     fs::write(texts.join("merges.cases"), asked)?;
     fs::write(texts.join("merges.answers"), told)?;
     Ok(kept)
@@ -287,10 +343,13 @@ fn merges(texts: &Path) -> io::Result<Vec<Recorded>> {
 
 /// `stdin` and `stdout` in the first folder, the merges' text in the second.
 fn write(folder: &Path, texts: &Path) -> io::Result<()> {
-    let (builds, merges) = (drawn_builds(), merges(texts)?);
-    let numbers = |kept: &[Recorded]| kept.iter().flat_map(|one| one.numbers.clone()).collect::<Vec<_>>();
-    let read = [numbers(&builds), vec![0; HEAD], numbers(&merges)].concat();
-    let told = tally(&builds, "whole", "builds", &[6, 7, 8, 9], &MARKS) + &tally(&merges, "merged", "merges", &[6, 7, 8], &MERGE_MARKS);
+    let ([decided, builds], [decided_merges, merges]) = (drawn_builds(), merges(texts)?);
+    let numbers = |kept: &[Recorded], head: usize| kept.iter().flat_map(|one| one.numbers.clone()).chain(vec![0; head]).collect::<Vec<_>>();
+    let read = [numbers(&decided, HEAD), numbers(&builds, HEAD), numbers(&decided_merges, MERGE_HEAD), numbers(&merges, MERGE_HEAD)].concat();
+    let told = build_tally(&decided, "recorded builds of the published code")
+        + &build_tally(&builds, "recorded builds of the code with one line changed")
+        + &merge_tally(&decided_merges, "recorded merges of the published code")
+        + &merge_tally(&merges, "recorded merges of the code with one line changed");
     fs::write(folder.join("stdin"), read.iter().flat_map(|n| n.to_le_bytes()).collect::<Vec<_>>())?;
     fs::write(folder.join("stdout"), told)
 }

@@ -1,4 +1,4 @@
-//! Recorded answers of the proved library by the rule of the needed runs, which the published Rust doesn't have, in the text of PROTOCOL.md.
+//! Recorded answers of the proved library, whose word rule the published Rust doesn't have, in the text of PROTOCOL.md.
 //! They are small, so that the checker can compute what the definitions give.
 use crate::case::{Case, EMPTY};
 use crate::check;
@@ -6,8 +6,9 @@ use crate::compare;
 use crate::compare_merge;
 use crate::merge::{self, Answer, Merge};
 use crate::order;
-use crate::placer::WordRule;
-use crate::published::Part;
+use crate::parting::parting;
+use crate::placer;
+use crate::published::{self, Outcome, Part, Rust};
 use crate::random::{self, Random};
 use crate::rules::{built, Built};
 use std::{fs, io, path::Path};
@@ -93,17 +94,19 @@ fn drawn(r: &mut Random, turn: Turn, fits: &dyn Fn(&Case) -> bool) -> Case {
     }
 }
 
-/// The place in BUILDS; None where there is no stage.
-fn build_kind(old: &Built, new: &Built) -> Option<usize> {
-    let same = || old.plan == new.plan && old.words == new.words && old.counts == new.counts;
-    match (old.answer.number, new.answer.number) {
+/// The place in BUILDS; None where there is no stage. The published Rust has the old rule.
+fn build_kind(case: &Case, new: &placer::Answer) -> Option<usize> {
+    let (old, _) = published::build(case.height, &published::graph(Rust::Published, case));
+    match (&old, new.number) {
         (_, number @ 6..=8) => Some(number as usize - 6),
-        (_, 0) if new.answer.stages == 0 => None,
-        (0, 0) if new.answer.stages < old.answer.stages => Some(6),
-        (0, 0) if !same() => Some(5),
-        (0, 0) => Some(if new.answer.stages == 1 { 3 } else { 4 }),
-        (6..=8, 0) => Some(7),
-        answers => panic!("the two rules answer {answers:?}"),
+        (_, 0) if new.stages == 0 => None,
+        (Outcome::Whole(stages), 0) if new.stages < stages.len() => Some(6),
+        (Outcome::Whole(stages), 0) => match parting(case, &case.split(), stages).unwrap_or_else(|what| panic!("{what}")) {
+            Some(_) => Some(5),
+            None => Some(if new.stages == 1 { 3 } else { 4 }),
+        },
+        (Outcome::Refused { number: 6..=8, .. }, 0) => Some(7),
+        _ => panic!("the library answers {new:?}"),
     }
 }
 
@@ -114,10 +117,10 @@ fn builds() -> Vec<(Case, Built)> {
         let fits = |case: &Case| case.pins() <= MOST_PINS && case.records.len() <= MOST_NUMBERS;
         let case = drawn(&mut Random::new(SEED.rotate_left(40) ^ index), turn, &fits);
         index += 1;
-        let (old, new) = (built(WordRule::EveryRun, &case, ROOMS), built(WordRule::NeededRuns, &case, ROOMS));
-        if build_kind(&old, &new).map_or(false, |kind| wanted.take(turn, kind)) {
+        let new = built(&case, ROOMS);
+        if build_kind(&case, &new.answer).map_or(false, |kind| wanted.take(turn, kind)) {
             // The Rust with one line changed must give the same.
-            compare::compare(WordRule::NeededRuns, &case).unwrap_or_else(|(what, _)| panic!("{what}"));
+            compare::compare(&case).unwrap_or_else(|(what, _)| panic!("{what}"));
             out.push((case, new));
         }
     }
@@ -142,8 +145,8 @@ fn build_text(name: &str, case: &Case, built: &Built) -> String {
 }
 
 /// The library's answer to a merge. It gives the sums of words and cells alone; those of a partition are counted by a build of its records.
-fn merged(rule: WordRule, merge: &Merge) -> Answer {
-    let (answer, groups) = compare_merge::merged(rule, merge, ROOMS);
+fn merged(merge: &Merge) -> Answer {
+    let (answer, groups) = compare_merge::merged(merge, ROOMS);
     if answer.number != 0 {
         return Answer::Refused { number: answer.number, stage: answer.stage, part: answer.refused };
     }
@@ -154,7 +157,7 @@ fn merged(rule: WordRule, merge: &Merge) -> Answer {
         let (part, behind) = rest.split_at(length as usize);
         rest = behind;
         let chosen = part.iter().flat_map(|&record| records[record as usize].clone()).collect();
-        let alone = built(rule, &Case { records: chosen, ..merge.case.clone() }, ROOMS).answer;
+        let alone = built(&Case { records: chosen, ..merge.case.clone() }, ROOMS).answer;
         assert_eq!((alone.number, alone.stages), (0, stages as usize));
         parts.push(Part { records: part.iter().map(|&record| record as usize).collect(), stages: alone.stages, words: alone.words, cells: alone.cells });
     }
@@ -182,9 +185,10 @@ fn merges() -> Vec<(Merge, Answer)> {
         let fits = |case: &Case| case.pins() <= MERGE_PINS && (2..=MERGE_RECORDS).contains(&case.split().len());
         let case = drawn(&mut r, turn, &fits);
         let merge = merge::random(&mut r, case);
-        let (old, new) = (merged(WordRule::EveryRun, &merge), merged(WordRule::NeededRuns, &merge));
+        let old = merge::answer(&merge, &published::graph(Rust::Published, &merge.case)).unwrap_or_else(|what| panic!("{what}")).answer;
+        let new = merged(&merge);
         if merge_kind(&merge, &old, &new).map_or(false, |kind| wanted.take(turn, kind)) {
-            compare_merge::compare(WordRule::NeededRuns, &merge).unwrap_or_else(|(what, _)| panic!("{what}"));
+            compare_merge::compare(&merge).unwrap_or_else(|(what, _)| panic!("{what}"));
             out.push((merge, new));
         }
     }
@@ -205,7 +209,7 @@ pub fn write(texts: &Path) -> io::Result<()> {
         asked += &merge.text(&name, None);
         told += &answer.text(&name);
     }
-    println!("{} builds and {} merges by the needed runs", builds.len(), merges.len());
+    println!("{} builds and {} merges of the library", builds.len(), merges.len());
     fs::write(texts.join("needed.cases"), asked)?;
     fs::write(texts.join("needed.answers"), told)
 }

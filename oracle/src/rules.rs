@@ -1,9 +1,11 @@
-//! Both word rules on the same jobs in the same rooms: what the old rule accepts, the new one accepts with no more stages.
+//! The published Rust, which has the old word rule, and the library, which has the new one, on the same jobs in the same rooms: what the old rule
+//! accepts, the new one accepts with no more stages.
 use crate::case::Case;
 use crate::check;
-use crate::compare::compare;
+use crate::compare::{compare, expected, stages_taken};
 use crate::order;
-use crate::placer::{self, Answer, Areas, WordRule};
+use crate::placer::{self, Answer, Areas};
+use crate::published::{self, Rust};
 use crate::random::{self, Random};
 use crate::shrink::shrink;
 use std::time::Duration;
@@ -18,61 +20,37 @@ pub struct Built {
     pub counts: Vec<u32>,
 }
 
-pub fn built(rule: WordRule, case: &Case, rooms: usize) -> Built {
+pub fn built(case: &Case, rooms: usize) -> Built {
     let (mut plan, mut words, mut counts) = (vec![1; rooms * case.stage_size()], vec![1; case.word_limit()], vec![1; rooms]);
     let mut work = vec![1; case.work_size()];
     let areas = Areas { plan: &mut plan, words: &mut words, counts: &mut counts, work: &mut work };
-    let answer = placer::build_by(rule, case.height, &case.gates, &case.given, &case.records, areas);
+    let answer = placer::build(case.height, &case.gates, &case.given, &case.records, areas);
     Built { answer, plan, words, counts }
 }
 
-/// The rooms of a job: what the old rule takes, and some more, or fewer.
-fn rooms(case: &Case) -> usize {
-    let mut enough = 8;
-    loop {
-        let answer = built(WordRule::EveryRun, case, enough).answer;
-        if answer.number != 9 {
-            return (answer.stages.max(answer.stage) as i64 + case.rooms).max(0) as usize;
-        }
-        enough *= 2;
-    }
+/// What both rules answer to a job, the old one first, and their rooms: what the old rule takes, and some more, or fewer.
+fn both(case: &Case) -> ([Answer; 2], usize) {
+    let (outcome, _) = published::build(case.height, &published::graph(Rust::Published, case));
+    let rooms = (stages_taken(Some(&outcome)) as i64 + case.rooms).max(0) as usize;
+    ([expected(0, 0, Some(&outcome), rooms), built(case, rooms).answer], rooms)
 }
 
-/// What is wrong with the claim of a job that both rules built, if anything. Up to the first stage whose words differ, that one too, the cells
-/// must be the same: the rules part when the stage's words are written.
-fn broken(case: &Case, old: &Built, new: &Built) -> Option<String> {
-    let (was, is) = (old.answer, new.answer);
+/// What is wrong with the claim, if anything.
+fn broken(was: Answer, is: Answer) -> Option<String> {
     if (was.number == 6) != (is.number == 6) {
         return Some(format!("the reservation knows no word rule, yet the answers are {was:?} and {is:?}"));
     }
-    if was.number != 0 {
-        return None;
-    }
-    if is.number != 0 || is.stages > was.stages {
+    if was.number == 0 && (is.number != 0 || is.stages > was.stages) {
         return Some(format!("the old rule gives {was:?}, the new one {is:?}"));
     }
-    let (size, mut at) = (case.stage_size(), 0);
-    for stage in 0..is.stages {
-        let cells = stage * size..(stage + 1) * size;
-        if old.plan[cells.clone()] != new.plan[cells] {
-            return Some(format!("the cells of stage {} differ, and no words before", stage + 1));
-        }
-        let count = new.counts[stage] as usize;
-        if old.counts[stage] != new.counts[stage] || old.words[at..at + count] != new.words[at..at + count] {
-            return None;
-        }
-        at += count;
-    }
-    if is == was { None } else { Some("no stage's words differ, but the answers do".into()) }
+    None
 }
 
-/// What is wrong with a job, if anything: the claim, or the new rule's build beside that of the Rust with its loop ended.
-fn fault(case: &Case) -> (Built, Built, Option<String>) {
-    let rooms = rooms(case);
-    let (old, new) = (built(WordRule::EveryRun, case, rooms), built(WordRule::NeededRuns, case, rooms));
-    let other = || compare(WordRule::NeededRuns, case).err().map(|(what, _)| what);
-    let what = broken(case, &old, &new).or_else(other);
-    (old, new, what)
+/// What both rules answer to a job, and what is wrong with it, if anything: the claim, or what oracle/run compares.
+fn fault(case: &Case) -> ([Answer; 2], Option<String>) {
+    let (answers, _) = both(case);
+    let what = broken(answers[0], answers[1]).or_else(|| compare(case).err().map(|(what, _)| what));
+    (answers, what)
 }
 
 #[derive(Default, Clone, Copy)]
@@ -155,7 +133,7 @@ fn job(seed: u64, index: u64, height: u32) -> Case {
         };
         let case = order::any(r.next(), 0, case);
         if check::input(&case) == 0 {
-            // Areas of the right sizes, so that both rules get to build.
+            // Areas of the right sizes, so that both get to build.
             return Case { beyond: [0; 4], ..case };
         }
     }
@@ -163,9 +141,9 @@ fn job(seed: u64, index: u64, height: u32) -> Case {
 
 fn differs(seed: u64, index: u64, case: &Case, what: &str) {
     println!("job {index} of seed {seed}: {what}");
-    let least = shrink(case, &|c| check::input(c) == 0 && fault(c).2.is_some(), SHRINKING);
-    println!("the smallest job found: {}", fault(&least).2.expect("the shrunk job is at fault"));
-    let lent = rooms(&least);
+    let least = shrink(case, &|c| check::input(c) == 0 && fault(c).1.is_some(), SHRINKING);
+    println!("the smallest job found: {}", fault(&least).1.expect("the shrunk job is at fault"));
+    let (_, lent) = both(&least);
     println!("rooms {lent}");
     print!("{}", least.text("shrunk", (lent as i64 - least.rooms).max(0) as usize));
 }
@@ -177,12 +155,12 @@ pub fn rules(count: u64, seed: u64, low: u32, high: u32) -> bool {
     for index in 0..count {
         let height = heights[index as usize % heights.len()];
         let case = job(seed, index, height);
-        let (old, new, what) = fault(&case);
+        let ([old, new], what) = fault(&case);
         if let Some(what) = what {
             differs(seed, index, &case, &what);
             return false;
         }
-        rows[height as usize].add(&case, old.answer, new.answer);
+        rows[height as usize].add(&case, old, new);
     }
     println!("| height | jobs | old rule accepts | new rule accepts | only the new one (7, 8, 9 by the old) | both: fewer stages | fewer words | more words | the same of both |");
     println!("|---|---|---|---|---|---|---|---|---|");
@@ -204,14 +182,19 @@ pub fn rules(count: u64, seed: u64, low: u32, high: u32) -> bool {
 mod tests {
     use super::*;
     use crate::case::EMPTY;
+    use crate::published::Outcome;
 
-    /// The number, the refused stage and the words that each rule gives, the old one first.
-    fn both(height: u32, gates: &[u32], records: &[u32]) -> [(u32, usize, Vec<u32>); 2] {
+    /// The number, the refused stage and the words that each rule gives, the old one first; and that all is compared as it should be.
+    fn given(height: u32, gates: &[u32], records: &[u32]) -> [(u32, usize, Vec<u32>); 2] {
         let case = Case { height, gates: gates.to_vec(), given: Vec::new(), records: records.to_vec(), rooms: 0, beyond: [0; 4], old: 0 };
-        [WordRule::EveryRun, WordRule::NeededRuns].map(|rule| {
-            let built = built(rule, &case, 4);
-            (built.answer.number, built.answer.stage, built.words[..built.answer.words].to_vec())
-        })
+        assert_eq!(fault(&case).1, None);
+        let old = match published::build(height, &published::graph(Rust::Published, &case)).0 {
+            Outcome::Whole(stages) => (0, 0, stages.iter().flat_map(|stage| stage.words.iter().map(|&word| word as u32)).collect()),
+            Outcome::Refused { number, stage } => (number, stage, Vec::new()),
+            Outcome::Panicked => unreachable!(),
+        };
+        let new = built(&case, 4);
+        [old, (new.answer.number, new.answer.stage, new.words[..new.answer.words].to_vec())]
     }
 
     // The scope document's examples, and what the request for the new rule says of them.
@@ -219,11 +202,11 @@ mod tests {
     fn examples() {
         let (leaf, leaves) = ([EMPTY; 4], [EMPTY; 66]);
         let gates = [EMPTY, EMPTY, EMPTY, EMPTY, EMPTY, EMPTY, EMPTY, EMPTY, EMPTY, EMPTY, 2, 4, 6, 9, 10, 12];
-        assert_eq!(both(6, &gates, &[1, 14]), [(0, 0, vec![1, 0]), (0, 0, vec![0])]);
-        assert_eq!(both(6, &gates, &[1, 14, 1, 15]), [(7, 2, vec![]), (0, 0, vec![0])]);
-        assert_eq!(both(13, &leaf, &[1, 2]), [(0, 0, (128..256).collect()), (0, 0, vec![128])]);
+        assert_eq!(given(6, &gates, &[1, 14]), [(0, 0, vec![1, 0]), (0, 0, vec![0])]);
+        assert_eq!(given(6, &gates, &[1, 14, 1, 15]), [(7, 2, vec![]), (0, 0, vec![0])]);
+        assert_eq!(given(13, &leaf, &[1, 2]), [(0, 0, (128..256).collect()), (0, 0, vec![128])]);
         let outputs = |count: u32| (1..=count).flat_map(|pin| [1, 2 * pin]).collect::<Vec<u32>>();
-        assert_eq!(both(6, &leaves, &outputs(31)), [(0, 0, vec![1]), (0, 0, vec![1])]);
-        assert_eq!(both(6, &leaves, &outputs(32)), [(8, 1, vec![]), (8, 1, vec![])]);
+        assert_eq!(given(6, &leaves, &outputs(31)), [(0, 0, vec![1]), (0, 0, vec![1])]);
+        assert_eq!(given(6, &leaves, &outputs(32)), [(8, 1, vec![]), (8, 1, vec![])]);
     }
 }

@@ -141,6 +141,15 @@ pub fn take_cells(cells: &[u8], n: usize, plan: &mut [u32]) -> bool {
     true
 }
 
+// Makes the numbers from one index up to another x.
+pub fn open(xs: &mut [u32], from: usize, to: usize, x: u32) {
+    let mut i = from;
+    while i < to {
+        set(xs, i, x);
+        i += 1;
+    }
+}
+
 // Whether an area holds x up to the size that it is counted at.
 pub fn cleared(xs: &[u32], own: &[u8], counted: usize, x: u32) -> bool {
     holds(xs, own, 0, x, number(own, counted), counted)

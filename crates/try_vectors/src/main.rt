@@ -1,5 +1,5 @@
-// Replays recorded builds and merges of the published Rust, and compares the answers and every number of what is lent, those past what an
-// area is counted at too. README.md says what stands in stdin and how it was made.
+// Replays recorded builds and merges of the published Rust, as far as it decides them, then of the Rust with one line changed, and compares the answers
+// and every number of what is lent, those past what an area is counted at too. README.md says what stands in stdin and how it was made.
 mod areas;
 mod builds;
 mod merges;
@@ -13,11 +13,26 @@ use tally::agreed;
 use tally::differed;
 use tally::either;
 use try_cases::number;
+use try_cases::tell;
 
 fn main() {
+    tell(b"recorded builds of the published code\n", &[]);
+    all_builds();
+    tell(b"recorded builds of the code with one line changed\n", &[]);
+    all_builds();
+    tell(b"recorded merges of the published code\n", &[]);
+    all_merges();
+    tell(b"recorded merges of the code with one line changed\n", &[]);
+    all_merges();
+}
+
+fn all_builds() {
     let mut built = [0usize; 24];
     replay_all(false, &mut built);
     builds::tell_all(&built);
+}
+
+fn all_merges() {
     let mut merged = [0usize; 24];
     replay_all(true, &mut merged);
     merges::tell_all(&merged);
@@ -42,7 +57,7 @@ fn read(area: &mut [u8], n: usize) -> bool {
 // The next build or merge of stdin. Whether there was one: a head of zeros has none behind it.
 fn replay(merging: bool, tally: &mut [usize; 24]) -> bool {
     let mut head = [0u8; 40];
-    if !read(&mut head, either(merging, 40, 30)) {
+    if !read(&mut head, either(merging, 40, 34)) {
         return false;
     }
     if number(&head, HEIGHT) == 0 {

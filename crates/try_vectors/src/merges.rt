@@ -18,8 +18,7 @@ use crate::areas::put_input;
 use crate::areas::records;
 use crate::areas::rest;
 use merge::Answer;
-use merge::merge_by;
-use stage_runs::WordRule;
+use merge::merge;
 use try_cases::front;
 use try_cases::more;
 use try_cases::narrow;
@@ -55,8 +54,7 @@ fn recorded_merge(
     counts: &mut [u32],
     work: &mut [u32],
 ) -> Answer {
-    merge_by(
-        WordRule::EveryRun,
+    merge(
         narrow(head, HEIGHT),
         gates(head, input),
         given(head, input),
@@ -190,7 +188,7 @@ fn lent(
 // A capital stands for a number of the tally.
 pub fn tell_all(tally: &[usize; 24]) {
     tell(
-        b"recorded merges\nmerged A\nrefused with 6: G\nrefused with 7: H\nrefused with 8: I\nunions that fail K\na block not begun L\nover 30 partitions M\nmore stages than before N\nno extra stages allowed O\na group twice P\nan empty partition Q\ngiven pins R\nheight 6: S\nheight 7: T\nheight 8: U\nheight 9: V\nW merges agree, X differ\n",
+        b"merged A\nrefused with 6: G\nrefused with 7: H\nrefused with 8: I\nunions that fail K\na block not begun L\nover 30 partitions M\nmore stages than before N\nno extra stages allowed O\na group twice P\nan empty partition Q\ngiven pins R\nheight 6: S\nheight 7: T\nheight 8: U\nheight 9: V\nW merges agree, X differ\n",
         tally,
     );
 }

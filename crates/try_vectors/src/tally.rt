@@ -1,8 +1,9 @@
-// What is counted of the builds or the merges: by number from 0 on, then the marks, the heights (6 at 18), those that agree and those
-// that differ.
+// What is counted of the builds or the merges: by number from 0 on, of the builds 1 to 5 how much is compared, then the marks, the heights (6 at
+// 18), those that agree and those that differ.
 use crate::areas::HEIGHT;
 use crate::areas::NUMBER;
 use crate::areas::behind;
+use crate::builds::add_depth;
 use try_cases::add;
 use try_cases::more;
 use try_cases::number;
@@ -35,7 +36,10 @@ pub fn agreed(merging: bool, head: &[u8], tally: &mut [usize; 24]) {
     add(tally, AGREE, 1);
     add(tally, number(own, NUMBER), 1);
     add(tally, more(OF_HEIGHT, number(head, HEIGHT)), 1);
-    add_marks(tally, number(own, either(merging, 11, 9)));
+    add_marks(tally, number(own, 11));
+    if !merging {
+        add_depth(own, tally);
+    }
 }
 
 pub fn differed(tally: &mut [usize; 24]) {
