@@ -30,9 +30,10 @@ const HEAD: usize = 17;
 const MERGE_HEAD: usize = 20;
 
 const BUILDS: usize = 300;
+const EARLY: usize = 20;
 /// At most so many builds that are alike: of one height, number and marks.
 const ALIKE: usize = 4;
-const MOST_BYTES: usize = 800_000;
+const MOST_BYTES: usize = 950_000;
 
 /// Marks of a build, by bit.
 const TAKEN_BACK: u16 = 1;
@@ -52,6 +53,8 @@ struct Recorded {
     stages: [usize; 2],
     /// Whether that is all.
     whole: bool,
+    /// Whether a stage before the last has several words recorded.
+    early: bool,
     numbers: Vec<u16>,
 }
 
@@ -128,7 +131,8 @@ fn build(case: &Case, rust: Rust) -> Option<Recorded> {
         number as usize, most, words.len(), stage, cells.len() / 2, parted, parted * case.stage_size(), marks as usize,
     ];
     let numbers = head.iter().map(|&n| u16::try_from(n).unwrap()).chain(body).collect();
-    Some(Recorded { height: case.height, number, marks, stages: [stages.len(), counts.len()], whole, numbers })
+    let early = worded.iter().take(stages.len().max(1) - 1).any(|stage| stage.words.len() > 1);
+    Some(Recorded { height: case.height, number, marks, stages: [stages.len(), counts.len()], whole, early, numbers })
 }
 
 /// What is printed of a list if all agree, behind its name: how much is compared of those that aren't refused, then the refusals, marks and heights.
@@ -165,7 +169,8 @@ fn merge_tally(kept: &[Recorded], name: &str) -> String {
     tally(kept, name, &format!("merged {merged}"), "merges", &[6, 7, 8], &MERGE_MARKS)
 }
 
-/// Builds of random cases, few of them alike: what the published Rust decides; and what it doesn't decide whole, by the Rust with one line changed.
+/// Builds of random cases, few of them alike, then those with several words in an early stage, which are rare: what the published Rust decides; and what
+/// it doesn't decide whole, by the Rust with one line changed.
 fn drawn_builds() -> [Vec<Recorded>; 2] {
     let (mut alike, mut size, mut kept) = (HashMap::new(), 0, [Vec::new(), Vec::new()]);
     for index in 0.. {
@@ -182,19 +187,24 @@ fn drawn_builds() -> [Vec<Recorded>; 2] {
             continue;
         }
         let one = other.as_ref().or(found.as_ref()).unwrap();
-        let so_far = alike.entry((height, undecided, one.number, one.marks)).or_insert(0);
-        if *so_far == ALIKE {
+        if kept[0].len() < BUILDS {
+            let so_far = alike.entry((height, undecided, one.number, one.marks)).or_insert(0);
+            if *so_far == ALIKE {
+                continue;
+            }
+            *so_far += 1;
+        } else if !found.as_ref().map_or(false, |one| one.early) {
             continue;
         }
-        *so_far += 1;
         for (list, one) in kept.iter_mut().zip([found, other]) {
             size += one.as_ref().map_or(0, |one| 2 * one.numbers.len());
             list.extend(one);
         }
-        if kept[0].len() == BUILDS || size > MOST_BYTES {
+        if kept[0].len() == BUILDS + EARLY {
             break;
         }
     }
+    assert!(size <= MOST_BYTES);
     println!("{} builds of the published Rust, {} of the one with a line changed, {size} bytes", kept[0].len(), kept[1].len());
     kept
 }
@@ -255,7 +265,7 @@ fn recorded(merge: &Merge, ruled: &Ruled, rust: Rust) -> Recorded {
                 merge.extra, plan, case.word_limit(), rooms, work,
                 number as usize, sum(&|part| part.stages), sum(&|part| part.words), stage, parts.len(), trials, refused, marks as usize];
     let numbers = head.iter().map(|&n| u16::try_from(n).unwrap()).chain(body).collect();
-    Recorded { height: case.height, number, marks, stages: [0; 2], whole: true, numbers }
+    Recorded { height: case.height, number, marks, stages: [0; 2], whole: true, early: false, numbers }
 }
 
 fn answered(merge: &Merge, rust: Rust) -> Ruled {
