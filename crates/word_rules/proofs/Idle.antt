@@ -18,10 +18,10 @@ use Rattle.rules.proofs.Lists.Members.{split, true-false, and-true, eqb-true, e
 use Rattle.rules.proofs.Stage.Puts.{list}
 use Rattle.rules.proofs.Stage.Last.{length-swapOutAll, once-length}
 use Rattle.rules.proofs.Stage.Depth.{stage-cases}
-use Rattle.rules.proofs.Stage.Under.{old, new}
+use Rattle.rules.proofs.Stage.Under.{old, new, rests, mores}
 use Rattle.rules.proofs.Written.Words.{once-insert, once-insertAll, Finished, finished-words}
 use Rattle.word_rules.specs.Parting.{alike, idle, idleStage}
-use Rattle.word_rules.proofs.Stages.{list-same, alike-self, writes, rests, mores, old-stage, new-stage, idle-is, same-stage}
+use Rattle.word_rules.proofs.Stages.{list-same, alike-self, writes, old-stage, new-stage, idle-is, same-stage}
 use Rattle.word_rules.proofs.Parting.{Parting}
 
 -- ---- rule 8: the realised pins wait, each once, and so do the pins left

@@ -9,15 +9,15 @@ use Rattle.rules.specs.Lists.{sameList}
 use Rattle.rules.specs.Cells.{row, firstEmpty}
 use Rattle.rules.specs.Graph.{Node}
 use Rattle.rules.specs.Traversal.{everyRun, neededRuns, Setting, setting}
-use Rattle.rules.specs.Placing.{tree, treeOf, neededOf, filledPlan}
-use Rattle.rules.specs.Ending.{sparseRuns, plan, Stage?, refused, stage, close, inTree, inNeed, untouched, lastStage, written, rest, moreWords, finish, oneStage}
+use Rattle.rules.specs.Placing.{tree, treeOf, filledPlan}
+use Rattle.rules.specs.Ending.{sparseRuns, plan, Stage?, refused, stage, close, inTree, inNeed, lastStage, written, rest, moreWords, finish, oneStage}
 use Rattle.rules.proofs.Lists.Members.{split, true-false, and-true, eqb-true, eqb-same}
 use Rattle.rules.proofs.Stage.Puts.{cell}
 use Rattle.rules.proofs.Stage.Branches.{finish-seven, finish-full, finish-none, finish-last, finish-more}
 use Rattle.rules.proofs.Stage.Staged.{rest-cases, Ended, finished}
 use Rattle.rules.proofs.Stage.Depth.{stage-cases}
-use Rattle.rules.proofs.Stage.Same.{same-need, same-plan, same-rest}
-use Rattle.rules.proofs.Stage.Under.{old, new}
+use Rattle.rules.proofs.Stage.Same.{same-need, same-plan}
+use Rattle.rules.proofs.Stage.Under.{old, new, same-last, rests, mores}
 use Rattle.word_rules.specs.Parting.{alike, idle, idleStage}
 use Rattle.word_rules.proofs.Runs.{Beside, beside}
 
@@ -46,21 +46,9 @@ alike-self (stage p ws rs vs) = rw (same-list ws, same-list vs)
 -- ---- rules 8 to 11
 
 module _ (X : Setting) (pl : List ℕ) where
-  pub same-last : lastStage (new X) pl ≡ lastStage (old X) pl
-  unfolding lastStage untouched treeOf
-  same-last = rw (same-need neededRuns (old X) pl)
-
   pub writes : Beside (idle (old X) pl) (written (new X) pl) (written (old X) pl)
   unfolding written inNeed treeOf idle
-  writes = rw (same-last, same-need neededRuns (old X) pl) (beside X (lastStage (old X) pl) (sparseRuns (X .K) pl) _)
-
-  pub rests : rest (new X) pl ≡ rest (old X) pl
-  unfolding rest
-  rests = rw (same-need neededRuns (old X) pl, ← writes .real, ← writes .plan) (same-rest neededRuns (old X) (neededOf (old X) pl) (written (old X) pl .real) (written (old X) pl .plan))
-
-  pub mores : (pl2 : List ℕ) → moreWords (new X) pl pl2 ≡ moreWords (old X) pl pl2
-  unfolding moreWords inTree treeOf
-  mores pl2 = rw (← writes .real)
+  writes = rw (same-last X pl, same-need neededRuns (old X) pl) (beside X (lastStage (old X) pl) (sparseRuns (X .K) pl) _)
 
   module _ (room : ℕ) (none : idle (old X) pl ≡ false) where
     -- where no run is idle both rules finish alike, refusals among it
@@ -73,12 +61,12 @@ module _ (X : Setting) (pl : List ℕ) where
         (λ b.
         let b2 : ltb room (length (written (new X) pl .words)) ≡ false = rw (← w) b in
         rest-cases (rest (old X) pl)
-        (λ r. finish-full (old X) room pl b r ∙ sym (finish-full (new X) room pl b2 (rests ∙ r)))
+        (λ r. finish-full (old X) room pl b r ∙ sym (finish-full (new X) room pl b2 (rests X pl ∙ r)))
         (λ pl2 r. cell (firstEmpty 0 (row (X .K) 1 pl2))
-        (λ f. finish-none (old X) room pl b pl2 r f ∙ sym (finish-none (new X) room pl b2 pl2 (rests ∙ r) f))
+        (λ f. finish-none (old X) room pl b pl2 r f ∙ sym (finish-none (new X) room pl b2 pl2 (rests X pl ∙ r) f))
         (λ c f. split (lastStage (old X) pl && leb (length (written (old X) pl .words) + length (moreWords (old X) pl pl2)) room)
-        (λ a. finish-last (old X) room pl b pl2 r c f a ∙ rw (w, ← mores pl2, writes .real) (sym (finish-last (new X) room pl b2 pl2 (rests ∙ r) c f (rw (same-last, mores pl2, ← w) a))))
-        (λ a. finish-more (old X) room pl b pl2 r c f a ∙ rw (w, writes .real) (sym (finish-more (new X) room pl b2 pl2 (rests ∙ r) c f (rw (same-last, mores pl2, ← w) a)))))))
+        (λ a. finish-last (old X) room pl b pl2 r c f a ∙ rw (w, ← mores X pl pl2, writes .real) (sym (finish-last (new X) room pl b2 pl2 (rests X pl ∙ r) c f (rw (same-last X pl, mores X pl pl2, ← w) a))))
+        (λ a. finish-more (old X) room pl b pl2 r c f a ∙ rw (w, writes .real) (sym (finish-more (new X) room pl b2 pl2 (rests X pl ∙ r) c f (rw (same-last X pl, mores X pl pl2, ← w) a)))))))
 
 -- ---- a stage from one state
 

@@ -5,21 +5,21 @@ use mathlib.Core.Logic.{inl, inr}
 use mathlib.Core.Bool.{Bool, true}
 use mathlib.Core.List.{List, [], _∷_, _++_}
 use native.Mathlib.Omega.{arith}
-use lib.ListN.{length, getD, take, drop, length-take}
+use lib.ListN.{length, take, drop, length-take}
 use lib.Pow.{pow-mono, pow-add}
 use borrow.Author.Tests.{lt-ltb}
 use Rattle.rules.specs.Lists.{mem, every, insert}
-use Rattle.rules.specs.Cells.{empty, filled, wordLimit, wordFits, rowAt, row}
+use Rattle.rules.specs.Cells.{wordLimit, wordFits, rowAt, row}
 use Rattle.rules.specs.Graph.{Node}
 use Rattle.rules.specs.Traversal.{WordRule, Setting, setting}
 use Rattle.rules.specs.Placing.{filledPlan}
-use Rattle.rules.specs.Ending.{Put, meet, fillIn, putCell, putCells, Sparse, putRun, goesOn, putRuns, written, wordsIn, wordsUp, moreWords, stage, oneStage}
+use Rattle.rules.specs.Ending.{Put, putCells, Sparse, putRun, goesOn, putRuns, written, wordsIn, wordsUp, moreWords, stage, oneStage}
 use Rattle.rules.proofs.Lists.Members.{split}
 use Rattle.rules.proofs.Job.Fields.{every-cons, every-parts}
 use Rattle.rules.specs.Inside.Counts.{Runs, none, more}
-use Rattle.rules.proofs.Stage.Puts.{list, runs-fit}
+use Rattle.rules.proofs.Stage.Puts.{runs-fit}
 use Rattle.rules.proofs.Stage.Staged.{half-height}
-use Rattle.rules.proofs.Written.Words.{finished-words}
+use Rattle.rules.proofs.Written.Words.{cells-words, finished-words}
 
 every-append : (f : ℕ → Bool) (xs ys : List ℕ) → every f xs ≡ true → every f ys ≡ true → every f (xs ++ ys) ≡ true
 unfolding every
@@ -41,15 +41,6 @@ low-word K i h b =
     let d : 5 + (K - 5) ≡ K = omega arith in
     let e : 2 ^ K ≡ 2 ^ 5 * 2 ^ (K - 5) = rw d at (pow-add 2 5 (K - 5)) in
     lt-ltb (i / 32) (2 ^ (K - 5)) (omega arith)
-
-cell-words : (X : Setting) (p : ℕ) (s : Put) → putCell X p s .words ≡ s .words
-unfolding putCell meet fillIn
-cell-words X p s = list (s .left) (λ e. rw (e, putCell)) (λ y ys e. split (filled (getD (s .plan) p empty)) (λ b. rw (e, b, putCell)) (λ b. rw (e, b, putCell)))
-
-cells-words : (X : Setting) (n p : ℕ) (s : Put) → putCells X n p s .words ≡ s .words
-unfolding putCells
-cells-words X zero p s = refl
-cells-words X (suc n) p s = cells-words X n (suc p) (putCell X p s) ∙ cell-words X p s
 
 module _ (X : Setting) (tall : 6 ≤ X .K) where
   abbrev Low : List ℕ → Type 0

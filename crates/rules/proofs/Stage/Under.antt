@@ -28,7 +28,7 @@ nil (x ∷ xs) e = true-false e refl
 
 -- ---- a sparse record has an empty cell
 
-data Gaps : List Sparse → Type 0 where
+pub data Gaps : List Sparse → Type 0 where
   none : Gaps []
   more : {r : Sparse} {rs : List Sparse} → r .filled < 32 → Gaps rs → Gaps (r ∷ rs)
 
@@ -45,7 +45,8 @@ runsFrom-gaps (suc n) start cells k = split (ltb (count filled (take 32 cells)) 
     (λ e. rw (e, sparseFrom) (runsFrom-gaps n (start + 32) (drop 32 cells) (addRun-gaps (record { filled = count filled (take 32 cells); start = start }) (omega (arith, ltb-true (count filled (take 32 cells)) 10 e)) k)))
     (λ e. rw (e, sparseFrom) (runsFrom-gaps n (start + 32) (drop 32 cells) k))
 
-runs-gaps : (K : ℕ) (pl : List ℕ) → Gaps (sparseRuns K pl)
+-- so the sparse runs of a plan have
+pub runs-gaps : (K : ℕ) (pl : List ℕ) → Gaps (sparseRuns K pl)
 unfolding sparseRuns
 runs-gaps K pl = runsFrom-gaps (levelOneSize K / 32) 0 (row K 1 pl) none
 
@@ -87,7 +88,8 @@ module _ (X : Setting) where
   same-put : (last : Bool) (s : Put) → Compared last s s
   same-put last s = record { idles = record { plan = refl; left = refl; real = refl; words = omega arith }; why = inl refl }
 
-  no-gap : (last : Bool) (k : ℕ) → k < 32 → goesOn everyRun last k 0 ≡ true → last ≡ true
+  -- a run with an empty cell is written with no pin left only where nothing is untouched
+  pub no-gap : (last : Bool) (k : ℕ) → k < 32 → goesOn everyRun last k 0 ≡ true → last ≡ true
   unfolding goesOn allows
   no-gap true k h e = refl
   no-gap false k h e = absurd (omega (arith, leb-true (32 - k) 0 e))
@@ -109,7 +111,8 @@ module _ (X : Setting) where
 
   -- ---- rules 8 to 11 under both
 
-  same-last : (pl : List ℕ) → lastStage new pl ≡ lastStage old pl
+  -- the same pins are untouched
+  pub same-last : (pl : List ℕ) → lastStage new pl ≡ lastStage old pl
   unfolding lastStage untouched treeOf
   same-last pl = rw (same-need neededRuns old pl)
 
@@ -117,11 +120,13 @@ module _ (X : Setting) where
   unfolding written inNeed treeOf
   compare-written pl = rw (same-last pl, same-need neededRuns old pl) (compare-runs (lastStage old pl) (runs-gaps (X .K) pl) _)
 
-  rests : (pl : List ℕ) → rest new pl ≡ rest old pl
+  -- rule 9 leaves the same
+  pub rests : (pl : List ℕ) → rest new pl ≡ rest old pl
   unfolding rest
   rests pl = let c = compare-written pl .idles in rw (same-need neededRuns old pl, ← c .real, ← c .plan) (same-rest neededRuns old (neededOf old pl) (written old pl .real) (written old pl .plan))
 
-  mores : (pl pl2 : List ℕ) → moreWords new pl pl2 ≡ moreWords old pl pl2
+  -- rule 10 has the same words to write
+  pub mores : (pl pl2 : List ℕ) → moreWords new pl pl2 ≡ moreWords old pl pl2
   unfolding moreWords inTree treeOf
   mores pl pl2 = let c = compare-written pl .idles in rw (← c .real)
 

@@ -124,6 +124,16 @@ pub record Shows (X : Setting) (ws : List ℕ) (s : Put) : Type 0 where
   pub real : Sub (s .real) (X .waiting)
   pub left : Sub (s .left) (X .waiting)
 
+cell-words : (X : Setting) (p : ℕ) (s : Put) → putCell X p s .words ≡ s .words
+unfolding putCell meet fillIn
+cell-words X p s = list (s .left) (λ e. rw (e, putCell)) (λ y ys e. split (filled (getD (s .plan) p empty)) (λ b. rw (e, b, putCell)) (λ b. rw (e, b, putCell)))
+
+-- cells are filled without a word being written
+pub cells-words : (X : Setting) (n p : ℕ) (s : Put) → putCells X n p s .words ≡ s .words
+unfolding putCells
+cells-words X zero p s = refl
+cells-words X (suc n) p s = cells-words X n (suc p) (putCell X p s) ∙ cell-words X p s
+
 module _ (X : Setting) (half : 2 ^ (X .K) ≡ rowAt (X .K) 1 + rowAt (X .K) 1) (pl : List ℕ) (l : 2 ^ (X .K) ≤ length pl) where
   put-on : (p y : ℕ) (pl2 : List ℕ) → rowAt (X .K) 1 ≤ p → filled (getD pl2 p empty) ≡ false → (ws : List ℕ) (x : ℕ) → Stands (X .K) pl2 ws x → Stands (X .K) (place X 1 (rowAt (X .K) 1) p y pl2) ws x
   put-on p y pl2 lo b ws x t =
@@ -157,15 +167,6 @@ module _ (X : Setting) (half : 2 ^ (X .K) ≡ rowAt (X .K) 1 + rowAt (X .K) 1) (
         left = λ x i. c .left x (rw e (in-there x y ys i));
       })))
 
-  cell-words : (p : ℕ) (s : Put) → putCell X p s .words ≡ s .words
-  unfolding putCell meet fillIn
-  cell-words p s = list (s .left) (λ e. rw (e, putCell)) (λ y ys e. split (filled (getD (s .plan) p empty)) (λ b. rw (e, b, putCell)) (λ b. rw (e, b, putCell)))
-
-  cells-words : (n p : ℕ) (s : Put) → putCells X n p s .words ≡ s .words
-  unfolding putCells
-  cells-words zero p s = refl
-  cells-words (suc n) p s = cells-words n (suc p) (putCell X p s) ∙ cell-words p s
-
   cells-show : (n p : ℕ) (s : Put) (ws : List ℕ) → rowAt (X .K) 1 ≤ p → p + n ≤ 2 ^ (X .K) → ((j : ℕ) → p ≤ j → j < p + n → In (j / 32) ws) → Keeps X half pl s → Shows X ws s → Shows X ws (putCells X n p s)
   unfolding putCells
   cells-show zero p s ws lo hi m k c = c
@@ -188,7 +189,7 @@ module _ (X : Setting) (half : 2 ^ (X .K) ≡ rowAt (X .K) 1 + rowAt (X .K) 1) (
       let wd : ℕ = (r .start + 2 ^ (X .K - 1)) / 32 in
       let sc : Shows X (s .words ++ (wd ∷ [])) (putCells X 32 p s) = cells-show 32 p s (s .words ++ (wd ∷ [])) (omega arith) (omega arith)
       (λ t a b. let e : t / 32 ≡ wd = omega arith in rw e (in-append-right wd (s .words) (wd ∷ []) (in-here wd []))) k (more-words (s .words) (wd ∷ []) s c) in
-      let sw : Shows X (putCells X 32 p s .words ++ (wd ∷ [])) (putCells X 32 p s) = subst (λ (v : List ℕ). Shows X (v ++ (wd ∷ [])) (putCells X 32 p s)) (sym (cells-words 32 p s)) sc in
+      let sw : Shows X (putCells X 32 p s .words ++ (wd ∷ [])) (putCells X 32 p s) = subst (λ (v : List ℕ). Shows X (v ++ (wd ∷ [])) (putCells X 32 p s)) (sym (cells-words X 32 p s)) sc in
       record { shown = sw .shown; once = sw .once; real = sw .real; left = sw .left }
 
   -- writing runs keeps every realised pin in a written word
