@@ -72,14 +72,14 @@ module _ (K : ℕ) (g : List Node) (given bits : List ℕ) where
   unfolding stage_of
   named_at load held [] R i b = absurd (omega arith)
   named_at load held (s ∷ ss) R zero b = R.0.names
-  named_at load held (s ∷ ss) R (suc i) b = named_at _ _ ss R.1 i (omega arith)
+  named_at load held (s ∷ ss) R (suc i) b = named_at (load_from K g s.plan load) _ ss R.1 i (omega arith)
 
   -- position 0 of stage i is empty
   pub zeroth_at : (load : ℕ → Bool) (held : ℕ → Type 0) (ss : List Stage) → Right K g given bits load held ss → (i : ℕ) → i < length ss → filled (get_or (stage_of ss i).plan 0 empty) ≡ false
   unfolding stage_of
   zeroth_at load held [] R i b = absurd (omega arith)
   zeroth_at load held (s ∷ ss) R zero b = R.0.zeroth
-  zeroth_at load held (s ∷ ss) R (suc i) b = zeroth_at _ _ ss R.1 i (omega arith)
+  zeroth_at load held (s ∷ ss) R (suc i) b = zeroth_at (load_from K g s.plan load) _ ss R.1 i (omega arith)
 
   -- what the first stage loads, and a later one
   pub first_loaded : (load : ℕ → Bool) (held : ℕ → Type 0) (ss : List Stage) → Right K g given bits load held ss → 0 < length ss → (q : ℕ) → 2 ^ K ≤ q → filled (get_or (stage_of ss 0).plan q empty) ≡ true → held (get_or (stage_of ss 0).plan q empty)
@@ -93,4 +93,4 @@ module _ (K : ℕ) (g : List Node) (given bits : List ℕ) where
   unfolding stage_of
   later_loaded load held [] R i b = absurd (omega arith)
   later_loaded load held (s ∷ ss) R zero b = first_loaded _ _ ss R.1 (omega arith)
-  later_loaded load held (s ∷ ss) R (suc i) b = later_loaded _ _ ss R.1 i (omega arith)
+  later_loaded load held (s ∷ ss) R (suc i) b = later_loaded (load_from K g s.plan load) _ ss R.1 i (omega arith)

@@ -74,11 +74,14 @@ unfolding ranking parts_of rank_of
 ranking_among J p barred (s ∷ later) q a = split (mem s.nr barred)
     (λ e. further (ranking_among J p barred later q (rw (e, ranking) at a)))
     (λ e. elim (add_among q (rank_of J p s) (ranking J p barred later) (rw (e, ranking) at a)) [ inl d ↦ rw d front | inr d ↦ further (ranking_among J p barred later q d) ])
+ranking_among J p barred [] q a = elim a [ ]
 
 take_among : (n : ℕ) (rs : List Rank) (q : Part) → Among q (parts_of (take n rs)) → Among q (parts_of rs)
 unfolding parts_of
 take_among (suc n) (r ∷ rs) q front = front
 take_among (suc n) (r ∷ rs) q (further a) = further (take_among n rs q a)
+take_among zero rs q x' = elim x' [ ]
+take_among (suc n) [] q x3 = elim x3 [ ]
 
 -- ---- a round
 
@@ -154,6 +157,7 @@ apart q (p ∷ ps) (one out o) (further a) =
       same = λ f. rw (e, without) (count-append f p.has (indices_of ps) ∙ omega (arith, h.same f, count-append f p.has (indices_of (without q.nr ps))));
       less = rw (e, without) (ap suc h.less);
     }
+apart q [] o x'' = elim x'' [ ]
 
 -- ---- rounds
 
@@ -175,6 +179,7 @@ unfolding without
 without_among n (p ∷ ps) q a = split (eqb p.nr n)
     (λ e. further (rw (e, without) at a))
     (λ e. elim (among_cons (rw (e, without) at a)) [ inl d ↦ rw d front | inr d ↦ further (without_among n ps q d) ])
+without_among n [] q a = elim a [ ]
 
 module _ (J : Common) where
   stays : (p : Part) (later : List Part) (t t' : ℕ) → Builds J p → Once (numbers later) → t' ≤ t + J.ranks → Gathers J p later t (record { part = p; later = later; trials = t' })
