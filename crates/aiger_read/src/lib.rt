@@ -16,7 +16,7 @@ use refusals::{WRONG_GRAPH, WRONG_RECORD, WRONG_SIZE};
 
 // The number, with 12 and 13 the place, with 23 the smallest pin on any loop, and how many numbers then stand in each area; 0 where there
 // is none.
-#[derive(Drop)]
+#[derive(Clone, Copy)]
 pub struct Answer {
     pub number: u32,
     pub at: usize,
@@ -45,7 +45,7 @@ fn has_room(h: Head, gates: usize, records: usize, latches: usize) -> bool
 }
 
 // A number with its place and pin, or 0, where the lines start, and the header.
-#[derive(Drop)]
+#[derive(Clone, Copy)]
 struct Verdict {
     number: u32,
     at: usize,

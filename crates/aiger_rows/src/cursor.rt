@@ -38,7 +38,7 @@ fn more(v: usize, d: usize) -> usize
     tens + d
 }
 
-#[derive(Drop)]
+#[derive(Clone, Copy)]
 pub struct Numeral {
     pub is: bool,
     pub value: usize,
@@ -90,7 +90,7 @@ fn digits(word: &[u8]) -> Numeral
     Numeral { is: true, value: v }
 }
 
-#[derive(Drop)]
+#[derive(Clone, Copy)]
 pub struct Listed {
     pub is: bool,
     pub count: usize,
@@ -138,7 +138,7 @@ pub fn numbers(line: &[u8]) -> Listed
 }
 
 // Digits, as a number, and where they end.
-#[derive(Drop)]
+#[derive(Clone, Copy)]
 struct Run {
     value: usize,
     end: usize,
@@ -169,7 +169,7 @@ fn figures(bytes: &[u8], at: usize) -> Run
 }
 
 // A number and the place of the byte that ends it, or nothing is said.
-#[derive(Drop)]
+#[derive(Clone, Copy)]
 struct Ended {
     is: bool,
     value: usize,
@@ -208,7 +208,7 @@ fn word(bytes: &[u8], at: usize, e: u8) -> Ended
 }
 
 // Three numbers and the end of their line, or nothing is said.
-#[derive(Drop)]
+#[derive(Clone, Copy)]
 pub struct Three {
     pub is: bool,
     pub a: usize,

@@ -6,7 +6,7 @@ ghost use Rattle.aiger_rows.specs.Rows.{HeadIs, Magic};
 use crate::cursor::{numbers, until};
 use crate::rows::both;
 
-#[derive(Drop)]
+#[derive(Clone, Copy)]
 pub struct Heading {
     pub is: bool,
     pub variables: usize,

@@ -9,7 +9,7 @@ use crate::cursor::{number, numbers, until};
 use graph::Literal;
 
 // A text that is bad, a symbol, or a line of a section with its literals. A latch's reset is 0, 1 or the latch.
-#[derive(Drop)]
+#[derive(Clone, Copy)]
 pub enum Row {
     Bad,
     Symbol,
@@ -183,7 +183,7 @@ fn is_comment(line: &[u8]) -> bool
 }
 
 // The five numbers of the header.
-#[derive(Drop)]
+#[derive(Clone, Copy)]
 pub struct Head {
     pub variables: usize,
     pub inputs: usize,

@@ -65,7 +65,7 @@ fn reset_lines(bytes: &[u8], start: usize, h: Head) -> usize
 }
 
 // The number and its place; or 0, where the lines start, and the header.
-#[derive(Drop)]
+#[derive(Clone, Copy)]
 pub struct Verdict {
     pub number: u32,
     pub at: usize,

@@ -7,7 +7,7 @@ use aiger_rows::cursor::{triple, until};
 use aiger_rows::rows::{Head, Row, gate_of, row_at, stops_at};
 
 // No whole line is left, a `c` behind the gates ends all, or a line and where it ends.
-#[derive(Drop)]
+#[derive(Clone, Copy)]
 pub enum Step {
     Last,
     Stop,

@@ -109,7 +109,7 @@ fn is_short(bytes: &[u8], i: usize, h: Head) -> bool
 }
 
 // What a pass finds: the first bad line or the length, and whether the file is cut.
-#[derive(Drop)]
+#[derive(Clone, Copy)]
 pub struct Sweep {
     pub first: usize,
     pub cut: bool,

@@ -13,7 +13,7 @@ use lines::whole;
 use refusals::{NO_FILE, WRONG_SIZE};
 
 // The scope document's number, and how many bytes the file has; 0 on refusal.
-#[derive(Drop)]
+#[derive(Clone, Copy)]
 pub struct Written {
     pub number: u32,
     pub length: usize,

@@ -1,4 +1,6 @@
 // The bits of a file, most significant first.
+#![tactic(auto)]
+
 ghost use Rattle.std.specs.Prelude.{◌≡◌, ◌-◌, ◌*◌, ◌^◌, ◌<◌, length, get_or, set};
 ghost use Rattle.rules.specs.Job.{bits_of, number_width};
 ghost use Rattle.bits.specs.Fields.{bits_in, FieldAt, FieldIs};

@@ -1,4 +1,6 @@
 // A cell with its inversions: the empty mark, or pin + 65,536 × AND + 131,072 × first inversion + 262,144 × second inversion.
+#![tactic(auto)]
+
 ghost use Rattle.std.specs.Prelude.{◌≡◌, not, ◌&&◌, ◌||◌, ◌+◌, ◌*◌, ◌/◌, ◌%◌, ◌<◌, ltb};
 ghost use Rattle.rules.specs.Cells.{empty, filled};
 ghost use Rattle.rules.specs.Fold.{as_number};
@@ -6,7 +8,7 @@ ghost use Rattle.rules.specs.Coded.{cell_pin, ands, first_inversion, second_inve
 
 use graph::{EMPTY, Pin};
 
-#[derive(Drop)]
+#[derive(Clone, Copy)]
 pub struct Cell(pub u32);
 
 impl Cell {

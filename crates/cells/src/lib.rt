@@ -1,14 +1,16 @@
 // Heights and the sizes that they give. Every function takes any numbers: where there is no such height, level or cell, the answer is 0.
+#![tactic(auto)]
+
 ghost use Rattle.std.specs.Prelude.{◌≡◌};
 ghost use Rattle.rules.specs.Cells.{is_height, width, word_limit, level_one_size, stage_size, row_at, position, rooms};
 ghost use Rattle.cells.specs.Answers.{height_of, or_zero, has_level, has_cell};
 
 // The height K of a stage.
-#[derive(Drop)]
+#[derive(Clone, Copy)]
 pub struct Height(pub u32);
 
 // What making a height answers.
-#[derive(Drop)]
+#[derive(Clone, Copy)]
 pub enum MaybeHeight {
     Made(Height),
     Refused,

@@ -89,7 +89,7 @@ fn graph_sized(gates: &[u32]) -> bool
 }
 
 // What the checks say: the scope document's number, 0 where none applies, and with 23 the smallest pin on any loop.
-#[derive(Drop)]
+#[derive(Clone, Copy)]
 pub struct Verdict {
     pub number: u32,
     pub pin: Pin,

@@ -1,5 +1,7 @@
 // The lent work area: sixteen columns of m numbers, m = N + 1, and behind them the tail.
 // Field f of pin p stands at f * m + p. A list of pins is a column too.
+#![tactic(auto)]
+
 ghost use Rattle.std.specs.Prelude.{◌≡◌, not, ◌+◌, ◌*◌, ◌<◌, ◌≤◌, eqb, length, get_or, set, replicate};
 ghost use Rattle.rules.specs.Lists.{laid_over};
 ghost use Rattle.columns.specs.Area.{put, tail, put_tail};
@@ -77,7 +79,7 @@ pub fn number_at(work: &[u32], m: usize, i: usize, f: usize) -> usize
 }
 
 pub fn put_number(work: &mut [u32], m: usize, i: usize, f: usize, v: usize)
-    requires* i_bound { do ⌜ f * m + i < (← ⟦work.len()⟧) ⌝ }
+    requires i_bound { f * m + i < length work.old }
     requires v_bound { v < 4294967296 }
     ensures { work.new ≡ set work.old (f * m + i) v }
 {
@@ -101,7 +103,7 @@ pub fn is_in(work: &[u32], m: usize, p: Pin, f: usize) -> bool
 }
 
 pub fn set_field(work: &mut [u32], m: usize, p: Pin, f: usize, v: usize)
-    requires* p_bound { do ⌜ f * m + p.0 < (← ⟦work.len()⟧) ⌝ }
+    requires p_bound { f * m + p.0 < length work.old }
     requires v_bound { v < 4294967296 }
     ensures { work.new ≡ set work.old (f * m + p.0) v }
 {
@@ -118,7 +120,7 @@ pub fn pin_at(work: &[u32], m: usize, i: usize, f: usize) -> Pin
 
 // Pin p at place n of column f: behind a list of n pins.
 pub fn push(work: &mut [u32], m: usize, n: usize, f: usize, p: Pin)
-    requires* { do ⌜ f * m + n < (← ⟦work.len()⟧) ⌝ }
+    requires { f * m + n < length work.old }
     ensures { work.new ≡ set work.old (f * m + n) p.0 }
 {
     work[f * m + n] = p.0;
@@ -133,7 +135,7 @@ pub fn tail_get(work: &[u32], m: usize, j: usize) -> usize
 }
 
 pub fn tail_set(work: &mut [u32], m: usize, j: usize, v: u32)
-    requires* { do ⌜ 16 * m + j < (← ⟦work.len()⟧) ⌝ }
+    requires { 16 * m + j < length work.old }
     ensures { work.new ≡ set work.old (16 * m + j) v }
 {
     work[16 * m + j] = v;
@@ -152,7 +154,7 @@ pub fn fill_part(s: &mut [u32], v: u32)
 
 // The first n numbers of column f become 0.
 pub fn clear_front(work: &mut [u32], m: usize, n: usize, f: usize)
-    requires* { do ⌜ f * m + n ≤ (← ⟦work.len()⟧) ⌝ }
+    requires { f * m + n ≤ length work.old }
     ensures { work.new ≡ put f m work.old (replicate n 0) }
 {
     let from = f * m;
@@ -162,7 +164,7 @@ pub fn clear_front(work: &mut [u32], m: usize, n: usize, f: usize)
 
 // The tail's first n numbers become v.
 pub fn fill_tail(work: &mut [u32], m: usize, n: usize, v: u32)
-    requires* { do ⌜ 16 * m + n ≤ (← ⟦work.len()⟧) ⌝ }
+    requires { 16 * m + n ≤ length work.old }
     ensures { work.new ≡ put_tail m work.old (laid_over (replicate n v) (tail m work.old)) }
 {
     let a = 16 * m;
@@ -172,7 +174,7 @@ pub fn fill_tail(work: &mut [u32], m: usize, n: usize, v: u32)
 
 // The area's first `size` numbers become 0.
 pub fn clear(work: &mut [u32], size: usize)
-    requires* { do ⌜ size ≤ (← ⟦work.len()⟧) ⌝ }
+    requires { size ≤ length work.old }
     ensures { work.new ≡ laid_over (replicate size 0) work.old }
 {
     fill_part(&mut work[0..size], 0);

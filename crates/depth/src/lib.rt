@@ -23,7 +23,7 @@ use stage_walk::traversal::traverse;
 mod aside;
 
 // The number of a build's check, D, and with 23 the smallest pin on any loop.
-#[derive(Drop)]
+#[derive(Clone, Copy)]
 pub struct Answer {
     pub number: u32,
     pub depth: usize,
@@ -55,7 +55,7 @@ fn measure(gates: &[u32], given: &[u32], records: &[u32], work: &mut [u32]) -> u
 
 // The number of a build's check, memories and duplicates among the records, the words set aside for them, and with 23 the smallest pin on
 // any loop.
-#[derive(Drop)]
+#[derive(Clone, Copy)]
 pub struct SetAside {
     pub number: u32,
     pub memories: usize,

@@ -7,7 +7,7 @@ use columns::tail_set;
 use stage_notes::NOTES;
 
 // For a pin taken back 1, stage, pin, needed pins, level-1 cells filled, distinct pins above level 0; for a refusal its number, stage, limit, count and two parts.
-#[derive(Drop)]
+#[derive(Clone, Copy)]
 pub struct Line(pub u32, pub u32, pub u32, pub u32, pub u32, pub u32);
 
 // A pin taken back.

@@ -19,7 +19,7 @@ use stage::Outcome;
 use stage_tally::{Tally, left, spend};
 
 // A stage's outcome, and how many lines there are behind it.
-#[derive(Drop)]
+#[derive(Clone, Copy)]
 pub struct Step {
     pub number: u32,
     pub words: usize,
@@ -29,7 +29,7 @@ pub struct Step {
 }
 
 // The build's answer, and how many lines explain it.
-#[derive(Drop)]
+#[derive(Clone, Copy)]
 pub struct Explanation {
     pub answer: Answer,
     pub lines: usize,

@@ -9,7 +9,7 @@ use cells::{Height, is_height};
 use sizes::plan_sized;
 use stages::fold_plan;
 
-#[derive(Drop)]
+#[derive(Clone, Copy)]
 pub enum Answer {
     Folded,
     NoHeight,

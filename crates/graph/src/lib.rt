@@ -1,11 +1,13 @@
 // Pins, literals and the gates of a lent graph. Every exported function takes any numbers and slices.
+#![tactic(auto)]
+
 ghost use Rattle.std.specs.Prelude.{◌≡◌, get_or};
 ghost use Rattle.rules.specs.Graph.{leaf, pin_of, inversion_of, node_of, graph_of, pin_count};
 ghost use Rattle.graph.specs.Values.{made_literal, node_for};
 
 pub use cells::wide;
 
-#[derive(Drop)]
+#[derive(Clone, Copy)]
 pub struct Pin(pub u32);
 
 impl Pin {
@@ -18,18 +20,18 @@ impl Pin {
 }
 
 // A pin, inverted or not.
-#[derive(Drop)]
+#[derive(Clone, Copy)]
 pub struct Literal(pub u32);
 
 // What making a literal answers.
-#[derive(Drop)]
+#[derive(Clone, Copy)]
 pub enum MaybeLiteral {
     Made(Literal),
     Refused,
 }
 
 // What drives a pin: nothing here, or a gate of two literals.
-#[derive(Drop)]
+#[derive(Clone, Copy)]
 pub enum Node {
     Leaf,
     Gate(Literal, Literal),

@@ -1,5 +1,7 @@
 // Loops among the gates of a lent graph. A number a pin, found by Pearce's search for components, is a hint: where it nowhere falls from a pin
 // to its operands, which is tested, a pin from which it rises to every operand is on no loop. The other pins have a mark.
+#![tactic(auto)]
+
 ghost use Rattle.std.specs.Prelude.{◌≡◌, [], ◌∷◌, true, ◌||◌, ℕ, ◌+◌, ◌<◌, ◌≤◌, length, get_or, replicate};
 ghost use Rattle.rules.specs.Loops.{on_loop, loop_pin};
 ghost use Rattle.rules.specs.Graph.{graph_of, pin_of, pin_count, below};
@@ -9,7 +11,7 @@ ghost use Rattle.graph_loops.specs.Marks.{Kept, Inside, Rises, Step, Follows, Sp
 use graph::{Literal, Node, Pin, node_at, pin_count, pin_of, wide};
 
 // The smallest pin on a loop, or none is on one.
-#[derive(Drop)]
+#[derive(Clone, Copy)]
 pub enum Looped {
     At(Pin),
     Free,
@@ -52,7 +54,7 @@ fn back(n: u32) -> u32 {
 
 // How far the search is: the pins on the way down, which stand from the list's front on; those held for a component, from its end on; the next
 // number of a pin and of a component; the next pin to start from.
-#[derive(Drop)]
+#[derive(Clone, Copy)]
 struct State {
     way: u32,
     held: u32,

@@ -10,7 +10,7 @@ use refusals::{NO_JOB, WRONG_SIZE};
 use walk::{is_job, measure, walk};
 
 // The scope document's number, the height, and how many numbers of each area the job takes; all 0 on refusal but the number.
-#[derive(Drop)]
+#[derive(Clone, Copy)]
 pub struct Answer {
     pub number: u32,
     pub height: u32,

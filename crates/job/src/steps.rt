@@ -10,7 +10,7 @@ use graph::EMPTY;
 use records::{kind_of, size_of};
 
 // The bit behind what was read, and how many numbers are stored.
-#[derive(Drop)]
+#[derive(Clone, Copy)]
 pub struct Step {
     pub at: usize,
     pub count: usize,

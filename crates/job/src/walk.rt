@@ -10,7 +10,7 @@ use bits::field;
 use graph::EMPTY;
 
 // The bit behind the fields, past the end where they are cut; the height; how many numbers each list has.
-#[derive(Drop)]
+#[derive(Clone, Copy)]
 pub struct Extent {
     pub at: usize,
     pub height: u32,

@@ -11,7 +11,7 @@ use refusals::{NO_JOB, WRONG_SIZE};
 use sections::{measure, put_job};
 
 // The scope document's number, and how many bytes the file has; 0 on refusal.
-#[derive(Drop)]
+#[derive(Clone, Copy)]
 pub struct Written {
     pub number: u32,
     pub length: usize,

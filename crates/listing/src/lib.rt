@@ -13,7 +13,7 @@ use listing_lines::{refused_line, whole};
 use refusals::{NO_HEIGHT, WRONG_SIZE};
 
 // 0 and the length of the text; 1 for a bad height, 2 for an area of the wrong size, with length 0.
-#[derive(Drop)]
+#[derive(Clone, Copy)]
 pub struct Written {
     pub number: u32,
     pub length: usize,

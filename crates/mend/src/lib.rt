@@ -19,7 +19,7 @@ use refusals::{SHORT_LIST, WRONG_PLAN};
 
 // The first of 1, 2, 3, 23, 4, 5 that applies, with 23 the smallest pin on any loop; else 22, with the place of the mended plan's first fault; else
 // 24, where the list is too short; else 0, with the number of changes.
-#[derive(Drop)]
+#[derive(Clone, Copy)]
 pub struct Answer {
     pub number: u32,
     pub stage: usize,

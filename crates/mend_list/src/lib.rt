@@ -7,7 +7,7 @@ ghost use Rattle.mend_list.specs.Lists.{CountAt, Counted, change_for, ChangeAt, 
 use cells::Height;
 
 // A stage from 1, a position of it, and the cell before and after.
-#[derive(Drop)]
+#[derive(Clone, Copy)]
 struct Change {
     stage: u32,
     position: u32,

@@ -12,7 +12,7 @@ use mend_levels::level_at;
 use positions::{first_lower, level_of, second_lower};
 
 // What becomes of a cell: it is kept whole, stands at level 0, copies, or ANDs as its gate says.
-#[derive(Drop)]
+#[derive(Clone, Copy)]
 pub enum Deed {
     Kept,
     Stands(Pin),

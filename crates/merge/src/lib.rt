@@ -18,7 +18,7 @@ use placer::areas::empty_all;
 
 // The scope document's number, the sums of stages and words, the refused stage, the partitions left, the unions examined, the refused
 // partition from 1, with 23 the smallest pin on any loop, and the sum of the filled cells.
-#[derive(Drop)]
+#[derive(Clone, Copy)]
 pub struct Answer {
     pub number: u32,
     pub stages: usize,

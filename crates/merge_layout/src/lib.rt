@@ -8,7 +8,7 @@ use merge_slots::{
     CELLS, GROWS, ORDER, STAGES, UNION, WORDS, copy, open_all, order_keys, sort, start_of,
 };
 
-#[derive(Drop)]
+#[derive(Clone, Copy)]
 pub struct Totals {
     pub partitions: usize,
     pub stages: usize,

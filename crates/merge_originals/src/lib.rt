@@ -10,7 +10,7 @@ use merge_unions::build_union;
 use merge_unions::sizing::size_union;
 use placer::Answer;
 
-#[derive(Drop)]
+#[derive(Clone, Copy)]
 pub enum Originals {
     // The lowest refused partition from 1, its number and stage.
     Refused(usize, u32, usize),

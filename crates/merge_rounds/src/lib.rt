@@ -7,14 +7,14 @@ use merge_slots::{best, open_all};
 use merge_trials::{rank_all, try_union};
 
 // What a round comes to: was a union accepted, and the unions examined so far.
-#[derive(Drop)]
+#[derive(Clone, Copy)]
 pub struct Outcome {
     pub taken: bool,
     pub trials: usize,
 }
 
 // What is left after a slot: the rounds, and the unions examined so far.
-#[derive(Drop)]
+#[derive(Clone, Copy)]
 pub struct Course {
     pub fuel: usize,
     pub trials: usize,

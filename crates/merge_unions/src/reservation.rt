@@ -11,7 +11,7 @@ use crate::table::start_of;
 use placer_start::reservation::{Count, Reservation, add_record, over, set_aside};
 
 // A limit is passed, or so many so far.
-#[derive(Drop)]
+#[derive(Clone, Copy)]
 pub enum Sum {
     Passed,
     Far(Count),

@@ -15,7 +15,7 @@ use placer_start::given::mark_given;
 use stage_walk::traversal::traverse_on;
 
 // How many pins wait, and how many the traversal from them lists.
-#[derive(Drop)]
+#[derive(Clone, Copy)]
 pub struct Cone {
     pub waiting: usize,
     pub listed: usize,

@@ -21,7 +21,7 @@ pub mod stages;
 
 // The scope document's number, the stages and words of a whole plan, the refused stage, with 23 the smallest pin on any loop, and the
 // cells that the pins of a whole plan fill.
-#[derive(Drop)]
+#[derive(Clone, Copy)]
 pub struct Answer {
     pub number: u32,
     pub stages: usize,

@@ -13,7 +13,7 @@ pub mod reservation;
 pub mod waiting;
 
 // Refusal 6, or how many words are set aside and how many pins wait.
-#[derive(Drop)]
+#[derive(Clone, Copy)]
 pub enum Opening {
     Over,
     Ready(usize, usize),

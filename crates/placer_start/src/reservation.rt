@@ -12,21 +12,21 @@ use graph::{Literal, Pin, inversion_of, pin_of};
 use records::{Kind, kind_of, size_at};
 
 // What a record adds: a memory, or at a pin an activation's number.
-#[derive(Drop)]
+#[derive(Clone, Copy)]
 pub enum Added {
     Memory,
     Code(Pin, usize),
 }
 
 // Memories, and duplicates: activations at a pin beyond its first.
-#[derive(Drop)]
+#[derive(Clone, Copy)]
 pub struct Count {
     pub memories: usize,
     pub duplicates: usize,
 }
 
 // Refusal 6, or the words set aside.
-#[derive(Drop)]
+#[derive(Clone, Copy)]
 pub enum Reservation {
     Over,
     Words(usize),

@@ -18,7 +18,7 @@ use stages::{Place, plan_place};
 
 // The first of 1, 2, 3, 23, 4, 5 that applies, with 23 the smallest pin on any loop; else 22, with the first fault's place: its stage from 1 and
 // its position, or stage 0, position 0 for the reservation or a missing endpoint; else 0.
-#[derive(Drop)]
+#[derive(Clone, Copy)]
 pub struct Answer {
     pub number: u32,
     pub stage: usize,

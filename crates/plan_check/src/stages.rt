@@ -13,7 +13,7 @@ use plan_check_stage::marks::mark_cells;
 use plan_check_stage::right::first_wrong;
 
 // Where the first fault is, if there is one.
-#[derive(Drop)]
+#[derive(Clone, Copy)]
 pub struct Place {
     pub wrong: bool,
     pub stage: usize,

@@ -1,4 +1,6 @@
 // Positions: row, level, cell and lower cells, for any numbers. Where there is no such cell, the answer is 0.
+#![tactic(auto)]
+
 ghost use Rattle.std.specs.Prelude.{◌≡◌};
 ghost use Rattle.rules.specs.Cells.{log2, row_start, level_of, cell_of, first_lower, second_lower};
 

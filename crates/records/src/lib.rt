@@ -1,11 +1,13 @@
 // Endpoint records: a kind, then its numbers.
+#![tactic(auto)]
+
 ghost use Rattle.std.specs.Prelude.{◌≡◌};
 ghost use Rattle.rules.specs.Records.{size_of};
 ghost use Rattle.records.specs.Values.{number_of, known, named_by, size_at, endpoint_at};
 
 use graph::{Literal, Pin, pin_of};
 
-#[derive(Drop)]
+#[derive(Clone, Copy)]
 pub enum Kind {
     Output,
     FlipFlop,

@@ -1,4 +1,5 @@
 // The refusals of the scope document and of the requests after it, by their numbers. 0 is no refusal.
+#![tactic(auto)]
 
 // A height outside 6..13.
 pub const NO_HEIGHT: u32 = 1;

@@ -5,7 +5,7 @@ ghost use Rattle.replay_checks.specs.Values.{Readable, Counted, one_if};
 
 use records::size_at;
 
-#[derive(Drop)]
+#[derive(Clone, Copy)]
 pub struct Counts {
     pub memories: usize,
     pub flips: usize,

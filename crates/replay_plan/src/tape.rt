@@ -33,7 +33,7 @@ pub fn make_tape(
 }
 
 // How many places, leaves and flip-flops there are.
-#[derive(Drop)]
+#[derive(Clone, Copy)]
 pub struct Lists {
     pub places: usize,
     pub leaves: usize,

@@ -7,7 +7,7 @@ use cell::Cell;
 use graph::Pin;
 use positions::{first_lower, second_lower};
 
-#[derive(Drop)]
+#[derive(Clone, Copy)]
 pub enum Source {
     Old(u32),
     New(u32, u32),

@@ -1,4 +1,6 @@
 // The row of a level in a lent plan. It takes any numbers: where there is no such row, the part is empty.
+#![tactic(auto)]
+
 ghost use Rattle.std.specs.Prelude.{◌≡◌};
 ghost use Rattle.rules.specs.Cells.{has_row, row_of};
 ghost use Rattle.rows.specs.Spans.{span_of};
@@ -6,7 +8,7 @@ ghost use Rattle.rows.specs.Spans.{span_of};
 use cells::{Height, has_level};
 
 // From start up to end.
-#[derive(Drop)]
+#[derive(Clone, Copy)]
 struct Span {
     start: usize,
     end: usize,

@@ -13,7 +13,7 @@ use reading::read_cells;
 use sheet_form::SHEET_ONE;
 
 // The sheet number, 1 or 2, and the height.
-#[derive(Drop)]
+#[derive(Clone, Copy)]
 pub struct Kind {
     pub number: u32,
     pub height: u32,

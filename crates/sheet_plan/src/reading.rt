@@ -12,7 +12,7 @@ use graph::{EMPTY, Pin};
 use sheet_form::cell_fits;
 
 // The bit behind a cell, and the cell.
-#[derive(Drop)]
+#[derive(Clone, Copy)]
 pub struct Found {
     pub at: usize,
     pub cell: u32,

@@ -14,7 +14,7 @@ use sheet_form::{SHEET_ONE, SHEET_TWO};
 use walk::judge;
 
 // The number of document 02, the height, the stages and the words; all 0 on refusal but the number.
-#[derive(Drop)]
+#[derive(Clone, Copy)]
 pub struct Answer {
     pub number: u32,
     pub height: u32,

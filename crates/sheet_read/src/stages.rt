@@ -9,7 +9,7 @@ use cells::wide;
 use sheet_plan::{Kind, read_plan};
 
 // Where the walk stands: a bit, how many stages it has behind it, and how many words.
-#[derive(Drop)]
+#[derive(Clone, Copy)]
 pub struct Place {
     pub at: usize,
     pub stage: usize,

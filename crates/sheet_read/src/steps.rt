@@ -8,7 +8,7 @@ use bits::field;
 use cells::{Height, wide};
 
 // The bit behind what was read, and how many numbers are stored.
-#[derive(Drop)]
+#[derive(Clone, Copy)]
 pub struct Step {
     pub at: usize,
     pub count: usize,

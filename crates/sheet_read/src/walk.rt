@@ -11,7 +11,7 @@ use cells::{Height, is_height, wide};
 use sheet_plan::Kind;
 
 // The bit behind the stages, past the end where 15 refuses them; the height, how many stages and words.
-#[derive(Drop)]
+#[derive(Clone, Copy)]
 pub struct Extent {
     pub at: usize,
     pub height: u32,
@@ -124,7 +124,7 @@ fn measure(
 }
 
 // What a sheet has; `is` is false where 15 refuses the bytes.
-#[derive(Drop)]
+#[derive(Clone, Copy)]
 pub struct Judged {
     pub is: bool,
     pub height: u32,

@@ -11,7 +11,7 @@ use refusals::{NO_SHEET, TOO_SHORT};
 use sections::put_sheet;
 
 // The number of document 02, and how many bytes the sheet has; 0 on refusal.
-#[derive(Drop)]
+#[derive(Clone, Copy)]
 pub struct Written {
     pub number: u32,
     pub length: usize,

@@ -1,4 +1,6 @@
 // The sizes of lent areas, compared as true numbers: what an area needs is taken off step by step, so that no product wraps.
+#![tactic(auto)]
+
 ghost use Rattle.std.specs.Prelude.{◌≡◌, ◌&&◌, ◌+◌, ◌*◌, ◌/◌};
 ghost use Rattle.rules.specs.Cells.{is_height};
 ghost use Rattle.rules.specs.Checks.{plan_sized, areas_sized};
@@ -7,7 +9,7 @@ ghost use Rattle.sizes.specs.Values.{less, fits};
 use cells::{Height, is_height};
 
 // What is left of an area.
-#[derive(Drop)]
+#[derive(Clone, Copy)]
 pub enum Left {
     Room(usize),
     Short,

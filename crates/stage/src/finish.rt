@@ -16,7 +16,7 @@ use stage_tally::{Tally, is_over, left, spend};
 
 // 0, or the number that refuses the stage. For 0 how many words it has, how many pins wait then and how many cells those kept filled. For 7 the words
 // wanted; for 8 the level-1 cells filled and the needed pins left, where rule 9 starts.
-#[derive(Drop)]
+#[derive(Clone, Copy)]
 pub struct Outcome {
     pub number: u32,
     pub words: usize,

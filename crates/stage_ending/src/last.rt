@@ -7,7 +7,7 @@ use crate::words::{collect, write};
 use cells::Height;
 
 // The pins realised and the words written so far.
-#[derive(Drop)]
+#[derive(Clone, Copy)]
 pub struct Kept {
     pub real: usize,
     pub words: usize,

@@ -13,14 +13,14 @@ use stage_notes::note_back;
 use stage_tree::{first_empty, place_pin, room, take_back};
 
 // What is known of the needed pins: a number that they don't exceed, or how many they are where there is no room for them.
-#[derive(Drop)]
+#[derive(Clone, Copy)]
 enum Bound {
     AtMost(usize),
     NoRoom(usize),
 }
 
 // What a turn leaves: a bound, and where the level's next search starts; or the level has ended.
-#[derive(Drop)]
+#[derive(Clone, Copy)]
 enum Step {
     On(usize, usize),
     Stop,

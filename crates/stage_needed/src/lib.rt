@@ -14,7 +14,7 @@ use graph::Pin;
 use stage_walk::{Next, followed};
 
 // Pins that are noted, and pins that they make needed.
-#[derive(Drop)]
+#[derive(Clone, Copy)]
 pub struct Counts {
     pub noted: usize,
     pub needed: usize,

@@ -11,7 +11,7 @@ use stage_walk::traversal::traverse;
 pub mod ranking;
 
 // How many pins the traversal listed, the greatest level, and a level from which on there are no lists.
-#[derive(Drop)]
+#[derive(Clone, Copy)]
 pub struct Walk {
     pub listed: usize,
     pub top: usize,

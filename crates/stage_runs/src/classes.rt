@@ -6,7 +6,7 @@ use columns::{CELLS, LEVEL, PHASE, SPARE, WAITING, enlist, get, pin_at};
 use graph::Pin;
 
 // How many waiting pins are needed, and whether one is untouched.
-#[derive(Drop)]
+#[derive(Clone, Copy)]
 pub struct Split {
     pub needed: usize,
     pub untouched: bool,

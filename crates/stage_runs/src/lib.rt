@@ -13,7 +13,7 @@ mod classes;
 mod puts;
 
 // What rule 8 leaves: is no waiting pin untouched, how many pins are realised, how many words written.
-#[derive(Drop)]
+#[derive(Clone, Copy)]
 pub struct Spent {
     pub last: bool,
     pub real: usize,

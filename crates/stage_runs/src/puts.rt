@@ -11,7 +11,7 @@ use stage_sparse::Runs;
 use stage_tree::place_pin;
 
 // How many of the needed waiting pins are put, and how many pins are realised.
-#[derive(Drop)]
+#[derive(Clone, Copy)]
 pub struct Puts {
     pub next: usize,
     pub real: usize,
@@ -134,7 +134,7 @@ fn put_record(
 }
 
 // What the runs leave: how many needed waiting pins are put, pins realised, words written.
-#[derive(Drop)]
+#[derive(Clone, Copy)]
 pub struct Written {
     pub next: usize,
     pub real: usize,

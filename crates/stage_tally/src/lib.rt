@@ -1,8 +1,10 @@
 // A tally of words: those spent, those reserved and the limit, lent to thin functions that add and test.
+#![tactic(auto)]
+
 ghost use Rattle.std.specs.Prelude.{◌≡◌, ◌+◌, ◌-◌, ◌<◌, ◌≤◌, ◌^◌, ltb};
 ghost use Rattle.stage_tally.specs.Spending.{spending, bound, room, Counted};
 
-#[derive(Drop)]
+#[derive(Clone, Copy)]
 pub struct Tally {
     pub spent: usize,
     pub reserved: usize,

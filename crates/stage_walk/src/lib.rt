@@ -11,7 +11,7 @@ use graph::{EMPTY, Pin, operand};
 pub mod traversal;
 
 // What is followed from a pin: another one, or nothing.
-#[derive(Drop)]
+#[derive(Clone, Copy)]
 pub enum Next {
     To(Pin),
     Nothing,

@@ -13,7 +13,7 @@ use columns::{
 use graph::{Pin, operand};
 
 // How many items the stack has, and how many pins are listed.
-#[derive(Drop)]
+#[derive(Clone, Copy)]
 pub struct At {
     pub depth: usize,
     pub listed: usize,

@@ -28,7 +28,7 @@ fn part_of(xs: &[u8], from: usize, n: usize) -> &[u8] {
 }
 
 // How many lines a recording has, and how many bits.
-#[derive(Drop)]
+#[derive(Clone, Copy)]
 struct Recorded {
     lines: usize,
     bits: usize,

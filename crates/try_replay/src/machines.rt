@@ -3,7 +3,7 @@ use graph::EMPTY;
 use try_cases::{item, more, set};
 
 // The next number depends on this one alone.
-#[derive(Drop)]
+#[derive(Clone, Copy)]
 pub struct Chance {
     pub seed: u64,
 }
@@ -87,7 +87,7 @@ fn free_leaf(gates: &[u32], driven: &[u32], n: usize, from: u32) -> u32 {
 }
 
 // How many numbers the records have, and how many flip-flops there are.
-#[derive(Drop)]
+#[derive(Clone, Copy)]
 pub struct Drawn {
     pub records: usize,
     pub flips: usize,

@@ -29,7 +29,7 @@ fn main() {
 }
 
 // What was replayed, refused, and compared.
-#[derive(Drop)]
+#[derive(Clone, Copy)]
 struct Totals {
     replayed: usize,
     refused: usize,

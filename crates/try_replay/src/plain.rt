@@ -3,7 +3,7 @@ use graph::{EMPTY, wide};
 use try_cases::{item, more, set};
 
 // How many bits are compared, and how many of them are another.
-#[derive(Drop)]
+#[derive(Clone, Copy)]
 pub struct Tally {
     pub at: usize,
     pub wrong: usize,
@@ -140,7 +140,7 @@ fn compared(t: Tally, out: &[u8], bit: u32) -> Tally {
 }
 
 // Which record is next, and which flip-flop.
-#[derive(Drop)]
+#[derive(Clone, Copy)]
 struct Next {
     at: usize,
     flips: usize,
