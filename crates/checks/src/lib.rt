@@ -1,4 +1,6 @@
 // The checks 1, 2, 3, 23, 4, 5, in their order. Each reads its input once, but for the search for a loop, which graphs in order don't need.
+#![tactic(auto)]
+
 ghost use Rattle.std.specs.Prelude.{◌≡◌, true, [], ◌∷◌, drop};
 ghost use Rattle.rules.specs.Graph.{graph_of, pin_count};
 ghost use Rattle.rules.specs.Records.{whole_at};

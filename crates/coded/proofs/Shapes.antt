@@ -20,7 +20,7 @@ use Rattle.rules.specs.Inside.Plans.{Step, Sane}
 use Rattle.rules.specs.Inside.Plans as plans
 use Rattle.rules.proofs.Lists.Members.{in_nil, in_append_right}
 use Rattle.rules.proofs.Walk.Reverse.{out_sub}
-use Rattle.rules.proofs.Needed.Goals.{setting_sound}
+use Rattle.rules.proofs.Needed.Needs.{setting_sound}
 use Rattle.rules.proofs.Cells.Positions.{position_placed}
 use Rattle.rules.proofs.Stage.Flat.{blank_replicate}
 use Rattle.rules.proofs.Stage.Staged.{Ended, the_end, stage_holds, waits_less, two_step}

@@ -1,4 +1,6 @@
 // The job file, read into lent areas. `read` takes any bytes and areas.
+#![tactic(auto)]
+
 mod steps;
 mod walk;
 

@@ -1,4 +1,6 @@
 // The job file, written into lent bytes. `write` takes any job and bytes.
+#![tactic(auto)]
+
 mod fits;
 mod sections;
 

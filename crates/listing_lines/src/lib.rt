@@ -1,4 +1,6 @@
 // The lines of a listing, each laid behind the cursor `at`.
+#![tactic(auto)]
+
 ghost use Rattle.std.specs.Prelude.{◌≡◌, [], ◌∷◌, ◌++◌, ◌+◌, ◌*◌, take, drop};
 ghost use Rattle.rules.specs.Lists.{count};
 ghost use Rattle.rules.specs.Cells.{filled};

@@ -17,7 +17,7 @@ use Rattle.rules.specs.Loops.{Valid}
 use Rattle.rules.specs.Inside.Walks.{rank}
 use Rattle.rules.proofs.Lists.Members.{split, eqb_true, eqb_false}
 use Rattle.rules.proofs.Walk.Levels.{depth_at, over_least}
-use Rattle.rules.proofs.Needed.Goals.{falls_always}
+use Rattle.rules.proofs.Needed.Needs.{falls_always}
 use Rattle.rules.proofs.Demand.{graph, graph_few}
 use Rattle.graph.proofs.Gates.{graph_length}
 use Rattle.plan_check_stage.specs.Marks.{marked}

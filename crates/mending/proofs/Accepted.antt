@@ -22,7 +22,7 @@ use Rattle.rules.specs.Fold.{is_leaf, lowest}
 use Rattle.rules.proofs.Lists.Members.{split, true_false, or_true, in_cons, in_nil, in_append_left, in_keep, in_distinct, in_get_or}
 use Rattle.rules.proofs.Walk.Levels.{depth_at, over_least}
 use Rattle.rules.proofs.Walk.Reverse.{below_in}
-use Rattle.rules.proofs.Needed.Goals.{falls_always}
+use Rattle.rules.proofs.Needed.Needs.{falls_always}
 use Rattle.rules.proofs.Tree.Held.{node}
 use Rattle.rules.proofs.Fold.Bits.{lower_cells, lowest_stands}
 use Rattle.rules.proofs.Demand.{graph, graph_few, depth_stop}

@@ -21,7 +21,7 @@ use Rattle.rules.specs.Build.{Stage, refusal, whole, stages, coded_stages}
 use Rattle.rules.specs.Depth.{depth}
 use Rattle.rules.specs.Inside.Walks.{rank, Sound, Graph, Ready, Marked}
 use Rattle.rules.proofs.Lists.Members.{split}
-use Rattle.rules.proofs.Needed.Goals.{setting_sound}
+use Rattle.rules.proofs.Needed.Needs.{setting_sound}
 use Rattle.rules.proofs.Cells.Positions.{position_placed, level_one}
 use Rattle.rules.proofs.Stage.Staged.{Ended, the_end, two_step}
 use Rattle.rules.proofs.Stage.Depth.{still_ready, stage_cases}

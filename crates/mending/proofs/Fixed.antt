@@ -17,7 +17,7 @@ use Rattle.rules.specs.Inside.Walks.{rank}
 use Rattle.rules.proofs.Lists.Members.{split, true_false, in_here, in_there}
 use Rattle.rules.proofs.Walk.Levels.{depth_at, over_above}
 use Rattle.rules.proofs.Walk.Reverse.{in_below}
-use Rattle.rules.proofs.Needed.Goals.{falls_always}
+use Rattle.rules.proofs.Needed.Needs.{falls_always}
 use Rattle.rules.proofs.Cells.Positions.{position_placed}
 use Rattle.rules.proofs.Stage.Flat.{blank_replicate}
 use Rattle.rules.proofs.Tree.Loads.{wide, set_either}

@@ -1,4 +1,6 @@
 // The merged partitions in their final order, laid out in the caller's group list.
+#![tactic(auto)]
+
 ghost use Rattle.std.specs.Prelude.{◌≡◌};
 ghost use Rattle.merge_slots.specs.Moves.{OwnAt};
 ghost use Rattle.merge_layout.specs.Layout.{OrderAt, Ordered, GatherAt, Gathered, Cleared, FillAt, TableAt, Tabled, TotalAt, sums, WriteAt, Written, LayAt, Arranged, Laid};

@@ -23,7 +23,7 @@ use Rattle.rules.specs.Depth.{remaining}
 use Rattle.rules.specs.Inside.Walks.{rank, Graph, Ready}
 use Rattle.rules.proofs.Lists.Members.{split, true_false, in_nil, in_here}
 use Rattle.rules.proofs.Loops.{loopless_no, rank_fewer}
-use Rattle.rules.proofs.Needed.Goals.{falls_always}
+use Rattle.rules.proofs.Needed.Needs.{falls_always}
 use Rattle.rules.proofs.Stage.Staged.{remaining_least}
 use Rattle.rules.proofs.Build.Above.{Above, below_above, waits_above}
 use Rattle.rules.proofs.Build.Bounds.{depth_rank, stages_few}

@@ -1,4 +1,6 @@
 // Rules 2 and 3: levels along the order, reverse levels back along it.
+#![tactic(auto)]
+
 ghost use Rattle.std.specs.Prelude.{◌≡◌, ◌+◌, ◌*◌, ◌<◌, max, length, get_or, set};
 ghost use Rattle.rules.specs.Graph.{below};
 ghost use Rattle.rules.specs.Traversal.{over, thread, raise, lift};

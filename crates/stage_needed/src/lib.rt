@@ -1,4 +1,6 @@
 // Rule 6, from the counts of cells by pin: a pin is placed exactly if its count is not 0.
+#![tactic(auto)]
+
 ghost use Rattle.std.specs.Prelude.{◌≡◌, [], ◌∷◌, ◌<◌, ◌≤◌};
 ghost use Rattle.rules.specs.Lists.{keep};
 ghost use Rattle.rules.specs.Placing.{tree_of, asked};

@@ -1,4 +1,6 @@
 // A pin that rule 7 takes back is noted behind the columns, one a level: pin, needed pins, level-1 cells filled, distinct pins above level 0.
+#![tactic(auto)]
+
 ghost use Rattle.std.specs.Prelude.{[], ◌∷◌};
 ghost use Rattle.stage_notes.specs.Notes.{NoteAt, Noted, telling};
 

@@ -1,4 +1,6 @@
 // What a stage starts from: the walks of rules 1 to 3, then the level lists, ranked.
+#![tactic(auto)]
+
 ghost use Rattle.rules.specs.Inside.Some.{Some, Every};
 ghost use Rattle.stage_prepare.specs.Prepared.{PrepareAt, Prepared, ForgetAt, Forgot};
 

@@ -1,6 +1,8 @@
 // Placing a pin in the tree with all that it pulls in below, and taking it back. Cells above level 0 are counted by pin; the filled
 // cells of level 1, the distinct pins above level 0 and the filled cells of all levels are kept as numbers. m = N + 1, and w is where the
 // row of the cell c begins.
+#![tactic(auto)]
+
 ghost use Rattle.std.specs.Prelude.{◌≡◌, ◌+◌};
 ghost use Rattle.rules.specs.Inside.Some.{Some, Every};
 ghost use Rattle.stage_tree.specs.Counts.{CountAt, UncountAt, OneMore, RoomAt, room_in};

@@ -9,7 +9,7 @@ use Rattle.rules.specs.Cells.{empty}
 use Rattle.rules.specs.Graph.{Node}
 use Rattle.rules.specs.Traversal.{WordRule, setting, level_at}
 use Rattle.rules.specs.Inside.Walks.{Graph, Ready, Work}
-use Rattle.rules.proofs.Needed.Goals.{setting_sound}
+use Rattle.rules.proofs.Needed.Needs.{setting_sound}
 use Rattle.rules.proofs.Fold.Whole.{mark}
 use Rattle.rules.proofs.Build.Bounds.{depth_rank}
 use Rattle.stage_walk.specs.Stands.{Context}

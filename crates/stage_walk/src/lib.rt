@@ -1,4 +1,6 @@
 // Rule 1's traversal over the work area. A walk finds its columns empty and is linear in the traversal.
+#![tactic(auto)]
+
 ghost use Rattle.std.specs.Prelude.{◌≡◌, ◌<◌, get_or};
 ghost use Rattle.rules.specs.Graph.{below};
 ghost use Rattle.rules.specs.Inside.Some.{Some, Every};

@@ -1,4 +1,6 @@
 // What the test programs share: the numbers of their inputs, parts of slices, and what they print.
+#![tactic(auto)]
+
 pub mod text;
 
 ghost use Rattle.std.specs.Prelude.{◌<◌};

@@ -16,7 +16,7 @@ use Rattle.rules.specs.Traversal.{needed_runs, thread, visit, traverse, over, le
 use Rattle.rules.specs.Inside.Lean.{blank}
 use Rattle.rules.proofs.Lists.Members.{in_cons, in_nil}
 use Rattle.rules.specs.Inside.Walks.{Graph, Ready, rank}
-use Rattle.rules.proofs.Needed.Goals.{setting_sound}
+use Rattle.rules.proofs.Needed.Needs.{setting_sound}
 use Rattle.rules.proofs.Fold.Whole.{mark}
 use Rattle.rules.specs.Loops.{Valid}
 use Rattle.rules.proofs.Demand.{graph, graph_few, lower_valid}

@@ -1,4 +1,6 @@
 // The walks over small graphs, printed; the file stdout has what they must be.
+#![tactic(auto)]
+
 ghost use Rattle.std.specs.Prelude.{◌+◌, ◌*◌, ◌≤◌, length};
 ghost use Rattle.rules.specs.Inside.Some.{Some};
 ghost use Rattle.try_walks.specs.Shown.{ShowAt, GiveAt, Given, WaitAt, Waiting, StartAt, Started, PrintAt};

@@ -22,7 +22,7 @@ use Rattle.why_form.specs.Why.{Line, back, over, sixth, seventh, eighth, over_li
 use Rattle.stage_notes.specs.Taken.{Taken, taken_back}
 use Rattle.rules.proofs.Lists.Members.{split}
 use Rattle.rules.specs.Inside.Walks.{Graph, Ready}
-use Rattle.rules.proofs.Needed.Goals.{setting_sound}
+use Rattle.rules.proofs.Needed.Needs.{setting_sound}
 use Rattle.rules.proofs.Stage.Staged.{half_height, length-filled_plan, two_step}
 use Rattle.rules.proofs.Stage.Depth.{still_ready, stage_cases}
 use Rattle.rules.proofs.Stage.Crowd.{left_crowd, refused_over}

@@ -16,7 +16,7 @@ use Rattle.rules.specs.States.{none, state, after_from}
 use Rattle.rules.specs.Depth.{remaining}
 use Rattle.rules.specs.Inside.Walks.{rank}
 use Rattle.rules.proofs.Demand.{graph}
-use Rattle.rules.proofs.Needed.Goals.{falls_always}
+use Rattle.rules.proofs.Needed.Needs.{falls_always}
 use Rattle.rules.proofs.Stage.Staged.{remaining_least}
 use Rattle.rules.proofs.Stage.Depth.{stage_cases, Shallow, shallow}
 use Rattle.rules.proofs.Build.Bounds.{depth_rank}

@@ -15,7 +15,7 @@ use Rattle.rules.specs.Placing.{needed_of}
 use Rattle.rules.specs.Ending.{put_rest, written, rest, finish}
 use Rattle.rules.specs.Capacity.{crowd, ones_then, needs_left}
 use Rattle.rules.specs.Lists.{In, laid_at}
-use Rattle.rules.proofs.Needed.Goals.{need_listed}
+use Rattle.rules.proofs.Needed.Needs.{need_listed}
 use Rattle.rules.proofs.Needed.Lacks.{same_needed, wanted_low, true_ltb, false_ltb}
 use Rattle.rules.proofs.Stage.Branches.{finish_seven, finish_full, finish_none}
 use Rattle.rules.proofs.Stage.Staged.{half_height, two_step}
