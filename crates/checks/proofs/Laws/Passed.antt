@@ -55,6 +55,7 @@ named_below : (n q : ℕ) (gs : List Group) → all_named n gs ≡ true → Ends
 unfolding all_named
 named_below n q (x ∷ gs) e (first i) = ltb-true q n (every_in (λ p. ltb p n) q (endpoints_of x) (and_true (every (λ p. ltb p n) (endpoints_of x)) (all_named n gs) e).0 i)
 named_below n q (x ∷ gs) e (later i) = named_below n q gs (and_true (every (λ p. ltb p n) (endpoints_of x)) (all_named n gs) e).1 i
+named_below n q [] e x'' = elim x'' [ ]
 
 -- readable records with right pins
 all_read : (n : ℕ) (r : Groups?) → groups_right n r ≡ true → (gs : List Group) × (r ≡ groups gs) × (all_named n gs ≡ true)
