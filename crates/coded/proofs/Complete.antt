@@ -86,7 +86,7 @@ module _ (K : ℕ) (g : List Node) (ok : Valid g) (count : length g ≤ 65536) (
   written_shown : (q : ℕ) (held : ℕ → Type 0) (room : ℕ) {ss : List Stage} → Shapes K g given held room ss → Written K q ss → written_in q (coded_stages K g ss) ≡ true
   unfolding written_in coded_stages
   written_shown q held room H (here {s = s} t) = rw (stands_holds q held room s H.0 t)
-  written_shown q held room H (there {s = s} {ss = ss} w) = split (holds_in q (coded K g s.plan) s.words) (λ d. rw d) (λ d. rw d (written_shown q _ _ H.1 w))
+  written_shown q held room H (there {s = s} {ss = ss} w) = split (holds_in q (coded K g s.plan) s.words) (λ d. rw d) (λ d. rw d (written_shown q (λ x. In x (tree K s.plan)) _ H.1 w))
 
 -- ---- the lent areas
 

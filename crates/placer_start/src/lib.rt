@@ -1,4 +1,6 @@
 // What a build does between the checks and its first stage, in an area of m = N + 1 pins that is 0 throughout.
+#![tactic(auto)]
+
 ghost use Rattle.std.specs.Prelude.{◌+◌, ◌*◌, length};
 ghost use Rattle.rules.specs.Records.{groups_of};
 ghost use Rattle.columns.specs.Fields.{RECORDS};
