@@ -11,6 +11,7 @@ use lib.Pow.{pow_mono}
 use lib.Seq.{get_or-drop}
 use borrow.Author.Tests.{lt-ltb, le-leb, leb-false, eq-eqb}
 use Rattle.rules.specs.Lists.{In}
+use Rattle.rules.specs.Placing.{tree}
 use Rattle.rules.specs.Cells.{empty, filled, is_height, word_limit, first_lower}
 use Rattle.rules.specs.Graph.{Node, leaf}
 use Rattle.rules.specs.Loops.{Valid}
