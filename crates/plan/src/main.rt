@@ -1,6 +1,13 @@
 // The job program: prints the listing of a job file, or its refusal. The file is the one that its argument names, or standard input.
-use libc::{STDERR_FILENO, STDIN_FILENO, STDOUT_FILENO};
+#![tactic(auto)]
+
+ghost use Rattle.std.specs.Prelude.{◌≤◌, length};
+
 use program::job_text;
+use std::fs::File;
+use std::io::Read;
+use std::rt::Files;
+use std::{env, io};
 
 // One byte more than a file may have, so that a longer one is seen.
 const BYTES: usize = 8193;
@@ -8,43 +15,63 @@ const BYTES: usize = 8193;
 // More than any listing of four stages of height 10 has.
 const TEXT: usize = 98304;
 
-fn main() {
-    if os::arg_count() < 2 {
-        print(STDIN_FILENO);
-        return;
+fn main(rt: HostRuntime) -> io::Result<()> {
+    let mut args = env::args(&rt)?;
+    match args.nth(1) {
+        None => print(&rt, &mut rt.reader()),
+        Some(path) => print_file(&rt, path.as_str()),
     }
-    let mut path = io::buffer();
-    let n = os::arg(1, &mut path);
-    let fd = os::open_read(&path[..n]);
-    if fd < 0 {
-        os::fail(&path[..n]);
-        return;
-    }
-    print(fd);
-    libc::close(fd);
 }
 
-fn print(fd: i32) {
+fn print_file(rt: &(impl Files + Print + Eprint + Alloc), path: &str) -> io::Result<()> {
+    match File::open(rt, path) {
+        Ok(mut file) => print(rt, &mut file),
+        Err(error) => fail(rt, path, error),
+    }
+}
+
+// Writes a line to standard error: what failed, and the system's text, without the number that std puts behind it.
+fn fail(rt: &(impl Eprint + Alloc), what: &str, error: io::Error) -> io::Result<()> {
+    let said = format!(in rt.alloc(); "{error}")?;
+    match said.as_str().split_once(" (os error ") {
+        None => eprintln!(rt; "{what}: {said}"),
+        Some((why, _)) => eprintln!(rt; "{what}: {why}"),
+    }
+}
+
+// Reads until the buffer is full, the input ends or a read fails. Returns how many bytes stand at its start.
+fn read_full<R: Read>(from: &mut R, buf: &mut [u8]) -> usize
+    ensures { result ≤ length buf.new }
+{
+    let mut done = 0;
+    while done < buf.len() {
+        let n = from.read(&mut buf[done..]).unwrap_or(0);
+        if n == 0 {
+            break;
+        }
+        done += n;
+    }
+    done
+}
+
+fn print<R: Read>(rt: &(impl Print + Eprint), from: &mut R) -> io::Result<()> {
     let mut bytes: [u8; BYTES] = [0; BYTES];
-    let n = io::read_full(fd, &mut bytes);
+    let n = read_full(from, &mut bytes);
     if n == BYTES {
-        io::write_all(STDERR_FILENO, b"plan: the file is longer than 8192 bytes\n");
+        eprintln!(rt; "plan: the file is longer than 8192 bytes")?;
     }
     let mut text: [u8; TEXT] = [0; TEXT];
     let w = job_text(&bytes[..n], &mut text);
     if w.number != 0 {
-        io::write_all(
-            STDERR_FILENO,
-            b"plan: the listing is longer than 98304 bytes\n",
-        );
+        eprintln!(rt; "plan: the listing is longer than 98304 bytes")?;
     }
-    show(&text, w.length);
+    show(rt, &text, w.length)
 }
 
 // The first n bytes.
-fn show(text: &[u8], n: usize) {
+fn show(rt: &impl Print, text: &[u8], n: usize) -> io::Result<()> {
     if n > text.len() {
-        return;
+        return Ok(());
     }
-    io::write_all(STDOUT_FILENO, &text[0..n]);
+    rt.write_all(&text[0..n])
 }

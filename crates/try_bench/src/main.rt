@@ -1,64 +1,65 @@
 // The scope document's bench examples marked "run only", and the first one: the builds' answers and what stands in their areas, of a cell its pin.
 use cell::Cell;
 use graph::EMPTY;
-use libc::STDOUT_FILENO;
 use placer::{Answer, build};
+use std::io;
 
-fn main() {
-    first();
-    one_leaf();
-    memories_64();
-    memories_65();
+fn main(rt: HostRuntime) -> io::Result<()> {
+    first(&rt)?;
+    one_leaf(&rt)?;
+    memories_64(&rt)?;
+    memories_65(&rt)
 }
 
-fn say(n: u64) {
-    io::write_all(STDOUT_FILENO, b" ");
-    io::print_decimal(STDOUT_FILENO, n);
+fn say(rt: &impl Print, n: u64) -> io::Result<()> {
+    rt.write_all(b" ")?;
+    rt.print(n)
 }
 
-fn end() {
-    io::write_all(STDOUT_FILENO, b"\n");
+fn end(rt: &impl Print) -> io::Result<()> {
+    rt.write_all(b"\n")
 }
 
-fn tell(a: Answer) {
-    say(a.number as u64);
-    say(a.stages as u64);
-    say(a.words as u64);
-    say(a.stage as u64);
-    say(a.cells as u64);
-    end();
+fn tell(rt: &impl Print, a: Answer) -> io::Result<()> {
+    say(rt, a.number as u64)?;
+    say(rt, a.stages as u64)?;
+    say(rt, a.words as u64)?;
+    say(rt, a.stage as u64)?;
+    say(rt, a.cells as u64)?;
+    end(rt)
 }
 
-fn tell_cell(p: usize, cell: Cell) {
+fn tell_cell(rt: &impl Print, p: usize, cell: Cell) -> io::Result<()> {
     if cell.is_empty() {
-        return;
+        return Ok(());
     }
-    say(p as u64);
-    say(cell.pin().0 as u64);
-    end();
+    say(rt, p as u64)?;
+    say(rt, cell.pin().0 as u64)?;
+    end(rt)
 }
 
 // The positions that are filled, with their pins.
-fn filled(plan: &[u32]) {
+fn filled(rt: &impl Print, plan: &[u32]) -> io::Result<()> {
     let mut p = 0;
     while p < plan.len() {
-        tell_cell(p, Cell(plan[p]));
+        tell_cell(rt, p, Cell(plan[p]))?;
         p += 1;
     }
+    Ok(())
 }
 
-fn all(words: &[u32]) {
+fn all(rt: &impl Print, words: &[u32]) -> io::Result<()> {
     let mut i = 0;
     while i < words.len() {
-        say(words[i] as u64);
+        say(rt, words[i] as u64)?;
         i += 1;
     }
-    end();
+    end(rt)
 }
 
 // Height 6: pins 1 to 4 are leaves, 5 = (2, 4), 6 = (6, 9), 7 = (10, 12), output 14.
-fn first() {
-    io::write_all(STDOUT_FILENO, b"height 6, output 14:");
+fn first(rt: &impl Print) -> io::Result<()> {
+    rt.write_all(b"height 6, output 14:")?;
     let gates: [u32; 16] = [
         EMPTY, EMPTY, EMPTY, EMPTY, EMPTY, EMPTY, EMPTY, EMPTY, EMPTY, EMPTY, 2, 4, 6, 9, 10, 12,
     ];
@@ -68,7 +69,7 @@ fn first() {
     let mut words: [u32; 2] = [0; 2];
     let mut counts: [u32; 1] = [0; 1];
     let mut work: [u32; 656] = [0; 656];
-    tell(build(
+    let answer = build(
         6,
         &gates,
         &given,
@@ -77,14 +78,15 @@ fn first() {
         &mut words,
         &mut counts,
         &mut work,
-    ));
-    filled(&plan);
-    all(&words);
+    );
+    tell(rt, answer)?;
+    filled(rt, &plan)?;
+    all(rt, &words)
 }
 
 // Height 13: pin 1 is a leaf, output 2.
-fn one_leaf() {
-    io::write_all(STDOUT_FILENO, b"height 13, one leaf:");
+fn one_leaf(rt: &impl Print) -> io::Result<()> {
+    rt.write_all(b"height 13, one leaf:")?;
     let gates: [u32; 4] = [EMPTY; 4];
     let given: [u32; 0] = [];
     let records: [u32; 2] = [1, 2];
@@ -92,7 +94,7 @@ fn one_leaf() {
     let mut words: [u32; 256] = [0; 256];
     let mut counts: [u32; 1] = [0; 1];
     let mut work: [u32; 560] = [0; 560];
-    tell(build(
+    let answer = build(
         13,
         &gates,
         &given,
@@ -101,9 +103,10 @@ fn one_leaf() {
         &mut words,
         &mut counts,
         &mut work,
-    ));
-    filled(&plan);
-    all(&words);
+    );
+    tell(rt, answer)?;
+    filled(rt, &plan)?;
+    all(rt, &words)
 }
 
 // A memory's kind at every 92nd number.
@@ -118,7 +121,7 @@ fn set_kinds(records: &mut [u32]) {
     }
 }
 
-fn memories(records: &mut [u32]) {
+fn memories(rt: &impl Print, records: &mut [u32]) -> io::Result<()> {
     set_kinds(records);
     let gates: [u32; 2] = [EMPTY; 2];
     let given: [u32; 0] = [];
@@ -126,7 +129,7 @@ fn memories(records: &mut [u32]) {
     let mut words: [u32; 256] = [0; 256];
     let mut counts: [u32; 1] = [0; 1];
     let mut work: [u32; 48368] = [0; 48368];
-    tell(build(
+    let answer = build(
         13,
         &gates,
         &given,
@@ -135,18 +138,19 @@ fn memories(records: &mut [u32]) {
         &mut words,
         &mut counts,
         &mut work,
-    ));
+    );
+    tell(rt, answer)
 }
 
 // Height 13: 64 memories, all of whose literals are the constant.
-fn memories_64() {
-    io::write_all(STDOUT_FILENO, b"height 13, 64 memories:");
+fn memories_64(rt: &impl Print) -> io::Result<()> {
+    rt.write_all(b"height 13, 64 memories:")?;
     let mut records: [u32; 5888] = [0; 5888];
-    memories(&mut records);
+    memories(rt, &mut records)
 }
 
-fn memories_65() {
-    io::write_all(STDOUT_FILENO, b"height 13, 65 memories:");
+fn memories_65(rt: &impl Print) -> io::Result<()> {
+    rt.write_all(b"height 13, 65 memories:")?;
     let mut records: [u32; 5980] = [0; 5980];
-    memories(&mut records);
+    memories(rt, &mut records)
 }

@@ -1,11 +1,27 @@
-// What the test programs share: the numbers of their inputs, parts of slices, and what they print.
+// What the test programs share: reading, the numbers of their inputs, parts of slices, and what they print.
 #![tactic(auto)]
 
 pub mod text;
 
-ghost use Rattle.std.specs.Prelude.{◌<◌};
+ghost use Rattle.std.specs.Prelude.{◌<◌, ◌≤◌, IfOk, length};
 
-use libc::STDOUT_FILENO;
+use std::io;
+use std::io::Read;
+
+// Reads until the buffer is full or the input ends. Returns how many bytes stand at its start.
+pub fn read_full<R: Read>(from: &mut R, buf: &mut [u8]) -> io::Result<usize>
+    ensures { IfOk result (λ n. n ≤ length buf.new) }
+{
+    let mut done = 0;
+    while done < buf.len() {
+        let n = from.read(&mut buf[done..])?;
+        if n == 0 {
+            break;
+        }
+        done += n;
+    }
+    Ok(done)
+}
 
 pub fn more(n: usize, by: usize) -> usize {
     std::num::wrapping_add_usize(n, by)
@@ -73,25 +89,24 @@ fn tally_of(tally: &[usize], i: usize) -> u64 {
 }
 
 // A byte of a text: a capital stands for a number of the tally, A for the first.
-fn tell_byte(byte: &[u8; 1], tally: &[usize]) {
+fn tell_byte(rt: &impl Print, byte: &[u8; 1], tally: &[usize]) -> io::Result<()> {
     let b = byte[0];
     if b < b'A' {
-        io::write_all(STDOUT_FILENO, byte);
-        return;
+        return rt.write_all(byte);
     }
     if b > b'Z' {
-        io::write_all(STDOUT_FILENO, byte);
-        return;
+        return rt.write_all(byte);
     }
-    io::print_decimal(STDOUT_FILENO, tally_of(tally, wide(b - b'A')));
+    rt.print(tally_of(tally, wide(b - b'A')))
 }
 
 // Prints a text with the tally's numbers for its capitals.
-pub fn tell(text: &[u8], tally: &[usize]) {
+pub fn tell(rt: &impl Print, text: &[u8], tally: &[usize]) -> io::Result<()> {
     let mut i = 0;
     while i < text.len() {
         let byte = [text[i]];
-        tell_byte(&byte, tally);
+        tell_byte(rt, &byte, tally)?;
         i += 1;
     }
+    Ok(())
 }

@@ -1,16 +1,17 @@
 // Functions of lists, whose lengths stand before them. Each prints what is answered.
 use crate::numbers::{say, say_u32};
 use graph::{Node, Pin};
+use std::io;
 use try_cases::text::{narrow, number, piece, put};
 use try_cases::{item, part, set};
 
-pub fn call(function: usize, numbers: &[u8], line: &[u8]) {
+pub fn call(rt: &impl Print, function: usize, numbers: &[u8], line: &[u8]) -> io::Result<()> {
     match function {
-        8 => row(numbers),
-        9 => row_write(numbers),
-        10 => node(numbers, line),
-        11 => record(numbers, line),
-        _ => with_gates(numbers, line),
+        8 => row(rt, numbers),
+        9 => row_write(rt, numbers),
+        10 => node(rt, numbers, line),
+        11 => record(rt, numbers, line),
+        _ => with_gates(rt, numbers, line),
     }
 }
 
@@ -19,30 +20,30 @@ fn listed(xs: &[u32]) -> &[u32] {
 }
 
 // A plan of two rooms of height 6, whose numbers are their indices where a row begins.
-fn row(numbers: &[u8]) {
+fn row(rt: &impl Print, numbers: &[u8]) -> io::Result<()> {
     let mut plan = [0u32; 256];
     set(&mut plan, 1, 1);
     set(&mut plan, 64, 64);
     set(&mut plan, 128, 128);
     set(&mut plan, 160, 160);
     set(&mut plan, 192, 192);
-    row_of(numbers, part(&plan, 0, number(numbers, 4)));
+    row_of(rt, numbers, part(&plan, 0, number(numbers, 4)))
 }
 
 // Height, stage, level and the plan's length: the row's length and first number, 0 if it is empty.
-fn row_of(numbers: &[u8], plan: &[u32]) {
+fn row_of(rt: &impl Print, numbers: &[u8], plan: &[u32]) -> io::Result<()> {
     let own = rows::row(
         plan,
         narrow(numbers, 1),
         number(numbers, 2),
         narrow(numbers, 3),
     );
-    say(own.len());
-    say_u32(item(own, 0));
+    say(rt, own.len())?;
+    say_u32(rt, item(own, 0))
 }
 
 // The first cell of a row is set: what the plan holds there and beside it.
-fn row_write(numbers: &[u8]) {
+fn row_write(rt: &impl Print, numbers: &[u8]) -> io::Result<()> {
     let mut plan = [0u32; 256];
     set(
         rows::row_mut(
@@ -54,56 +55,62 @@ fn row_write(numbers: &[u8]) {
         0,
         7,
     );
-    say_u32(item(&plan, 159));
-    say_u32(item(&plan, 160));
-    say_u32(item(&plan, 161));
+    say_u32(rt, item(&plan, 159))?;
+    say_u32(rt, item(&plan, 160))?;
+    say_u32(rt, item(&plan, 161))
 }
 
 // A pin and the gates.
-fn node(numbers: &[u8], line: &[u8]) {
+fn node(rt: &impl Print, numbers: &[u8], line: &[u8]) -> io::Result<()> {
     let mut gates = [0u32; 8];
     put(piece(line, b';', 3), &mut gates);
-    tell_node(graph::node_at(listed(&gates), Pin(narrow(numbers, 1))));
+    tell_node(rt, graph::node_at(listed(&gates), Pin(narrow(numbers, 1))))
 }
 
-fn tell_node(node: Node) {
+fn tell_node(rt: &impl Print, node: Node) -> io::Result<()> {
     match node {
-        Node::Leaf => {}
+        Node::Leaf => Ok(()),
         Node::Gate(a, b) => {
-            say_u32(a.0);
-            say_u32(b.0);
+            say_u32(rt, a.0)?;
+            say_u32(rt, b.0)
         }
     }
 }
 
 // Where a record stands, which of its pins, and the records.
-fn record(numbers: &[u8], line: &[u8]) {
+fn record(rt: &impl Print, numbers: &[u8], line: &[u8]) -> io::Result<()> {
     let mut records = [0u32; 93];
     put(piece(line, b';', 3), &mut records);
-    tell_record(listed(&records), number(numbers, 1), number(numbers, 2));
+    tell_record(rt, listed(&records), number(numbers, 1), number(numbers, 2))
 }
 
-fn tell_record(records: &[u32], at: usize, i: usize) {
-    say(records::size_at(records, at));
-    say_u32(records::endpoint(records, at, i).0);
+fn tell_record(rt: &impl Print, records: &[u32], at: usize, i: usize) -> io::Result<()> {
+    say(rt, records::size_at(records, at))?;
+    say_u32(rt, records::endpoint(records, at, i).0)
 }
 
 // The height, the lengths of plan, words, counts and work area; gates, given pins and records.
-fn with_gates(numbers: &[u8], line: &[u8]) {
+fn with_gates(rt: &impl Print, numbers: &[u8], line: &[u8]) -> io::Result<()> {
     let mut gates = [0u32; 131075];
     put(piece(line, b';', 3), &mut gates);
-    with_records(numbers, line, listed(&gates));
+    with_records(rt, numbers, line, listed(&gates))
 }
 
-fn with_records(numbers: &[u8], line: &[u8], gates: &[u32]) {
+fn with_records(rt: &impl Print, numbers: &[u8], line: &[u8], gates: &[u32]) -> io::Result<()> {
     let mut given = [0u32; 4];
     let mut records = [0u32; 65539];
     put(piece(line, b';', 4), &mut given);
     put(piece(line, b';', 5), &mut records);
-    check(numbers, gates, listed(&given), listed(&records));
+    check(rt, numbers, gates, listed(&given), listed(&records))
 }
 
-fn check(numbers: &[u8], gates: &[u32], given: &[u32], records: &[u32]) {
+fn check(
+    rt: &impl Print,
+    numbers: &[u8],
+    gates: &[u32],
+    given: &[u32],
+    records: &[u32],
+) -> io::Result<()> {
     let verdict = checks::check(
         narrow(numbers, 1),
         gates,
@@ -114,5 +121,5 @@ fn check(numbers: &[u8], gates: &[u32], given: &[u32], records: &[u32]) {
         number(numbers, 4),
         number(numbers, 5),
     );
-    say_u32(verdict.number);
+    say_u32(rt, verdict.number)
 }

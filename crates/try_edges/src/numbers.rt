@@ -2,98 +2,105 @@
 use cells::{Height, MaybeHeight};
 use graph::{Literal, MaybeLiteral, Pin};
 use sizes::Left;
+use std::io;
 use try_cases::tell;
 use try_cases::text::{narrow, number};
 
-pub fn say(n: usize) {
-    tell(b" A", &[n]);
+pub fn say(rt: &impl Print, n: usize) -> io::Result<()> {
+    tell(rt, b" A", &[n])
 }
 
-pub fn say_u32(n: u32) {
-    say(n as usize);
+pub fn say_u32(rt: &impl Print, n: u32) -> io::Result<()> {
+    say(rt, n as usize)
 }
 
-fn say_bool(b: bool) {
-    say(if b { 1 } else { 0 });
+fn say_bool(rt: &impl Print, b: bool) -> io::Result<()> {
+    say(rt, if b { 1 } else { 0 })
 }
 
-pub fn call(function: usize, numbers: &[u8]) {
+pub fn call(rt: &impl Print, function: usize, numbers: &[u8]) -> io::Result<()> {
     let x = narrow(numbers, 1);
     match function {
-        1 => height(x),
-        2 => position(x),
-        3 => cell(numbers),
-        4 => literal(Pin(x), narrow(numbers, 2)),
-        5 => say(records::size_of(records::kind_of(x))),
-        6 => area(numbers),
-        _ => sized(numbers),
+        1 => height(rt, x),
+        2 => position(rt, x),
+        3 => cell(rt, numbers),
+        4 => literal(rt, Pin(x), narrow(numbers, 2)),
+        5 => say(rt, records::size_of(records::kind_of(x))),
+        6 => area(rt, numbers),
+        _ => sized(rt, numbers),
     }
 }
 
 // A height's own number or 0, and what it carries.
-fn height(k: u32) {
+fn height(rt: &impl Print, k: u32) -> io::Result<()> {
     let made = Height::new(k);
     match made {
-        MaybeHeight::Made(h) => say_u32(h.0),
-        MaybeHeight::Refused => say(0),
+        MaybeHeight::Made(h) => say_u32(rt, h.0)?,
+        MaybeHeight::Refused => say(rt, 0)?,
     }
-    height_sizes(Height(k));
+    height_sizes(rt, Height(k))
 }
 
-fn height_sizes(h: Height) {
-    say(h.width());
-    say(h.level_one_size());
-    say(h.word_limit());
-    say(h.stage_size());
-    say(h.rooms(1000));
+fn height_sizes(rt: &impl Print, h: Height) -> io::Result<()> {
+    say(rt, h.width())?;
+    say(rt, h.level_one_size())?;
+    say(rt, h.word_limit())?;
+    say(rt, h.stage_size())?;
+    say(rt, h.rooms(1000))
 }
 
 // A position, its row, its level at height 6, its cell and the two lower cells.
-fn position(p: u32) {
-    say_u32(p);
-    say_u32(positions::row_start(p));
-    say_u32(positions::level_of(6, p));
-    say_u32(positions::cell_of(p));
-    say(positions::first_lower(p));
-    say(positions::second_lower(p));
+fn position(rt: &impl Print, p: u32) -> io::Result<()> {
+    say_u32(rt, p)?;
+    say_u32(rt, positions::row_start(p))?;
+    say_u32(rt, positions::level_of(6, p))?;
+    say_u32(rt, positions::cell_of(p))?;
+    say(rt, positions::first_lower(p))?;
+    say(rt, positions::second_lower(p))
 }
 
 // Height, level, index.
-fn cell(numbers: &[u8]) {
-    say(cells::position(narrow(numbers, 1), narrow(numbers, 2), narrow(numbers, 3)));
+fn cell(rt: &impl Print, numbers: &[u8]) -> io::Result<()> {
+    say(
+        rt,
+        cells::position(narrow(numbers, 1), narrow(numbers, 2), narrow(numbers, 3)),
+    )
 }
 
-fn literal(pin: Pin, inversion: u32) {
+fn literal(rt: &impl Print, pin: Pin, inversion: u32) -> io::Result<()> {
     let made = graph::literal_of(pin, inversion);
     match made {
-        MaybeLiteral::Made(l) => parts(l),
-        MaybeLiteral::Refused => {}
+        MaybeLiteral::Made(l) => parts(rt, l),
+        MaybeLiteral::Refused => Ok(()),
     }
 }
 
-fn parts(l: Literal) {
-    say_u32(l.0);
-    say_u32(graph::pin_of(l).0);
-    say_u32(graph::inversion_of(l));
+fn parts(rt: &impl Print, l: Literal) -> io::Result<()> {
+    say_u32(rt, l.0)?;
+    say_u32(rt, graph::pin_of(l).0)?;
+    say_u32(rt, graph::inversion_of(l))
 }
 
 // The lengths of gates, records and work area.
-fn area(numbers: &[u8]) {
-    left(sizes::work_left(number(numbers, 1), number(numbers, 2), number(numbers, 3)));
+fn area(rt: &impl Print, numbers: &[u8]) -> io::Result<()> {
+    left(
+        rt,
+        sizes::work_left(number(numbers, 1), number(numbers, 2), number(numbers, 3)),
+    )
 }
 
 // What is left of a work area, and whether 8 numbers are.
-fn left(left: Left) {
+fn left(rt: &impl Print, left: Left) -> io::Result<()> {
     match left {
-        Left::Room(n) => say(n),
+        Left::Room(n) => say(rt, n)?,
         Left::Short => {}
     }
-    say_bool(sizes::has_room(sizes::take_eights(left, 1)));
+    say_bool(rt, sizes::has_room(sizes::take_eights(left, 1)))
 }
 
 // The height, and the lengths of plan, words, counts and work area of a build for one pin and one output.
-fn sized(numbers: &[u8]) {
-    say_bool(sizes::areas_sized(
+fn sized(rt: &impl Print, numbers: &[u8]) -> io::Result<()> {
+    let sized = sizes::areas_sized(
         narrow(numbers, 1),
         4,
         2,
@@ -101,5 +108,6 @@ fn sized(numbers: &[u8]) {
         number(numbers, 3),
         number(numbers, 4),
         number(numbers, 5),
-    ));
+    );
+    say_bool(rt, sized)
 }

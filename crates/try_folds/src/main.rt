@@ -1,5 +1,7 @@
 // Folds the bench examples' plans of cells for all leaf bits (31 leaves: 64 patterns), and compares every filled cell with its pin's own value in the graph.
 // Then plans that no placer makes, and refusals. stdin has them, a line each; README.md says how.
+#![tactic(auto)]
+
 mod bits;
 mod values;
 
@@ -7,9 +9,9 @@ use bits::set_bits;
 use cell::Cell;
 use fold::fold;
 use graph::EMPTY;
-use libc::{STDIN_FILENO, STDOUT_FILENO};
+use std::io;
 use try_cases::text::{narrow, number, piece, put};
-use try_cases::{add, front, item, more, part, set, tell};
+use try_cases::{add, front, item, more, part, read_full, set, tell};
 use values::set_values;
 
 // What result and work hold before a fold.
@@ -56,51 +58,59 @@ const REFUSAL: usize = 6;
 
 const LENGTH: usize = 7;
 
-fn main() {
-    let mut text = io::large_buffer();
-    let n = io::read_full(STDIN_FILENO, &mut text);
-    run(&text[..n]);
+fn main(rt: HostRuntime) -> io::Result<()> {
+    let mut text = [0u8; 65536];
+    let n = read_full(&mut rt.reader(), &mut text)?;
+    run(&rt, &text[..n])
 }
 
 // The first line says how many follow.
-fn run(text: &[u8]) {
+fn run(rt: &impl Print, text: &[u8]) -> io::Result<()> {
     let n = number(piece(text, b'\n', 0), 0);
     let mut k = 0;
     while k < n {
         k += 1;
-        case(piece(text, b'\n', k));
+        case(rt, piece(text, b'\n', k))?;
     }
+    Ok(())
 }
 
 // A line's pieces: a name, numbers, the plan's cells, the graph, and what is told behind the name.
-fn case(line: &[u8]) {
+fn case(rt: &impl Print, line: &[u8]) -> io::Result<()> {
     let mut graph = [0u32; 80];
     put(piece(line, b';', 3), &mut graph);
-    io::write_all(STDOUT_FILENO, piece(line, b';', 0));
-    with_graph(line, &graph);
-    io::write_all(STDOUT_FILENO, b"\n");
+    rt.write_all(piece(line, b';', 0))?;
+    with_graph(rt, line, &graph)?;
+    rt.write_all(b"\n")
 }
 
-fn with_graph(line: &[u8], graph: &[u32]) {
+fn with_graph(rt: &impl Print, line: &[u8], graph: &[u32]) -> io::Result<()> {
     let mut plan = [EMPTY; 16384];
     put_cells(piece(line, b';', 2), &mut plan);
-    with_plan(line, piece(line, b';', 1), graph, &plan);
+    with_plan(rt, line, piece(line, b';', 1), graph, &plan)
 }
 
-fn with_plan(line: &[u8], numbers: &[u8], graph: &[u32], plan: &[u32]) {
+fn with_plan(
+    rt: &impl Print,
+    line: &[u8],
+    numbers: &[u8],
+    graph: &[u32],
+    plan: &[u32],
+) -> io::Result<()> {
     let mut tally = [0usize; 8];
     add(&mut tally, CELLS, number(piece(line, b';', 2), 0));
     fold_all(
+        rt,
         numbers,
         graph,
         part(plan, 0, number(numbers, PLAN)),
         &mut tally,
-    );
-    tell_tally(piece(line, b';', 4), &tally);
+    )?;
+    tell_tally(rt, piece(line, b';', 4), &tally)
 }
 
-fn tell_tally(text: &[u8], tally: &[usize; 8]) {
-    tell(text, tally);
+fn tell_tally(rt: &impl Print, text: &[u8], tally: &[usize; 8]) -> io::Result<()> {
+    tell(rt, text, tally)
 }
 
 // How many cells are filled, then position and cell in turn.
@@ -116,24 +126,45 @@ fn put_cells(cells: &[u8], plan: &mut [u32]) {
 }
 
 // The folds of the patterns of bits from the first up to the last.
-fn fold_all(numbers: &[u8], graph: &[u32], plan: &[u32], tally: &mut [usize; 8]) {
+fn fold_all(
+    rt: &impl Print,
+    numbers: &[u8],
+    graph: &[u32],
+    plan: &[u32],
+    tally: &mut [usize; 8],
+) -> io::Result<()> {
     let last = number(numbers, LAST);
     let mut pattern = number(numbers, FIRST);
     while pattern < last {
-        fold_one(numbers, graph, plan, pattern, tally);
+        fold_one(rt, numbers, graph, plan, pattern, tally)?;
         pattern += 1;
     }
+    Ok(())
 }
 
-fn fold_one(numbers: &[u8], graph: &[u32], plan: &[u32], pattern: usize, tally: &mut [usize; 8]) {
+fn fold_one(
+    rt: &impl Print,
+    numbers: &[u8],
+    graph: &[u32],
+    plan: &[u32],
+    pattern: usize,
+    tally: &mut [usize; 8],
+) -> io::Result<()> {
     let mut bits = [1u32; 32];
     let mut values = [0u32; 32];
     set_bits(&mut bits, pattern, number(numbers, ALONE) == 1);
     set_values(gates(graph), given(graph), &bits, &mut values);
-    fold_bits(numbers, plan, &bits, &values, tally);
+    fold_bits(rt, numbers, plan, &bits, &values, tally)
 }
 
-fn fold_bits(numbers: &[u8], plan: &[u32], bits: &[u32], values: &[u32], tally: &mut [usize; 8]) {
+fn fold_bits(
+    rt: &impl Print,
+    numbers: &[u8],
+    plan: &[u32],
+    bits: &[u32],
+    values: &[u32],
+    tally: &mut [usize; 8],
+) -> io::Result<()> {
     let mut area = [OLD; 16400];
     let mut work = [OLD; 65540];
     let size = number(numbers, RESULT);
@@ -146,8 +177,9 @@ fn fold_bits(numbers: &[u8], plan: &[u32], bits: &[u32], values: &[u32], tally: 
         front(&mut work, looks),
     );
     add(tally, REFUSAL, answer.number() as usize);
-    look(numbers, plan, part(&area, 0, size), values, tally);
+    look(rt, numbers, plan, part(&area, 0, size), values, tally)?;
     look_work(part(&work, 0, looks), tally);
+    Ok(())
 }
 
 // The lengths of gates and given pins, then these.
@@ -164,7 +196,14 @@ fn given(graph: &[u32]) -> &[u32] {
 }
 
 // What is seen of one fold in its result.
-fn look(numbers: &[u8], plan: &[u32], res: &[u32], values: &[u32], tally: &mut [usize; 8]) {
+fn look(
+    rt: &impl Print,
+    numbers: &[u8],
+    plan: &[u32],
+    res: &[u32],
+    values: &[u32],
+    tally: &mut [usize; 8],
+) -> io::Result<()> {
     let from = number(numbers, FROM);
     add(tally, FOLDS, 1);
     add(tally, RIGHT, right(plan, res, values));
@@ -172,8 +211,9 @@ fn look(numbers: &[u8], plan: &[u32], res: &[u32], values: &[u32], tally: &mut [
     add(tally, UNTOUCHED, count(res, from, OLD));
     add(tally, LENGTH, res.len());
     if number(numbers, SHOWN) == 1 {
-        tell_ones(plan, res);
+        tell_ones(rt, plan, res)?;
     }
+    Ok(())
 }
 
 // And in its work area.
@@ -217,17 +257,18 @@ fn count(xs: &[u32], from: usize, x: u32) -> usize {
     n
 }
 
-fn tell_position(p: usize) {
-    tell(b" A", &[p]);
+fn tell_position(rt: &impl Print, p: usize) -> io::Result<()> {
+    tell(rt, b" A", &[p])
 }
 
 // The positions whose bit is 1.
-fn tell_ones(plan: &[u32], res: &[u32]) {
+fn tell_ones(rt: &impl Print, plan: &[u32], res: &[u32]) -> io::Result<()> {
     let mut p = 0;
     while p < plan.len() {
         if item(res, p) == 1 {
-            tell_position(p);
+            tell_position(rt, p)?;
         }
         p += 1;
     }
+    Ok(())
 }

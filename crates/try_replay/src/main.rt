@@ -1,5 +1,7 @@
 // Replays recordings, and compares every bit that comes out with the graph run another way. With no arguments: 200 small machines, drawn at
 // random. With an AIGER file and a recording, a line of 0 and 1 a clock: the outputs' bits, a line a clock, and the end bits.
+#![tactic(auto)]
+
 mod files;
 mod lent;
 mod machines;
@@ -7,25 +9,22 @@ mod plain;
 
 use files::replay_file;
 use lent::replayed;
-use libc::STDOUT_FILENO;
 use machines::{Chance, below, draw_bits, draw_gates, draw_records, free_leaves, next};
 use plain::differing;
+use std::{env, io};
 use try_cases::{more, part};
 
 const MACHINES: u32 = 200;
 
 const LINES: usize = 16;
 
-fn main() {
-    if os::arg_count() < 3 {
-        draw_all();
-        return;
+fn main(rt: HostRuntime) -> io::Result<()> {
+    let mut args = env::args(&rt)?;
+    let name = args.nth(1);
+    match (name, args.next()) {
+        (Some(name), Some(recording)) => replay_file(&rt, name.as_str(), recording.as_str()),
+        _ => draw_all(&rt),
     }
-    let mut name = io::buffer();
-    let n = os::arg(1, &mut name);
-    let mut recording = io::buffer();
-    let m = os::arg(2, &mut recording);
-    replay_file(&name[..n], &recording[..m]);
 }
 
 // What was replayed, refused, and compared.
@@ -38,13 +37,13 @@ struct Totals {
     wrong: usize,
 }
 
-fn say(text: &[u8], n: usize) {
-    io::write_all(STDOUT_FILENO, text);
-    io::print_decimal(STDOUT_FILENO, n as u64);
-    io::write_all(STDOUT_FILENO, b"\n");
+fn say(rt: &impl Print, text: &[u8], n: usize) -> io::Result<()> {
+    rt.write_all(text)?;
+    rt.print(n)?;
+    rt.write_all(b"\n")
 }
 
-fn draw_all() {
+fn draw_all(rt: &impl Print) -> io::Result<()> {
     let mut c = Chance { seed: 2024 };
     let mut t = Totals {
         replayed: 0,
@@ -59,11 +58,11 @@ fn draw_all() {
         t = machine(c, t);
         i += 1;
     }
-    say(b"machines replayed: ", t.replayed);
-    say(b"refused: ", t.refused);
-    say(b"flip-flops: ", t.flips);
-    say(b"bits compared: ", t.bits);
-    say(b"bits that differ: ", t.wrong);
+    say(rt, b"machines replayed: ", t.replayed)?;
+    say(rt, b"refused: ", t.refused)?;
+    say(rt, b"flip-flops: ", t.flips)?;
+    say(rt, b"bits compared: ", t.bits)?;
+    say(rt, b"bits that differ: ", t.wrong)
 }
 
 // A machine of 4 to 39 pins, up to eight records.

@@ -8,51 +8,51 @@ ghost use Rattle.try_trees.specs.Example.{Trial, Same, SizedFor, begun};
 use cells::{Height, is_height};
 use columns::{FILLED, LEVEL, ONES, PINS, fill_part, set_field, tail_get};
 use graph::{EMPTY, Pin};
-use io::{print_decimal, write_all};
 use stage_tree::{first_empty, place_pin, take_back};
-
-const OUT: i32 = 1;
+use std::io;
 
 // A filled cell's position and pin.
-fn list_cell(c: usize, v: u32) {
+fn list_cell(rt: &impl Print, c: usize, v: u32) -> io::Result<()> {
     if v == EMPTY {
-        return;
+        return Ok(());
     }
-    print_decimal(OUT, c as u64);
-    write_all(OUT, b" ");
-    print_decimal(OUT, v as u64);
-    write_all(OUT, b"\n");
+    rt.print(c)?;
+    rt.write_all(b" ")?;
+    rt.print(v)?;
+    rt.write_all(b"\n")
 }
 
-fn list_cells(stage: &[u32]) {
+fn list_cells(rt: &impl Print, stage: &[u32]) -> io::Result<()> {
     let mut c = 0;
     while c < stage.len() {
-        list_cell(c, stage[c]);
+        list_cell(rt, c, stage[c])?;
         c += 1;
     }
+    Ok(())
 }
 
-fn list_counts(work: &[u32], m: usize)
+fn list_counts(rt: &impl Print, work: &[u32], m: usize) -> io::Result<()>
     requires { Room m work.now }
 {
-    write_all(OUT, b"level 1 ");
-    print_decimal(OUT, tail_get(work, m, ONES) as u64);
-    write_all(OUT, b" pins ");
-    print_decimal(OUT, tail_get(work, m, PINS) as u64);
-    write_all(OUT, b" cells ");
-    print_decimal(OUT, tail_get(work, m, FILLED) as u64);
-    write_all(OUT, b"\n");
+    rt.write_all(b"level 1 ")?;
+    rt.print(tail_get(work, m, ONES))?;
+    rt.write_all(b" pins ")?;
+    rt.print(tail_get(work, m, PINS))?;
+    rt.write_all(b" cells ")?;
+    rt.print(tail_get(work, m, FILLED))?;
+    rt.write_all(b"\n")
 }
 
-fn list(stage: &[u32], work: &[u32], m: usize)
+fn list(rt: &impl Print, stage: &[u32], work: &[u32], m: usize) -> io::Result<()>
     requires { Room m work.now }
 {
-    list_cells(stage);
-    list_counts(work, m);
+    list_cells(rt, stage)?;
+    list_counts(rt, work, m)
 }
 
-// Pin p of level h into the lowest empty cell of its level, and back.
+// Pin p of level h into the lowest empty cell of its level, and back, also where nothing can be printed.
 fn there_and_back(
+    rt: &impl Print,
     gates: &[u32],
     stage: &mut [u32],
     work: &mut [u32],
@@ -60,19 +60,20 @@ fn there_and_back(
     h: usize,
     w: usize,
     p: Pin,
-)
+) -> io::Result<()>
     requires { Some (λ C. Trial C m h w p.0 gates.now stage.old work.old) }
     ensures { Same stage.old work.old stage.new work.new }
 {
     let end = 2 * w;
     let c = first_empty(stage, w, end);
     if c >= end {
-        return;
+        return Ok(());
     }
     place_pin(gates, stage, work, m, h, w, c, p);
-    list(stage, work, m);
+    let listed = list(rt, stage, work, m);
     take_back(stage, work, m, h, w, c);
-    list(stage, work, m);
+    listed?;
+    list(rt, stage, work, m)
 }
 
 // The graph's levels by pin, in an area of zeros.
@@ -87,7 +88,12 @@ fn begin(work: &mut [u32])
 }
 
 // Pins 1 to 4 are leaves, 5 = (2, 4), 6 = (6, 9), 7 = (10, 12).
-fn try_example(stage: &mut [u32], work: &mut [u32], height: Height)
+fn try_example(
+    rt: &impl Print,
+    stage: &mut [u32],
+    work: &mut [u32],
+    height: Height,
+) -> io::Result<()>
     requires { SizedFor height.0 stage.old work.old }
 {
     let gates = [
@@ -96,7 +102,7 @@ fn try_example(stage: &mut [u32], work: &mut [u32], height: Height)
     fill_part(stage, EMPTY);
     begin(work);
     let w = height.row_at(2);
-    there_and_back(&gates, stage, work, 8, 2, w, Pin(7));
+    there_and_back(rt, &gates, stage, work, 8, 2, w, Pin(7))
 }
 
 // For a stage of any height.
@@ -106,21 +112,22 @@ fn largest() -> [u32; 16384]
     [0; 16384]
 }
 
-fn show(k: u32) {
+fn show(rt: &impl Print, k: u32) -> io::Result<()> {
     if is_height(k) {
         let mut room = largest();
         let mut work = [0u32; 640];
         let height = Height(k);
         let size = height.stage_size();
-        write_all(OUT, b"height ");
-        print_decimal(OUT, k as u64);
-        write_all(OUT, b"\n");
-        try_example(&mut room[0..size], &mut work, height);
+        rt.write_all(b"height ")?;
+        rt.print(k)?;
+        rt.write_all(b"\n")?;
+        try_example(rt, &mut room[0..size], &mut work, height)?;
     }
+    Ok(())
 }
 
-fn main() {
-    show(6);
-    show(10);
-    show(13);
+fn main(rt: HostRuntime) -> io::Result<()> {
+    show(&rt, 6)?;
+    show(&rt, 10)?;
+    show(&rt, 13)
 }

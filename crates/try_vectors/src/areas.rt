@@ -1,6 +1,7 @@
 // What is handed over and lent in a build and a merge alike.
 use cell::Cell;
 pub use graph::EMPTY;
+use std::io;
 use try_cases::{front, item, more, narrow, number, part, set, tell};
 
 // What the areas hold before.
@@ -101,16 +102,24 @@ fn right(bytes: &[u8], n: usize, x: u32, size: usize, i: usize) -> u32 {
 }
 
 // Whether an area holds just that; if not, its name is printed.
-pub fn holds(xs: &[u32], bytes: &[u8], n: usize, x: u32, size: usize, name: usize) -> bool {
+pub fn holds(
+    rt: &impl Print,
+    xs: &[u32],
+    bytes: &[u8],
+    n: usize,
+    x: u32,
+    size: usize,
+    name: usize,
+) -> io::Result<bool> {
     let mut i = 0;
     while i < xs.len() {
         if xs[i] != right(bytes, n, x, size, i) {
-            tell(b"area A differs\n", &[name]);
-            return false;
+            tell(rt, b"area A differs\n", &[name])?;
+            return Ok(false);
         }
         i += 1;
     }
-    true
+    Ok(true)
 }
 
 // The pin of a cell, which is what the Rust has of it; an empty one stays the empty mark.
@@ -144,8 +153,14 @@ pub fn open(xs: &mut [u32], from: usize, to: usize, x: u32) {
 }
 
 // Whether an area holds x up to the size that it is counted at.
-pub fn cleared(xs: &[u32], own: &[u8], counted: usize, x: u32) -> bool {
-    holds(xs, own, 0, x, number(own, counted), counted)
+pub fn cleared(
+    rt: &impl Print,
+    xs: &[u32],
+    own: &[u8],
+    counted: usize,
+    x: u32,
+) -> io::Result<bool> {
+    holds(rt, xs, own, 0, x, number(own, counted), counted)
 }
 
 // Whether the answer's first numbers are those recorded.

@@ -4,6 +4,7 @@ use crate::areas::{
     gates, given, holds, open, put_input, records, rest, take_cells,
 };
 use placer::{Answer, build};
+use std::io;
 use try_cases::{add, front, more, narrow, number, tell};
 
 // How the head's own part goes on: where the word rules part in a stage, that stage, and where the plan's cells behind it begin.
@@ -75,8 +76,9 @@ fn goes_on(own: &[u8], a: Answer) -> bool {
         && a.cells >= number(own, CELLS)
 }
 
-fn words_agree(own: &[u8], rest: &[u8], words: &[u32]) -> bool {
+fn words_agree(rt: &impl Print, own: &[u8], rest: &[u8], words: &[u32]) -> io::Result<bool> {
     holds(
+        rt,
         words,
         rest,
         number(own, WORDS),
@@ -86,27 +88,38 @@ fn words_agree(own: &[u8], rest: &[u8], words: &[u32]) -> bool {
     )
 }
 
-fn counts_agree(own: &[u8], counted: &[u8], counts: &[u32]) -> bool {
-    holds(counts, counted, worded(own), 0, number(own, ROOMS), ROOMS)
+fn counts_agree(rt: &impl Print, own: &[u8], counted: &[u8], counts: &[u32]) -> io::Result<bool> {
+    holds(
+        rt,
+        counts,
+        counted,
+        worded(own),
+        0,
+        number(own, ROOMS),
+        ROOMS,
+    )
 }
 
-fn plan_agrees(own: &[u8], cells: &[u8], plan: &mut [u32]) -> bool {
-    take_cells(cells, number(own, CELLS), plan) && cleared(plan, own, PLAN, EMPTY)
+fn plan_agrees(rt: &impl Print, own: &[u8], cells: &[u8], plan: &mut [u32]) -> io::Result<bool> {
+    Ok(take_cells(cells, number(own, CELLS), plan) && cleared(rt, plan, own, PLAN, EMPTY)?)
 }
 
 fn areas_agree(
+    rt: &impl Print,
     own: &[u8],
     rest: &[u8],
     plan: &mut [u32],
     words: &[u32],
     counts: &[u32],
     work: &[u32],
-) -> bool {
+) -> io::Result<bool> {
     let counted = behind(rest, number(own, WORDS));
-    plan_agrees(own, behind(counted, worded(own)), plan)
-        && words_agree(own, rest, words)
-        && counts_agree(own, counted, counts)
-        && cleared(work, own, WORK, 0)
+    Ok(
+        plan_agrees(rt, own, behind(counted, worded(own)), plan)?
+            && words_agree(rt, own, rest, words)?
+            && counts_agree(rt, own, counted, counts)?
+            && cleared(rt, work, own, WORK, 0)?,
+    )
 }
 
 // How many numbers of the plan are not compared: those of the stage behind the one where the word rules part, if there is one. Its size is that of each
@@ -132,13 +145,13 @@ fn clear_loose(own: &[u8], a: Answer, plan: &mut [u32], words: &mut [u32], count
 }
 
 // Whether the library leaves what the Rust answers.
-pub fn agrees(head: &[u8], body: &[u8]) -> bool {
+pub fn agrees(rt: &impl Print, head: &[u8], body: &[u8]) -> io::Result<bool> {
     let mut input = [0u32; 3072];
     put_input(head, body, &mut input);
-    built(head, behind(head, 5), rest(head, body), &input)
+    built(rt, head, behind(head, 5), rest(head, body), &input)
 }
 
-fn built(head: &[u8], own: &[u8], rest: &[u8], input: &[u32]) -> bool {
+fn built(rt: &impl Print, head: &[u8], own: &[u8], rest: &[u8], input: &[u32]) -> io::Result<bool> {
     let mut plan = [OLD; 23568];
     let mut words = [OLD; 32];
     let mut counts = [OLD; 40];
@@ -152,10 +165,10 @@ fn built(head: &[u8], own: &[u8], rest: &[u8], input: &[u32]) -> bool {
         &mut work,
     );
     if !answer_agrees(own, a) {
-        return false;
+        return Ok(false);
     }
     clear_loose(own, a, &mut plan, &mut words, &mut counts);
-    areas_agree(own, rest, &mut plan, &words, &counts, &work)
+    areas_agree(rt, own, rest, &mut plan, &words, &counts, &work)
 }
 
 // Counts how much of a plan is compared.
@@ -174,9 +187,10 @@ pub fn add_depth(own: &[u8], tally: &mut [usize]) {
 }
 
 // A capital stands for a number of the tally.
-pub fn tell_all(tally: &[usize; 24]) {
+pub fn tell_all(rt: &impl Print, tally: &[usize; 24]) -> io::Result<()> {
     tell(
+        rt,
         b"the whole plan compared: B builds, C stages\nup to the stage where the word rules part: D builds, cells of E stages, words of F\nrefused with 6: G\nrefused with 7: H\nrefused with 8: I\nrefused with 9: J\npins taken back K\na word twice in a stage L\nseveral stages M\ngiven pins N\nwith outputs O\nwith flip-flops P\nwith memories Q\nwith staged pins R\nheight 6: S\nheight 7: T\nheight 8: U\nheight 9: V\nW builds agree, X differ\n",
         tally,
-    );
+    )
 }

@@ -4,6 +4,7 @@ use crate::areas::{
     holds, put, put_input, records, rest,
 };
 use merge::{Answer, merge};
+use std::io;
 use try_cases::{front, more, narrow, number, tell};
 
 // How the head goes on: the group list.
@@ -64,58 +65,94 @@ fn left<'a>(head: &[u8], rest: &'a [u8]) -> &'a [u8] {
 }
 
 // Whether the group list is as it is left, or, if the merge is refused, as it was.
-fn list_right(head: &[u8], rest: &[u8], indices: &[u32], lengths: &[u32], stages: &[u32]) -> bool {
+fn list_right(
+    rt: &impl Print,
+    head: &[u8],
+    rest: &[u8],
+    indices: &[u32],
+    lengths: &[u32],
+    stages: &[u32],
+) -> io::Result<bool> {
     if number(own(head), NUMBER) == 0 {
-        list_left(head, left(head, rest), indices, lengths, stages)
+        list_left(rt, head, left(head, rest), indices, lengths, stages)
     } else {
-        list_stands(head, rest, indices, lengths, stages)
+        list_stands(rt, head, rest, indices, lengths, stages)
     }
 }
 
-fn list_left(head: &[u8], left: &[u8], indices: &[u32], lengths: &[u32], stages: &[u32]) -> bool {
+fn list_left(
+    rt: &impl Print,
+    head: &[u8],
+    left: &[u8],
+    indices: &[u32],
+    lengths: &[u32],
+    stages: &[u32],
+) -> io::Result<bool> {
     let n = number(head, INDICES);
     let filled = number(own(head), LEFT);
     let size = number(head, PARTITIONS);
     let counted = behind(left, n);
-    holds(indices, left, n, 0, n, INDICES)
-        && holds(lengths, counted, filled, 0, size, PARTITIONS)
-        && holds(stages, behind(counted, filled), filled, 0, size, EXTRA)
+    Ok(
+        holds(rt, indices, left, n, 0, n, INDICES)?
+            && holds(rt, lengths, counted, filled, 0, size, PARTITIONS)?
+            && holds(rt, stages, behind(counted, filled), filled, 0, size, EXTRA)?,
+    )
 }
 
-fn list_stands(head: &[u8], rest: &[u8], indices: &[u32], lengths: &[u32], stages: &[u32]) -> bool {
+fn list_stands(
+    rt: &impl Print,
+    head: &[u8],
+    rest: &[u8],
+    indices: &[u32],
+    lengths: &[u32],
+    stages: &[u32],
+) -> io::Result<bool> {
     let n = number(head, INDICES);
-    holds(indices, rest, n, 0, n, INDICES)
-        && holds(
-            lengths,
-            behind(rest, n),
-            number(head, PARTITIONS),
-            0,
-            0,
-            PARTITIONS,
-        )
-        && holds(stages, rest, 0, 0, 0, EXTRA)
+    Ok(
+        holds(rt, indices, rest, n, 0, n, INDICES)?
+            && holds(
+                rt,
+                lengths,
+                behind(rest, n),
+                number(head, PARTITIONS),
+                0,
+                0,
+                PARTITIONS,
+            )?
+            && holds(rt, stages, rest, 0, 0, 0, EXTRA)?,
+    )
 }
 
-fn areas_agree(own: &[u8], plan: &[u32], words: &[u32], counts: &[u32], work: &[u32]) -> bool {
-    cleared(plan, own, PLAN, EMPTY)
-        && cleared(words, own, LIMIT, EMPTY)
-        && cleared(counts, own, ROOMS, 0)
-        && cleared(work, own, WORK, 0)
+fn areas_agree(
+    rt: &impl Print,
+    own: &[u8],
+    plan: &[u32],
+    words: &[u32],
+    counts: &[u32],
+    work: &[u32],
+) -> io::Result<bool> {
+    Ok(
+        cleared(rt, plan, own, PLAN, EMPTY)?
+            && cleared(rt, words, own, LIMIT, EMPTY)?
+            && cleared(rt, counts, own, ROOMS, 0)?
+            && cleared(rt, work, own, WORK, 0)?,
+    )
 }
 
 // Whether the library leaves what the Rust answers.
-pub fn agrees(head: &[u8], body: &[u8]) -> bool {
+pub fn agrees(rt: &impl Print, head: &[u8], body: &[u8]) -> io::Result<bool> {
     let mut input = [0u32; 3072];
     put_input(head, body, &mut input);
-    listed(head, rest(head, body), &input)
+    listed(rt, head, rest(head, body), &input)
 }
 
-fn listed(head: &[u8], rest: &[u8], input: &[u32]) -> bool {
+fn listed(rt: &impl Print, head: &[u8], rest: &[u8], input: &[u32]) -> io::Result<bool> {
     let mut indices = [OLD; 1024];
     let mut lengths = [OLD; 64];
     let mut stages = [OLD; 64];
     let n = number(head, PARTITIONS);
     merged(
+        rt,
         head,
         rest,
         input,
@@ -126,28 +163,32 @@ fn listed(head: &[u8], rest: &[u8], input: &[u32]) -> bool {
 }
 
 fn merged(
+    rt: &impl Print,
     head: &[u8],
     rest: &[u8],
     input: &[u32],
     indices: &mut [u32],
     lengths: &mut [u32],
     stages: &mut [u32],
-) -> bool {
+) -> io::Result<bool> {
     put(rest, indices);
     put(behind(rest, number(head, INDICES)), lengths);
-    lent(head, own(head), input, indices, lengths, stages)
-        && list_right(head, rest, indices, lengths, stages)
+    Ok(
+        lent(rt, head, own(head), input, indices, lengths, stages)?
+            && list_right(rt, head, rest, indices, lengths, stages)?,
+    )
 }
 
 // Whether all but the group list agrees.
 fn lent(
+    rt: &impl Print,
     head: &[u8],
     own: &[u8],
     input: &[u32],
     indices: &mut [u32],
     lengths: &mut [u32],
     stages: &mut [u32],
-) -> bool {
+) -> io::Result<bool> {
     let mut plan = [OLD; 16400];
     let mut words = [OLD; 32];
     let mut counts = [OLD; 40];
@@ -163,13 +204,14 @@ fn lent(
         &mut counts,
         &mut work,
     );
-    answer_agrees(own, a) && areas_agree(own, &plan, &words, &counts, &work)
+    Ok(answer_agrees(own, a) && areas_agree(rt, own, &plan, &words, &counts, &work)?)
 }
 
 // A capital stands for a number of the tally.
-pub fn tell_all(tally: &[usize; 24]) {
+pub fn tell_all(rt: &impl Print, tally: &[usize; 24]) -> io::Result<()> {
     tell(
+        rt,
         b"merged A\nrefused with 6: G\nrefused with 7: H\nrefused with 8: I\nunions that fail K\na block not begun L\nover 30 partitions M\nmore stages than before N\nno extra stages allowed O\na group twice P\nan empty partition Q\ngiven pins R\nheight 6: S\nheight 7: T\nheight 8: U\nheight 9: V\nW merges agree, X differ\n",
         tally,
-    );
+    )
 }

@@ -2,6 +2,7 @@
 // 18), those that agree and those that differ.
 use crate::areas::{HEIGHT, NUMBER, behind};
 use crate::builds::add_depth;
+use std::io;
 use try_cases::{add, more, number, tell};
 
 const MARKED: usize = 10;
@@ -37,10 +38,12 @@ pub fn agreed(merging: bool, head: &[u8], tally: &mut [usize; 24]) {
     }
 }
 
-pub fn differed(tally: &mut [usize; 24]) {
+pub fn differed(rt: &impl Print, tally: &mut [usize; 24]) -> io::Result<()> {
     tell(
+        rt,
         b"one differs, behind W that agree and X that differ\n",
         tally,
-    );
+    )?;
     add(tally, DIFFER, 1);
+    Ok(())
 }

@@ -10,22 +10,22 @@ use columns::{
     DONE, ENDS, LEVEL, NEEDED, ORDER, RANKED, REVERSE, clear, number_at, set_field, wait,
 };
 use graph::Pin;
-use io::{print_decimal, write_all};
 use stage_needed::needed;
 use stage_prepare::prepare;
+use std::io;
 
 // The first n numbers of column f.
-fn row(name: &[u8], work: &[u32], m: usize, f: usize, n: usize)
+fn row(rt: &impl Print, name: &[u8], work: &[u32], m: usize, f: usize, n: usize) -> io::Result<()>
     requires { f * m + n ≤ length work.now }
 {
-    write_all(1, name);
+    rt.write_all(name)?;
     let mut i = 0;
     while i < n {
-        write_all(1, b" ");
-        print_decimal(1, number_at(work, m, i, f) as u64);
+        rt.write_all(b" ")?;
+        rt.print(number_at(work, m, i, f))?;
         i += 1;
     }
-    write_all(1, b"\n");
+    rt.write_all(b"\n")
 }
 
 // The given pins are marked.
@@ -81,17 +81,31 @@ fn in_lists(work: &[u32], m: usize, k: usize, levels: usize) -> usize
 }
 
 // The k pins of the order, the pins in lists, the c needed pins, and levels by pin.
-fn print(work: &[u32], m: usize, k: usize, levels: usize, c: usize)
+fn print(
+    rt: &impl Print,
+    work: &[u32],
+    m: usize,
+    k: usize,
+    levels: usize,
+    c: usize,
+) -> io::Result<()>
     requires { PrintAt m k levels c work.now }
 {
-    row(b"order", work, m, ORDER, k);
-    row(b"levels", work, m, LEVEL, m);
-    row(b"reverse", work, m, REVERSE, m);
-    row(b"lists", work, m, RANKED, in_lists(work, m, k, levels));
-    row(b"needed", work, m, NEEDED, c);
+    row(rt, b"order", work, m, ORDER, k)?;
+    row(rt, b"levels", work, m, LEVEL, m)?;
+    row(rt, b"reverse", work, m, REVERSE, m)?;
+    row(rt, b"lists", work, m, RANKED, in_lists(work, m, k, levels))?;
+    row(rt, b"needed", work, m, NEEDED, c)
 }
 
-fn show(name: &[u8], gates: &[u32], given: &[u32], waiting: &[u32], work: &mut [u32])
+fn show(
+    rt: &impl Print,
+    name: &[u8],
+    gates: &[u32],
+    given: &[u32],
+    waiting: &[u32],
+    work: &mut [u32],
+) -> io::Result<()>
     requires { ShowAt gates.now given.now waiting.now work.old }
 {
     let m = gates.len() / 2;
@@ -99,24 +113,24 @@ fn show(name: &[u8], gates: &[u32], given: &[u32], waiting: &[u32], work: &mut [
     let walk = prepare(gates, work, m, n, Height(6));
     let k = walk.listed;
     let c = needed(gates, work, m, n, k);
-    write_all(1, name);
-    print(work, m, k, walk.levels, c);
+    rt.write_all(name)?;
+    print(rt, work, m, k, walk.levels, c)
 }
 
 const NONE: u32 = 4294967295;
 
 // Each pin over the one before.
-fn chain(work: &mut [u32])
+fn chain(rt: &impl Print, work: &mut [u32]) -> io::Result<()>
     requires { 1024 ≤ length work.old }
 {
     let gates = [NONE, NONE, NONE, NONE, NONE, NONE, 2, 4, 6, 3, 8, 4];
     let pins: [u32; 0] = [];
     let waiting = [5];
-    show(b"chain\n", &gates, &pins, &waiting, work);
+    show(rt, b"chain\n", &gates, &pins, &waiting, work)
 }
 
 // Four leaves under one pin.
-fn tree(work: &mut [u32])
+fn tree(rt: &impl Print, work: &mut [u32]) -> io::Result<()>
     requires { 1024 ≤ length work.old }
 {
     let gates = [
@@ -124,11 +138,11 @@ fn tree(work: &mut [u32])
     ];
     let pins: [u32; 0] = [];
     let waiting = [7];
-    show(b"tree\n", &gates, &pins, &waiting, work);
+    show(rt, b"tree\n", &gates, &pins, &waiting, work)
 }
 
 // Pins that are operands of several; two of one level and reverse level.
-fn shared(work: &mut [u32])
+fn shared(rt: &impl Print, work: &mut [u32]) -> io::Result<()>
     requires { 1024 ≤ length work.old }
 {
     let gates = [
@@ -136,11 +150,11 @@ fn shared(work: &mut [u32])
     ];
     let pins: [u32; 0] = [];
     let waiting = [7, 6];
-    show(b"shared\n", &gates, &pins, &waiting, work);
+    show(rt, b"shared\n", &gates, &pins, &waiting, work)
 }
 
 // Of two pins of level 2 the one that is met later has the greater reverse level.
-fn ranked(work: &mut [u32])
+fn ranked(rt: &impl Print, work: &mut [u32]) -> io::Result<()>
     requires { 1024 ≤ length work.old }
 {
     let gates = [
@@ -148,11 +162,11 @@ fn ranked(work: &mut [u32])
     ];
     let pins: [u32; 0] = [];
     let waiting = [5, 7];
-    show(b"ranked\n", &gates, &pins, &waiting, work);
+    show(rt, b"ranked\n", &gates, &pins, &waiting, work)
 }
 
 // The tree with a gate that is given, named twice.
-fn given(work: &mut [u32])
+fn given(rt: &impl Print, work: &mut [u32]) -> io::Result<()>
     requires { 1024 ≤ length work.old }
 {
     let gates = [
@@ -160,11 +174,11 @@ fn given(work: &mut [u32])
     ];
     let pins = [5, 5];
     let waiting = [7];
-    show(b"given\n", &gates, &pins, &waiting, work);
+    show(rt, b"given\n", &gates, &pins, &waiting, work)
 }
 
 // Endpoints that repeat, one below another.
-fn repeated(work: &mut [u32])
+fn repeated(rt: &impl Print, work: &mut [u32]) -> io::Result<()>
     requires { 1024 ≤ length work.old }
 {
     let gates = [
@@ -172,26 +186,26 @@ fn repeated(work: &mut [u32])
     ];
     let pins: [u32; 0] = [];
     let waiting = [6, 7, 6, 1, 7];
-    show(b"repeated\n", &gates, &pins, &waiting, work);
+    show(rt, b"repeated\n", &gates, &pins, &waiting, work)
 }
 
 // No endpoint.
-fn idle(work: &mut [u32])
+fn idle(rt: &impl Print, work: &mut [u32]) -> io::Result<()>
     requires { 1024 ≤ length work.old }
 {
     let gates = [NONE, NONE, NONE, NONE];
     let pins: [u32; 0] = [];
     let waiting: [u32; 0] = [];
-    show(b"idle\n", &gates, &pins, &waiting, work);
+    show(rt, b"idle\n", &gates, &pins, &waiting, work)
 }
 
-fn main() {
+fn main(rt: HostRuntime) -> io::Result<()> {
     let mut work = [7u32; 1024];
-    chain(&mut work);
-    tree(&mut work);
-    shared(&mut work);
-    ranked(&mut work);
-    given(&mut work);
-    repeated(&mut work);
-    idle(&mut work);
+    chain(&rt, &mut work)?;
+    tree(&rt, &mut work)?;
+    shared(&rt, &mut work)?;
+    ranked(&rt, &mut work)?;
+    given(&rt, &mut work)?;
+    repeated(&rt, &mut work)?;
+    idle(&rt, &mut work)
 }

@@ -6,4 +6,4 @@ use Rattle.try_walks.proofs.repeated.Goals as goal
 
 pub show-requires : goal.show-requires
 unfolding everything
-show-requires c = record { graph = refl; free = refl; gives = refl; waits = refl; room = omega arith }
+show-requires g c = record { graph = refl; free = refl; gives = refl; waits = refl; room = omega arith }
