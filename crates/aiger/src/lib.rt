@@ -1,3 +1,5 @@
 // ASCII AIGER files, in and out of lent areas: what a user calls.
+#![tactic(auto)]
+
 pub use aiger_read::{Answer, read};
 pub use aiger_write::{Written, write};

@@ -84,6 +84,7 @@ spots_fit : (m : ℕ) (f : List ℕ → Item) → ((line : List ℕ) → fits m 
 unfolding spots items
 spots_fit m f h (l ∷ ls) x here = h l.text
 spots_fit m f h (l ∷ ls) x (there i) = spots_fit m f h ls x i
+spots_fit m f h [] x x3 = elim x3 [ ]
 
 among_append : (ss ts : List Spot) {x : Item} → Among x (items (ss ++ ts)) → Among x (items ss) ⊎ Among x (items ts)
 unfolding items
@@ -169,6 +170,7 @@ uses_known : (all seen : List ℕ) (ss : List Spot) → first_bad all seen ss �
 unfolding items
 uses_known all seen (s ∷ ss) e here = (bad_cons all seen s ss e).0.known
 uses_known all seen (s ∷ ss) e (there i) = uses_known all (defines s.item ++ seen) ss (bad_cons all seen s ss e).1 i
+uses_known all seen [] e x4 = elim x4 [ ]
 
 -- what is in neither of two lists
 pub out_of : (p : ℕ) (xs ys : List ℕ) → Out p (xs ++ ys) → Out p xs × Out p ys
@@ -182,6 +184,7 @@ found_driver all seen (s ∷ ss) e (there a) p i =
     let h = found_driver all (defines s.item ++ seen) ss (bad_cons all seen s ss e).1 a p i in
     let o = out_of p (defines s.item) seen h.0 in
     (o.1, rw (o.0, driven) h.1)
+found_driver all seen [] e x5 p i = elim x5 [ ]
 
 -- what an accepted file's lines show
 pub record Lines (m : ℕ) (xs : List Item) : Type 0 where

@@ -109,6 +109,7 @@ module _ (g : List Node) where
     drives = λ q i. one_pin p q i (λ e. rw e (sym w.1));
   })
   inputs_fine (p ∷ ps) h x (there i) = inputs_fine ps (λ q j. h q (in_there q p ps j)) x i
+  inputs_fine [] h x x4 = elim x4 [ ]
 
   -- a latch's
   pub latches_fine : (ps ds : List ℕ) → ((p : ℕ) → In p ps → (0 < p) × (get_or g p leaf ≡ leaf)) → ((d : ℕ) → In d ds → pin_of d < length g) → AllFine g (latch_items ps ds)
@@ -121,6 +122,8 @@ module _ (g : List Node) where
     drives = λ q i. one_pin p q i (λ e. rw e (sym w.1));
   })
   latches_fine (p ∷ ps) (d ∷ ds) h k x (there i) = latches_fine ps ds (λ q j. h q (in_there q p ps j)) (λ q j. k q (in_there q d ds j)) x i
+  latches_fine [] ds h k x x5 = elim x5 [ ]
+  latches_fine (p ∷ ps) [] h k x x10 = elim x10 [ ]
 
   -- an output's
   pub outputs_fine : (ls : List ℕ) → ((l : ℕ) → In l ls → pin_of l < length g) → AllFine g (output_items ls)
@@ -133,6 +136,7 @@ module _ (g : List Node) where
     drives = λ q i. in_nil q i;
   })
   outputs_fine (l ∷ ls) k x (there i) = outputs_fine ls (λ q j. k q (in_there q l ls j)) x i
+  outputs_fine [] k x x4 = elim x4 [ ]
 
   -- a gate is a pin of the graph
   pub inside : (p a b : ℕ) → get_or g p leaf ≡ gate a b → p < length g
@@ -164,6 +168,7 @@ module _ (g : List Node) where
       let e : get_or g p leaf ≡ gate a b = rw z at (h 0 a b refl) in
       gate_fine R p a b e
   gates_fine R p (gate a b ∷ t) h x (there i) = gates_fine R (suc p) t (λ k c d e. rw (suc_plus p k) at (h (suc k) c d e)) x i
+  gates_fine R p [] h x x6 = elim x6 [ ]
 
 -- ---- what they define, and the records and leaves that they become
 

@@ -29,31 +29,31 @@ pub groups_numbers : List Group → List ℕ
 groups_numbers [] = []
 groups_numbers (x ∷ xs) = group_numbers x ++ groups_numbers xs
 
+record_one : (ys : List ℕ) → size_of 1 < length (1 ∷ ys) → group_numbers (group_at (1 ∷ ys)) ++ drop (size_of 1) ys ≡ 1 ∷ ys
+record_one [] h = absurd (unfold size_of in (omega arith))
+record_one (y ∷ ys) h = unfold group_numbers group_at size_of in refl
+
+record_two : (ys : List ℕ) → size_of 2 < length (2 ∷ ys) → group_numbers (group_at (2 ∷ ys)) ++ drop (size_of 2) ys ≡ 2 ∷ ys
+record_two [] h = absurd (unfold size_of in (omega arith))
+record_two (y ∷ []) h = absurd (unfold size_of in (omega arith))
+record_two (y ∷ z ∷ ys) h = unfold group_numbers group_at size_of in refl
+
+record_three : (ys : List ℕ) → group_numbers (group_at (3 ∷ ys)) ++ drop (size_of 3) ys ≡ 3 ∷ ys
+record_three ys = unfold group_numbers group_at size_of in (ap (λ (r : List ℕ). 3 ∷ r) (take-append-drop 91 ys))
+
+record_four : (ys : List ℕ) → size_of 4 < length (4 ∷ ys) → group_numbers (group_at (4 ∷ ys)) ++ drop (size_of 4) ys ≡ 4 ∷ ys
+record_four [] h = absurd (unfold size_of in (omega arith))
+record_four (y ∷ ys) h = unfold group_numbers group_at size_of in refl
+
 record_numbers : (k : ℕ) (xs : List ℕ) → whole_at (k ∷ xs) ≡ true → group_numbers (group_at (k ∷ xs)) ++ drop (size_of k) xs ≡ k ∷ xs
 record_numbers k xs t =
     let W = whole (k ∷ xs) t in
     kinds k
-    (λ e. rw e (one xs (rw e at W.inside)))
-    (λ e. rw e (two xs (rw e at W.inside)))
-    (λ e. rw e (three xs))
-    (λ e. rw e (four xs (rw e at W.inside)))
+    (λ e. rw e (record_one xs (rw e at W.inside)))
+    (λ e. rw e (record_two xs (rw e at W.inside)))
+    (λ e. rw e (record_three xs))
+    (λ e. rw e (record_four xs (rw e at W.inside)))
     (λ e. absurd (let h = W.some in omega arith))
-  where
-    one : (ys : List ℕ) → size_of 1 < length (1 ∷ ys) → group_numbers (group_at (1 ∷ ys)) ++ drop (size_of 1) ys ≡ 1 ∷ ys
-    one [] h = absurd (unfold size_of in (omega arith))
-    one (y ∷ ys) h = unfold group_numbers group_at size_of in refl
-
-    two : (ys : List ℕ) → size_of 2 < length (2 ∷ ys) → group_numbers (group_at (2 ∷ ys)) ++ drop (size_of 2) ys ≡ 2 ∷ ys
-    two [] h = absurd (unfold size_of in (omega arith))
-    two (y ∷ []) h = absurd (unfold size_of in (omega arith))
-    two (y ∷ z ∷ ys) h = unfold group_numbers group_at size_of in refl
-
-    three : (ys : List ℕ) → group_numbers (group_at (3 ∷ ys)) ++ drop (size_of 3) ys ≡ 3 ∷ ys
-    three ys = unfold group_numbers group_at size_of in (ap (λ (r : List ℕ). 3 ∷ r) (take-append-drop 91 ys))
-
-    four : (ys : List ℕ) → size_of 4 < length (4 ∷ ys) → group_numbers (group_at (4 ∷ ys)) ++ drop (size_of 4) ys ≡ 4 ∷ ys
-    four [] h = absurd (unfold size_of in (omega arith))
-    four (y ∷ ys) h = unfold group_numbers group_at size_of in refl
 
 from_numbers : (f : ℕ) (xs : List ℕ) (gs : List Group) → read_from f xs ≡ groups gs → groups_numbers gs ≡ xs
 unfolding read_from groups_numbers

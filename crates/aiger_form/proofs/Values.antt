@@ -122,6 +122,7 @@ line_defined : (xs : List Item) {x : Item} → Among x xs → (p : ℕ) → In p
 unfolding defined gather_items
 line_defined (x ∷ xs) here p i = in_append_left p (defines x) (defined xs) i
 line_defined (y ∷ xs) (there a) p i = in_append_right p (defines y) (defined xs) (line_defined xs a p i)
+line_defined [] x4 p i = elim x4 [ ]
 
 meant : (bytes : List ℕ) (n : Netlist) (m : ℕ) (xs : List Item) → file_of bytes ≡ file m xs → n ≡ netlist m xs → checked true n ≡ 0 → Meant bytes n
 unfolding netlist literal_value g value_of

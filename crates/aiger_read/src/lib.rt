@@ -1,4 +1,6 @@
 // An ASCII AIGER file, read into lent areas. `read` takes any bytes and areas.
+#![tactic(auto)]
+
 mod ends;
 
 ghost use Rattle.std.specs.Prelude.{◌≡◌, ◌&&◌, ◌+◌, ◌*◌, ◌≤◌, leb, length, replicate};

@@ -1,4 +1,6 @@
 // ASCII AIGER files, written into lent bytes. `write` takes any job, latches and bytes.
+#![tactic(auto)]
+
 mod jobs;
 mod lines;
 

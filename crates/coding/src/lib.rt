@@ -1,4 +1,6 @@
 // A stage's plan of pins becomes cells with their inversions, in place.
+#![tactic(auto)]
+
 ghost use Rattle.std.specs.Prelude.{◌≡◌, ◌+◌, ◌≤◌, ◌<◌, length};
 ghost use Rattle.rules.specs.Graph.{graph_of};
 ghost use Rattle.rules.specs.Coded.{and_cell, coded_at, coded};

@@ -1,5 +1,7 @@
 // What is told before a build: D, by which its rooms are lent, the most gates on a way from an endpoint down to a leaf or a given pin; and
 // the words that its records set aside.
+#![tactic(auto)]
+
 ghost use Rattle.std.specs.Prelude.{◌≡◌};
 ghost use Rattle.rules.specs.Graph.{graph_of};
 ghost use Rattle.rules.specs.Records.{groups_of};

@@ -1,4 +1,6 @@
 // The build of an explanation: the reservation with its line, or the stages with theirs, in areas that are emptied before and tidied after.
+#![tactic(auto)]
+
 ghost use Rattle.std.specs.Prelude.{length};
 ghost use Rattle.rules.specs.Build.{answer_of};
 ghost use Rattle.rules.specs.Traversal.{needed_runs};

@@ -1,4 +1,6 @@
 // The lines of an explanation in the caller's list, six numbers each. A line that does not fit is left out, so that a list of no numbers only counts.
+#![tactic(auto)]
+
 ghost use Rattle.std.specs.Prelude.{◌≡◌, ◌<◌};
 ghost use Rattle.explain_lines.specs.Lines.{six, put_six};
 ghost use Rattle.explain_lines.specs.Copies.{NoteAt, Copied, NotesAt, AllCopied};

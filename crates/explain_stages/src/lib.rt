@@ -1,4 +1,6 @@
 // The stages of a build, with a line for each pin taken back and one for a stage that is refused.
+#![tactic(auto)]
+
 ghost use Rattle.std.specs.Prelude.{◌≡◌};
 ghost use Rattle.stage_tally.specs.Spending.{room, Counted};
 ghost use Rattle.rules.specs.Cells.{row_at};

@@ -1,4 +1,6 @@
 // Folding a plan of cells with their inversions: the plan and a bit a pin to one bit a position. It takes any numbers and slices.
+#![tactic(auto)]
+
 mod stages;
 
 ghost use Rattle.std.specs.Prelude.{◌≡◌};

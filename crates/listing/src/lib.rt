@@ -1,5 +1,7 @@
 // The listing of a plan that stands in lent areas, or a refusal's line, as bytes over the front of another area. A text is laid twice:
 // first where it changes nothing, which tells its length, so that an area too short for it stays as it is.
+#![tactic(auto)]
+
 ghost use Rattle.std.specs.Prelude.{◌≡◌, true, ◌≤◌, leb, length, take};
 ghost use Rattle.rules.specs.Lists.{sum};
 ghost use Rattle.rules.specs.Cells.{is_height};

@@ -1,4 +1,6 @@
 // Mends a damaged plan: what the check accepts stays as it is, any other plan is rebuilt by its graph and its given pins, and every change is listed.
+#![tactic(auto)]
+
 ghost use Rattle.std.specs.Prelude.{◌≡◌, ◌&&◌, length};
 ghost use Rattle.rules.specs.Cells.{is_height};
 ghost use Rattle.mending.specs.Call.{mender};

@@ -1,4 +1,6 @@
 // The level of every pin, stopping at marked pins. Levels above K are told as K + 1: no cell of a stage tells them apart.
+#![tactic(auto)]
+
 ghost use Rattle.std.specs.Prelude.{◌≡◌, min, max, suc, get_or};
 ghost use Rattle.rules.specs.Graph.{graph_of};
 ghost use Rattle.mend_levels.specs.Levels.{level_by, PassAt, Passed, LevelsAt, Levelled};

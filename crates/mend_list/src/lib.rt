@@ -1,4 +1,6 @@
 // The list of changes between two plans of one length: how many there are, and four numbers for each.
+#![tactic(auto)]
+
 ghost use Rattle.std.specs.Prelude.{◌≡◌, ◌+◌, ◌≤◌, length, set};
 ghost use Rattle.rules.specs.Lists.{laid_over};
 ghost use Rattle.mending.specs.Changes.{change_at, changes, numbers_of};

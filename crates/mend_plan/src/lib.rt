@@ -1,4 +1,6 @@
 // The stages of a plan are mended in place, one after the other.
+#![tactic(auto)]
+
 ghost use Rattle.rules.specs.Graph.{graph_of};
 ghost use Rattle.mend_plan.specs.Plans.{OneAt, OneSays, AllAt, AllSays, PlanAt, PlanSays};
 

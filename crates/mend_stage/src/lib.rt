@@ -1,4 +1,6 @@
 // One stage is mended in place, from the top down, by the levels of all pins.
+#![tactic(auto)]
+
 ghost use Rattle.std.specs.Prelude.{◌≡◌, ◌<◌, get_or, set};
 ghost use Rattle.rules.specs.Graph.{leaf, graph_of};
 ghost use Rattle.mending.specs.Mend.{same, pin_for, mended, fixing};

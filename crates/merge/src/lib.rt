@@ -1,4 +1,6 @@
 // Partitions merged while their stages stay few: `process_partitions`, with every area lent.
+#![tactic(auto)]
+
 ghost use Rattle.std.specs.Prelude.{◌≡◌};
 ghost use Rattle.rules.specs.Traversal.{needed_runs};
 ghost use Rattle.rules.specs.Merge.{merger};

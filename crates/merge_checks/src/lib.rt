@@ -1,4 +1,6 @@
 // The checks of a merge: 1 to 5 and 23, then 10. Nothing is changed.
+#![tactic(auto)]
+
 ghost use Rattle.std.specs.Prelude.{◌≡◌, ◌&&◌, eqb, length};
 ghost use Rattle.rules.specs.Lists.{sum};
 ghost use Rattle.rules.specs.Cells.{is_height};

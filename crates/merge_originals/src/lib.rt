@@ -1,4 +1,6 @@
 // The partitions as they are given. Each stands in a slot: it is built and measured before the first union is tried.
+#![tactic(auto)]
+
 ghost use Rattle.std.specs.Prelude.{◌≡◌, max};
 ghost use Rattle.rules.specs.Traversal.{needed_runs};
 ghost use Rattle.merge_originals.specs.Originals.{NoteAt, Noted, MeasureAt, Measures, OriginalsAt, Given};

@@ -1,4 +1,6 @@
 // Merging, slot by slot: round after round the later slots are ranked, and the first union that is accepted is taken.
+#![tactic(auto)]
+
 ghost use Rattle.rules.specs.Traversal.{needed_runs};
 ghost use Rattle.merge_rounds.specs.Rounds.{RoundAt, Rounded, IntoAt, Into, SlotAt, Stepped, SlotsAt, Slotted};
 

@@ -1,4 +1,6 @@
 // What merging into one slot does again and again: the later slots ranked for it, and the trial of one union.
+#![tactic(auto)]
+
 ghost use Rattle.std.specs.Prelude.{◌≡◌, ◌&&◌, ◌+◌, ◌*◌, ◌≤◌, eqb, leb, length};
 ghost use Rattle.rules.specs.Inside.Some.{Some, Every};
 ghost use Rattle.rules.specs.Traversal.{needed_runs};

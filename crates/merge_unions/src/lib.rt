@@ -1,6 +1,8 @@
 // What a merge asks of a union of two partitions, each a list of group indices: its build, and the size of its traversal. Both leave the
 // work area as they find it: what a build reads before it writes is 0, and nothing from the table on is changed. For many sizes with one
 // partition its cone is opened once, measured with each of the others, and closed.
+#![tactic(auto)]
+
 ghost use Rattle.std.specs.Prelude.{◌++◌};
 ghost use Rattle.rules.specs.Records.{groups_of};
 ghost use Rattle.rules.specs.Traversal.{needed_runs};

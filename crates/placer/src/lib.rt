@@ -1,4 +1,6 @@
 // The placer: the checks 1 to 5 and 23, the reservation, then stage after stage until no pin waits.
+#![tactic(auto)]
+
 ghost use Rattle.std.specs.Prelude.{◌≡◌, length};
 ghost use Rattle.rules.specs.Graph.{graph_of};
 ghost use Rattle.rules.specs.Build.{placer, answer_of};

@@ -1,5 +1,7 @@
 // Checks a plan made elsewhere against its graph: the first fault by stage and position. It takes any numbers and slices, and changes none:
 // marks stand in arrays of its own.
+#![tactic(auto)]
+
 mod ends;
 pub mod room;
 pub mod stages;

@@ -1,5 +1,7 @@
 // What the job program prints. A file is read, its job built in areas of the program's sizes, and the answer listed. The areas stand
 // on the stack, some 110 kB.
+#![tactic(auto)]
+
 ghost use Rattle.std.specs.Prelude.{◌≡◌};
 ghost use Rattle.rules.specs.Traversal.{needed_runs};
 ghost use Rattle.rules.specs.Listing.{job_text, printed};

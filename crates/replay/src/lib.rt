@@ -1,4 +1,6 @@
 // Replay of a recording: the plan of a graph's records is built, and run line by line.
+#![tactic(auto)]
+
 pub mod finish;
 pub mod lent;
 

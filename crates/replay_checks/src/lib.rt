@@ -1,4 +1,6 @@
 // The checks 18, 19, 20 and 17 of a replay, in that order, of an input that passes 1 to 5 and 23. They change nothing lent.
+#![tactic(auto)]
+
 pub mod counts;
 pub mod driven;
 pub mod lengths;

@@ -108,5 +108,5 @@ module _ (K : ℕ) where
   words_there b g given may room k (suc n) plan words (c ∷ counts) h e =
       let t = passed K g given may room k _ _ e in
       let l : c ≤ length words = looked_there words c (word_limit K) b (end_says K room _ t.0.end).words in
-      let d = words_there b g given _ _ (suc k) n (drop (2 ^ (K + 1)) plan) (drop c words) counts (omega arith) t.1 in
+      let d = words_there b g given (held_in K (take (2 ^ (K + 1)) plan)) (room - length (looked words c)) (suc k) n (drop (2 ^ (K + 1)) plan) (drop c words) counts (omega arith) t.1 in
       omega (arith, length-drop c words, d)

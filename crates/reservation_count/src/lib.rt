@@ -1,6 +1,8 @@
 // Memories and duplicates of all records, in a time that grows with the records and the pins alone. All activations of a pin are chained without a
 // test for equal ones: `heads` has, by pin, one more than the newest one's index, 0 for none, and `links`, by index, one more than the next one's.
 // An index is where a record stands. Then each chain is walked with stamps by activation.
+#![tactic(auto)]
+
 pub mod chains;
 pub mod walks;
 

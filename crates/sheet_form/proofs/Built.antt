@@ -11,6 +11,7 @@ use lib.Pow.{pow_mono}
 use lib.Seq.{get_or-drop}
 use borrow.Author.Tests.{lt-ltb, le-leb, leb-false, eq-eqb}
 use Rattle.rules.specs.Lists.{In}
+use Rattle.rules.specs.Placing.{tree}
 use Rattle.rules.specs.Cells.{empty, filled, is_height, word_limit, first_lower}
 use Rattle.rules.specs.Graph.{Node, leaf}
 use Rattle.rules.specs.Loops.{Valid}
@@ -18,6 +19,7 @@ use Rattle.rules.specs.Records.{Group, waiting_of, Ends}
 use Rattle.rules.specs.Reservation.{reserved}
 use Rattle.rules.specs.Traversal.{WordRule}
 use Rattle.rules.specs.Build.{Stage, whole, build}
+use Rattle.rules.specs.Placing.{tree}
 use Rattle.rules.specs.Fold.{is_leaf}
 use Rattle.rules.specs.Depth.{remaining}
 use Rattle.rules.specs.Inside.Walks.{rank, Graph, Ready}
@@ -86,12 +88,12 @@ module _ (K : ℕ) (g : List Node) (given : List ℕ) where
   shapes_fit : (held : ℕ → Type 0) (room : ℕ) (ss : List Stage) → Shapes K g given held room ss → length g ≤ 65536 → room ≤ 65535 → stages_fit sheet_one K ss ≡ true
   unfolding stages_fit
   shapes_fit held room [] H few l = refl
-  shapes_fit held room (s ∷ ss) H few l = rw (shape_fits K g given held room s H.0 few l) (shapes_fit _ _ ss H.1 few (omega arith))
+  shapes_fit held room (s ∷ ss) H few l = rw (shape_fits K g given held room s H.0 few l) (shapes_fit (λ x. In x (tree K s.plan)) _ ss H.1 few (omega arith))
 
   shapes_lift : (held : ℕ → Type 0) (room : ℕ) (ss : List Stage) → Shapes K g given held room ss → stages_lift K g ss ≡ true
   unfolding stages_lift
   shapes_lift held room [] H = refl
-  shapes_lift held room (s ∷ ss) H = rw (shape_lifts K g given held room s H.0) (shapes_lift _ _ ss H.1)
+  shapes_lift held room (s ∷ ss) H = rw (shape_lifts K g given held room s H.0) (shapes_lift (λ x. In x (tree K s.plan)) _ ss H.1)
 
 module _ (rule : WordRule) (K : ℕ) (g : List Node) (ok : Valid g) (A : Above g) (tall : 6 ≤ K) (small : length g ≤ empty) where
   abbrev r : ℕ → ℕ

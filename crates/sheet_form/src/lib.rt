@@ -1,4 +1,6 @@
 // The numbers of plan sheets, and which cells a sheet holds. specs/ says what a sheet is and what the calls do, proofs/ what follows from it.
+#![tactic(auto)]
+
 ghost use Rattle.std.specs.Prelude.{◌≡◌, true};
 ghost use Rattle.rules.specs.Cells.{is_height};
 ghost use Rattle.sheet_form.specs.Forms.{form_fits};

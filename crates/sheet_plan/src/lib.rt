@@ -1,4 +1,6 @@
 // The cells of one stage of a plan sheet: of sheet 2 as they stand, of sheet 1 coded with the graph.
+#![tactic(auto)]
+
 mod lifts;
 mod reading;
 

@@ -1,4 +1,6 @@
 // Plan sheets, read into lent areas. `read` takes any graph, bytes and areas.
+#![tactic(auto)]
+
 mod areas;
 mod stages;
 mod steps;

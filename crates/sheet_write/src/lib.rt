@@ -1,4 +1,6 @@
 // Plan sheets, written into lent bytes. `write` takes any areas and bytes.
+#![tactic(auto)]
+
 mod fits;
 mod sections;
 

@@ -1,4 +1,6 @@
 // One stage: rules 1 to 11.
+#![tactic(auto)]
+
 ghost use Rattle.rules.specs.Cells.{row_at};
 ghost use Rattle.stage_tally.specs.Spending.{room, Counted};
 ghost use Rattle.rules.specs.Inside.Some.{Some, Every};

@@ -1,5 +1,7 @@
 // Rule 8: the waiting pins in the tree, needed, untouched; the sparse runs of level 1, which the needed waiting pins fill, and their words.
 // m = N + 1; n pins wait; the words go behind `at`, where there is `room` for so many.
+#![tactic(auto)]
+
 ghost use Rattle.rules.specs.Cells.{row_at};
 ghost use Rattle.rules.specs.Inside.Some.{Some, Every};
 ghost use Rattle.stage_runs.specs.Ran.{EndAt, Ran};

@@ -33,7 +33,7 @@ unfolding place_or
 place_nothing N nothing b h = refl
 place_nothing N (found p) b h = absurd (let q = b p refl in omega arith)
 
-bad_inside : (all seen : List ℕ) {N : ℕ} {ss : List Spot} → Within N ss → (p : ℕ) → first_bad all seen ss ≡ found p → p < N
+bad_inside : (all : List ℕ) {N : ℕ} (seen : List ℕ) {ss : List Spot} → Within N ss → (p : ℕ) → first_bad all seen ss ≡ found p → p < N
 unfolding first_bad
 bad_inside all seen none p e = absurd (let z : ◌≡◌ {A = ℕ} 0 1 = cc in omega arith)
 bad_inside all seen (one {s = s} b w) p e = split (stands all seen s.item)

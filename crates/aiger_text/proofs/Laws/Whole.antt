@@ -117,6 +117,7 @@ shown_among : (ss : List Spot) {x : Item} → Among x (items (shown false ss)) �
 unfolding shown items
 shown_among (s ∷ ss) here = (s.item, here, refl)
 shown_among (s ∷ ss) (there a) = let h = shown_among ss a in (h.0, there h.1, h.2)
+shown_among [] x3 = elim x3 [ ]
 
 -- ---- places lie in the file
 
@@ -165,7 +166,7 @@ shown_within true w = w
 shown_within false none = none
 shown_within false (one b w) = one b (shown_within false w)
 
-found_within : (all seen : List ℕ) {N : ℕ} {ss : List Spot} → Within N ss → min N (place_or N (first_bad all seen ss)) ≡ place_or N (first_bad all seen ss)
+found_within : (all : List ℕ) {N : ℕ} (seen : List ℕ) {ss : List Spot} → Within N ss → min N (place_or N (first_bad all seen ss)) ≡ place_or N (first_bad all seen ss)
 unfolding first_bad place_or
 found_within all seen none = omega arith
 found_within all seen (one {s = s} b w) = split (stands all seen s.item) (λ t. rw (t, first_bad) (found_within all (defines s.item ++ seen) w)) (λ t. rw (t, first_bad) (omega arith))

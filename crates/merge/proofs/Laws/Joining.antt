@@ -141,4 +141,4 @@ module _ {K m table base extra : ℕ} {gates given records xs ls st pl ws cs w :
           pub join_merged : {spare : ℕ} {xs₃ ls₃ st₃ w₃ : List ℕ} {t : Totals} → Laid spare base xs₂ ls₂ w₂ xs₃ ls₃ st₃ w₃ t
               → Joined rule K extra gates given records xs ls st pl (record { number = 0; stages = t.stages; words = t.words; stage = 0; partitions = t.partitions; trials = trials; refused = 0; pin = record { 0 = 0 }; cells = t.cells }) xs₃ ls₃ st₃
           unfolding told merge_reply group_list group_list_after
-          join_merged L = record { reply = rw (merges, L.partitions, L.all_stages, L.All-words, L.all_cells) refl; groups = rw (merges, L.indices, L.lengths, L.stages, T.keeps.count) refl }
+          join_merged L = record { reply = rw (merges, L.partitions, L.all_stages, L.all_words, L.all_cells) refl; groups = rw (merges, L.indices, L.lengths, L.stages, T.keeps.count) refl }

@@ -126,6 +126,7 @@ picked_ends : (gs : List Group) (is : List ℕ) (q : ℕ) → ((i : ℕ) → In 
 unfolding picked
 picked_ends gs (i ∷ is) q b (first e) = group_ends gs i q (b i (in_here i is)) e
 picked_ends gs (i ∷ is) q b (later e) = picked_ends gs is q (λ j h. b j (in_there j i is h)) e
+picked_ends gs [] q b x'' = elim x'' [ ]
 
 limit_fits : (K : ℕ) → is_height K ≡ true → word_limit K ≤ 256
 unfolding word_limit

@@ -10,6 +10,7 @@ use lib.Pow.{pow_pos, pow_mono}
 use lib.ListN.{length, get_or, replicate, get_or-append}
 use lib.Seq.{get_or-append-add}
 use borrow.Author.Tests.{ltb-true, ltb-false, leb-true}
+use Rattle.rules.specs.Fold.{load_from}
 use Rattle.rules.specs.Lists.{padded}
 use Rattle.rules.specs.Cells.{empty, filled, is_height, stage_size, rooms}
 use Rattle.rules.specs.Graph.{Node, graph_of}
@@ -57,11 +58,11 @@ module _ (K : ℕ) (g : List Node) (given : List ℕ) where
       let z : length s.plan + (p - length s.plan) ≡ p = omega (arith, ltb-false p (length s.plan) t) in
       let e : get_or ((s.plan ++ rules.cells_of ss) ++ replicate m empty) p empty ≡ get_or (rules.cells_of ss ++ replicate m empty) (p - length s.plan) empty =
       ap (λ (x : List ℕ). get_or x p empty) a ∙ ap (λ (i : ℕ). get_or (s.plan ++ (rules.cells_of ss ++ replicate m empty)) i empty) (sym z) ∙ get_or-append-add s.plan (rules.cells_of ss ++ replicate m empty) (p - length s.plan) empty in
-      rw e (all_named _ _ ss R.1 m (p - length s.plan) (rw e at f)))
+      rw e (all_named (load_from K g s.plan load) _ ss R.1 m (p - length s.plan) (rw e at f)))
 
   all_sized : (load : ℕ → Bool) (held : ℕ → Type 0) (ss : List rules.Stage) → Right K g given [] load held ss → Sized (2 ^ (K + 1)) ss
   all_sized load held [] R = tt
-  all_sized load held (s ∷ ss) R = (R.0.size, all_sized _ _ ss R.1)
+  all_sized load held (s ∷ ss) R = (R.0.size, all_sized (load_from K g s.plan load) _ ss R.1)
 
 -- so many stages as the answer tells
 told_stages : (b : rules.Answer) → (rules.reply b).stages ≡ length (rules.stages_of b)

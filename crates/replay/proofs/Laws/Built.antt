@@ -347,7 +347,7 @@ module _ (K : ℕ) (gates given records driven starting : List ℕ) (lines : ℕ
         end_is : (x : rules.Answer) → b ≡ x → e ++ drop (f - 0) end ≡ (form.built_lent J a x).end
         unfolding form.built_lent rules.reply rules.refuse plain_run
         end_is (rules.refusal i k) d =
-            ap (λ (y : List ℕ). y ++ drop (f - 0) end) (F.End-kept (λ y. refused_some needed_runs K (graph_of gates) given (groups_of records) (rooms K (length plan)) i k d (sym (number_of_lem (rules.refusal i k) d) ∙ y)))
+            ap (λ (y : List ℕ). y ++ drop (f - 0) end) (F.end_kept (λ y. refused_some needed_runs K (graph_of gates) given (groups_of records) (rooms K (length plan)) i k d (sym (number_of_lem (rules.refusal i k) d) ∙ y)))
             ∙ take-append-drop (f - 0) end
         end_is (rules.whole ss) d =
             let y = F.end_bits (number_of_lem (rules.whole ss) d) in

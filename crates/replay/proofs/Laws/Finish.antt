@@ -35,7 +35,7 @@ module _ (number : ℕ) (gates records driven starting : List ℕ) (lines : ℕ)
   finished_run_lem z w1 t1 s1 b1 o e R w t s b ew et es eb = record {
     work_cleared = ew ∙ ap (λ (n : ℕ). replicate n 0) R.work_kept;
     tape_cleared = et ∙ ap (λ (n : ℕ). replicate n 0) R.tape_kept;
-    slots_cleared = es ∙ ap (λ (n : ℕ). replicate n 0) R.Slots-kept;
+    slots_cleared = es ∙ ap (λ (n : ℕ). replicate n 0) R.slots_kept;
     bits_cleared = eb ∙ ap (λ (n : ℕ). replicate n 0) R.bits_kept;
     out_kept = λ d. absurd (d z);
     end_kept = λ d. absurd (d z);

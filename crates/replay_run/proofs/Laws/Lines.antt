@@ -80,7 +80,7 @@ module _ (tape places flips driven leaves recording bits₀ state₀ out₀ : Li
     clock_in = record {
       run = record { there = A.run.there; room = omega (arith, R.blen, A.run.room); below = A.run.below; bit = R.bit };
       drives = record { enough = omega (arith, R.slen, A.drives); inside = λ i b. omega (arith, A.driven_in i b, R.blen) };
-      lines = record { enough = omega (arith, line_length); inside = λ i b. omega (arith, A.Leaves-in i b, R.blen) };
+      lines = record { enough = omega (arith, line_length); inside = λ i b. omega (arith, A.leaves_in i b, R.blen) };
       room = part_length;
       named = A.named;
       takes = record { room = R.slen ∙ A.flops; inside = λ i b. omega (arith, A.flips_in i b, part_length) };

@@ -25,9 +25,9 @@ snoc_other n x (y ∷ ys) h = split (eqb n y) (λ e. rw (e, mem)) (λ e. rw (e, 
 pub mem_insert : (c x : ℕ) (cs : List ℕ) → mem c (insert x cs) ≡ mem c (x ∷ cs)
 unfolding insert mem
 mem_insert c x cs = split (mem x cs)
-    (λ e. split (eqb c x) (λ d. rw (e, insert, d, mem) (rw (eqb_true c x d) e)) (λ d. rw (e, insert, d, mem)))
+    (λ e. split (eqb c x) (λ d. let h : mem c cs ≡ true = rw (eqb_true c x d) e in rw (e, insert, d, mem) h) (λ d. rw (e, insert, d, mem)))
     (λ e. split (eqb c x)
-    (λ d. rw (e, insert, d, mem) (rw (eqb_true c x d) (in_append_right x cs (x ∷ []) (in_here x []))))
+    (λ d. let h : mem c (cs ++ (x ∷ [])) ≡ true = rw (eqb_true c x d) (in_append_right x cs (x ∷ []) (in_here x [])) in rw (e, insert, d, mem) h)
     (λ d. rw (e, insert, d, mem) (snoc_other c x cs (eqb_false c x d))))
 
 cons_same : (c x : ℕ) (cs ds : List ℕ) → mem c cs ≡ mem c ds → mem c (x ∷ cs) ≡ mem c (x ∷ ds)
@@ -84,11 +84,11 @@ module _ (f : ℕ → Bool) where
       (λ e. let i : mem x (keep f ys) ≡ true = in_keep f x ys e t in rw (e, insert, i))
       (λ e.
       let o : mem x (keep f ys) ≡ false = split (mem x (keep f ys)) (λ i. true_false (keep_in f x ys i).0 e) (λ i. i) in
-      rw (e, insert, o, keep_append, t, keep))
+      rw (e, insert, o, keep_append f ys (x ∷ []), t, keep))
 
   keep_no : (x : ℕ) (ys : List ℕ) → f x ≡ false → keep f (insert x ys) ≡ keep f ys
   unfolding insert keep
-  keep_no x ys t = split (mem x ys) (λ e. rw (e, insert)) (λ e. rw (e, insert, keep_append, t, keep) (append-nil (keep f ys)))
+  keep_no x ys t = split (mem x ys) (λ e. rw (e, insert)) (λ e. rw (e, insert, keep_append f ys (x ∷ []), t, keep) (append-nil (keep f ys)))
 
   keep_insert_all : (xs ys : List ℕ) → keep f (insert_all xs ys) ≡ insert_all (keep f xs) (keep f ys)
   unfolding insert_all keep

@@ -1,0 +1,22 @@
+use native.Mathlib.Omega.{arith}
+use Prim.Native.Nat.{◌-◌}
+use Rattle.aiger_write.proofs.Laws.Lines.{lines_start, lines_next, lines_end, lines_size}
+use Rattle.aiger_write.proofs.lines.input_lines.Goals as goal
+
+pub loop-p-init : goal.loop-p-init
+loop-p-init c = (omega arith, lines_start)
+
+pub overflow_cast-p : goal.overflow_cast-p
+overflow_cast-p c = omega (arith, c.loop-p-test.true, c.pin_count-pins.ensures, c.requires.few)
+
+pub input_line-now-requires : goal.input_line-now-requires
+input_line-now-requires c = omega (arith, c.loop-p-test.true, c.pin_count-pins.ensures, c.requires.few, c.requires.long)
+
+pub loop-p-preserved : goal.loop-p-preserved
+loop-p-preserved c = (omega arith, lines_next c.loop-p.invariant.1 c.input_line-now.ensures)
+
+pub shape_of-out : goal.shape_of-out
+shape_of-out c = lines_size c.loop-p.invariant.1
+
+pub returns : goal.returns
+returns c = lines_end c.loop-p.invariant.1 (omega (arith, c.loop-p.invariant.0, c.loop-p-test.false, c.pin_count-pins.ensures))

@@ -1,0 +1,18 @@
+-- `placer::stages::stages` meets its contract: one stage more, its words spent, until no pin waits or one is refused. Assumes nothing.
+use Rattle.stage_tally.specs.Spending.{bound, Counted}
+use Rattle.rules.specs.Inside.Some.{Every}
+use Rattle.placer.specs.Stages.{StagesAt}
+use lib.ListN.{length}
+use Rattle.rules.specs.Lists.{count}
+use Rattle.rules.specs.Cells.{filled}
+use mathlib.Core.Path.{◌≡◌}
+use Prim.Native.Nat.{◌-◌}
+use Rattle.rules.specs.Cells.{row_at}
+use Rattle.placer.proofs.stages.stages.Given as goal
+
+abbrev pub invariant-loop-left : goal.invariant-loop-left
+invariant-loop-left l =
+    Every (λ C. StagesAt C l.m l.height.0 (row_at l.height.0 1) l.rooms 0 0 l.n l.room l.gates l.initial.plan l.initial.words l.initial.counts l.initial.work) (λ C. StagesAt C l.m l.height.0 (row_at l.height.0 1) l.rooms l.k l.tally.spent l.left l.room l.gates l.plan l.words l.counts l.work) × (length l.plan ≡ length l.initial.plan) × (length l.words ≡ length l.initial.words) × (length l.counts ≡ length l.initial.counts) × (length l.work ≡ length l.initial.work) × Counted l.tally × (bound l.tally ≡ l.room) × (l.cells ≡ count filled l.plan)
+
+abbrev pub decreases-loop-left : goal.decreases-loop-left
+decreases-loop-left l = l.rooms - l.k

@@ -1,0 +1,9 @@
+-- `replay_run::leaves::mark_driven` meets its contract: those from the i-th on are marked. Assumes nothing.
+use Rattle.replay_run.proofs.Laws.Leaves.{MarkedTo}
+use Rattle.replay_run.proofs.leaves.mark_driven.Given as goal
+
+abbrev pub invariant-loop-i : goal.invariant-loop-i
+invariant-loop-i l = MarkedTo l.driven l.initial.marks l.i l.marks
+
+abbrev pub decreases-loop-i : goal.decreases-loop-i
+decreases-loop-i l = l.i

@@ -1,0 +1,12 @@
+-- `reservation_count::count_records` meets its contract. Assumes nothing.
+use Rattle.reservation_count.proofs.Laws.Counts.{chains_at, sum_at, counted}
+use Rattle.reservation_count.proofs.count_records.Goals as goal
+
+pub chain_all-memories-requires : goal.chain_all-memories-requires
+chain_all-memories-requires c = chains_at _ _ _ _ c.requires _ _ c.fill_part.ensures c.fill_part-2.ensures
+
+pub sum_all-duplicates-requires : goal.sum_all-duplicates-requires
+sum_all-duplicates-requires c = sum_at _ _ _ _ c.requires _ _ c.fill_part.ensures c.fill_part-2.ensures _ _ _ c.chain_all-memories.ensures
+
+pub returns : goal.returns
+returns c = counted _ _ _ _ c.requires _ _ c.fill_part.ensures c.fill_part-2.ensures _ _ _ c.chain_all-memories.ensures _ _ c.sum_all-duplicates.ensures _ _ _ c.fill_part-3.ensures c.fill_part-4.ensures c.fill_part-5.ensures

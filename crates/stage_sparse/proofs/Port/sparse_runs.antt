@@ -1,2 +1,0 @@
--- Written by port/sparse from the twin over pairs: `sparse_runs`. Assumes nothing.
-pub mod Lts
