@@ -1,4 +1,6 @@
 // The scope document's bench examples marked "run only", and the first one: the builds' answers and what stands in their areas, of a cell its pin.
+#![tactic(auto)]
+
 use cell::Cell;
 use graph::EMPTY;
 use placer::{Answer, build};

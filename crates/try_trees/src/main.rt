@@ -1,5 +1,7 @@
 // Places a pin with what it pulls in in an empty tree of height 6, 10 and 13, lists the filled cells and the three counts, takes the pin
 // back and lists again.
+#![tactic(auto)]
+
 ghost use Rattle.std.specs.Prelude.{◌≡◌, ◌≤◌, length};
 ghost use Rattle.columns.specs.Area.{Room};
 ghost use Rattle.rules.specs.Inside.Some.{Some};
