@@ -1,9 +1,9 @@
 -- `try_edges::run` is safe. Assumes nothing.
-use Prim.Native.Nat.{◌-◌}
+use Rattle.std.proofs.Common.{◌-◌}
 use Rattle.try_edges.proofs.run.Given as goal
 
 abbrev pub invariant-loop-k : goal.invariant-loop-k
-invariant-loop-k l = Unit {0}
+invariant-loop-k g l = Unit {0}
 
 abbrev pub decreases-loop-k : goal.decreases-loop-k
-decreases-loop-k l = n - k
+decreases-loop-k g l = l.n - l.k
