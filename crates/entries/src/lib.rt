@@ -1,4 +1,6 @@
 // Every entry for other languages: numbers and slices only. One static library holds them all.
+#![tactic(auto)]
+
 mod aiger_entry;
 mod answers;
 mod build_entry;

@@ -1,4 +1,6 @@
 // Why a job was refused: the job is built, and a line of six numbers is written for each pin taken back, then one for a refusal with 6, 7 or 8.
+#![tactic(auto)]
+
 ghost use Rattle.std.specs.Prelude.{◌≡◌, length};
 ghost use Rattle.rules.specs.Graph.{graph_of};
 ghost use Rattle.rules.specs.Traversal.{needed_runs};

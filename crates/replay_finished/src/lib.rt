@@ -1,4 +1,6 @@
 // Replay over a finished plan: one that is handed in, checked against its graph, and run line by line.
+#![tactic(auto)]
+
 mod run;
 mod sized;
 

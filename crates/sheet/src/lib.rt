@@ -1,3 +1,5 @@
 // Plan sheets on disk, out of and into a build's areas: what a user calls.
+#![tactic(auto)]
+
 pub use sheet_read::{Answer, read};
 pub use sheet_write::{Written, write};

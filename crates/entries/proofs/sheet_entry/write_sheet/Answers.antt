@@ -1,0 +1,13 @@
+-- `entries::sheet_entry::write_sheet` meets its contract. Assumes nothing.
+use native.Mathlib.Omega.{arith}
+use Rattle.entries.specs.Sheets.{sheet_written}
+use Rattle.entries.proofs.Laws.Entry.{entry_short}
+use Rattle.entries.proofs.Laws.Sheets.{entry_sheet_written}
+use Rattle.entries.proofs.sheet_entry.write_sheet.Goals as goal
+
+pub returns-then-answer-lt2 : goal.returns-then-answer-lt2
+unfolding sheet_written
+returns-then-answer-lt2 c = entry_short _ _ _ _ _ (omega (arith, c.if-answer-lt2.true))
+
+pub returns : goal.returns
+returns c = entry_sheet_written _ _ _ _ _ (omega (arith, c.if-answer-lt2.false)) _ _ _ _ c.write-a.ensures c.wide.ensures c.tell.ensures

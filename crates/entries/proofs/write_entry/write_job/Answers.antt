@@ -1,0 +1,13 @@
+-- `entries::write_entry::write_job` meets its contract. Assumes nothing.
+use native.Mathlib.Omega.{arith}
+use Rattle.entries.specs.Jobs.{job_written}
+use Rattle.entries.proofs.Laws.Entry.{entry_short}
+use Rattle.entries.proofs.Laws.Files.{entry_written}
+use Rattle.entries.proofs.write_entry.write_job.Goals as goal
+
+pub returns-then-answer-lt2 : goal.returns-then-answer-lt2
+unfolding job_written
+returns-then-answer-lt2 c = entry_short _ _ _ _ _ (omega (arith, c.if-answer-lt2.true))
+
+pub returns : goal.returns
+returns c = entry_written _ _ _ (omega (arith, c.if-answer-lt2.false)) _ _ _ _ c.write-a.ensures c.wide.ensures c.tell.ensures
