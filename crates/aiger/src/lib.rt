@@ -1,5 +1,5 @@
 // ASCII AIGER files, in and out of lent areas: what a user calls.
 #![tactic(auto)]
 
-pub use aiger_read::{Answer, read};
-pub use aiger_write::{Written, write};
+pub use aiger_read::{Counts, Refused, read};
+pub use aiger_write::write;

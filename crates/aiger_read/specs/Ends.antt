@@ -4,13 +4,9 @@ use Rattle.std.proofs.lemmas.List.Edits.{sets}
 use Rattle.aiger_form.specs.Aag.{Header, items, records_of, latches_of}
 use Rattle.aiger_text.specs.Passes.{spots_at, lines_from, Behind}
 
--- a word of the machine holds no more
-abbrev pub cap : ℕ
-cap = 18446744073709551615
-
 -- before
 pub record FillReady (H : Header) (start : ℕ) (bytes records latches : List ℕ) : Type 0 where
-  pub behind : Behind H.variables start bytes
+  pub behind : Behind start bytes
   pub records_fit : length (records_of (items (spots_at H 0 (lines_from bytes start)))) ≤ length records
   pub latches_fit : length (latches_of (items (spots_at H 0 (lines_from bytes start)))) ≤ length latches
 

@@ -1,7 +1,7 @@
 -- A cursor over the bytes of a file: the next byte of a kind, and numbers that stop at a cap. Assumes nothing.
-use Rattle.std.specs.Prelude.{ℕ, suc, min, ◌+◌, ◌-◌, ◌<◌, ◌≤◌, ◌≡◌, Bool, true, false, List, [], ◌∷◌, eqb, length, get_or, take, drop}
+use Rattle.std.specs.Prelude.{ℕ, suc, min, ◌+◌, ◌-◌, ◌<◌, ◌≤◌, ◌≡◌, true, false, Option, Some, None, List, [], ◌∷◌, eqb, length, get_or, take, drop}
 use Rattle.rules.specs.Lists.{Found, nothing, found, every}
-use Rattle.aiger_form.specs.Text.{words, is_digit, more_digits, number, Numbers?, no_numbers, numbers, numbers_of}
+use Rattle.aiger_form.specs.Text.{words, is_digit, more_digits, number, Numbers?, numbers, numbers_of}
 
 -- how many bytes stand before the first e, all where there is none
 unfoldable pub until : ℕ → List ℕ → ℕ
@@ -19,14 +19,16 @@ unfoldable pub capped_found : Found → Found
 capped_found nothing = nothing
 capped_found (found n) = found (capped n)
 
-unfoldable pub numeral : Bool → ℕ → Found
-numeral true v = found v
-numeral false v = nothing
+unfoldable pub numeral : Option ℕ → Found
+numeral None = nothing
+numeral (Some v) = found v
 
 -- the numbers of a line: how many, and the first five, each capped
-pub data Got : Numbers? → Bool → ℕ → List ℕ → Type 0 where
-  none : {count : ℕ} {values : List ℕ} → Got no_numbers false count values
-  some : {ns : List ℕ} {count : ℕ} {values : List ℕ} → count ≡ length ns → ((i : ℕ) → i < 5 → get_or values i 0 ≡ capped (get_or ns i 0)) → Got (numbers ns) true count values
+pub record Got (r : Numbers?) (count : ℕ) (values : List ℕ) : Type 0 where
+  pub ns : List ℕ
+  pub is : r ≡ numbers ns
+  pub counted : count ≡ length ns
+  pub held : (i : ℕ) → i < 5 → get_or values i 0 ≡ capped (get_or ns i 0)
 
 -- digits from a place up to e, and their number
 pub record Figured (bytes : List ℕ) (at e v : ℕ) : Type 0 where

@@ -1,21 +1,27 @@
 -- What a line says, in numbers. Assumes nothing.
-use Rattle.std.specs.Prelude.{ℕ, ◌-◌, ◌≤◌, ◌<◌, ◌≡◌, List, length, drop, Bool, true, false, ◌&&◌, ◌||◌, eqb, leb, ltb}
+use Rattle.std.specs.Prelude.{ℕ, ◌-◌, ◌≤◌, ◌<◌, ◌≡◌, List, Bool, true, false, ◌&&◌, ◌||◌, eqb, leb, ltb, Option, Some, None}
 use Rattle.aiger_rows.specs.Cursor.{capped}
-use Rattle.aiger_form.specs.Text.{numbers_of, words}
 use Rattle.rules.specs.Lists.{same_list}
 use Rattle.rules.specs.Listing.{text}
+use Rattle.aiger_rows.specs.declared.head.Head.{Head}
+use Rattle.aiger_rows.specs.declared.header.Section.{Section}
+use Rattle.aiger_rows.specs.declared.header.Section.TheVariants.{Inputs, Latches, Outputs, Gates, Symbols}
 use Rattle.aiger_rows.specs.declared.rows.Row.{Row}
-use Rattle.aiger_rows.specs.declared.rows.Row.TheVariants.{Bad, Symbol, Input, Latch, Output, Gate}
-use Rattle.aiger_form.specs.Aag.{Item, bad_text, skipped, input_line, latch_line, output_line, gate_line, Header, Header?, no_header, header, most_variables, header_of, header_from, line_item, input_item, latch_item, output_item, gate_item, symbol_item}
+use Rattle.aiger_rows.specs.declared.rows.Row.TheVariants.{Symbol, Input, Latch, Output, Gate}
+use Rattle.aiger_form.specs.Aag.{Item, bad_text, skipped, input_line, latch_line, output_line, gate_line, Header, Header?, no_header, header, line_item, input_item, latch_item, output_item, gate_item, symbol_item}
 
 -- what a row says
 unfoldable pub row_item : Row → Item
-row_item Bad = bad_text
 row_item Symbol = skipped
 row_item (Input l) = input_line l.0
 row_item (Latch l n r) = latch_line l.0 n.0 r
 row_item (Output l) = output_line l.0
 row_item (Gate l a b) = gate_line l.0 a.0 b.0
+
+-- what a line says, which has no row where its text is bad
+unfoldable pub said : Option Row → Item
+said None = bad_text
+said (Some x) = row_item x
 
 -- a latch's reset, by the count of its line's numbers, the first and the third
 unfoldable pub reset_in : (count a c : ℕ) → Bool
@@ -23,8 +29,8 @@ reset_in count a c = eqb count 2 || (eqb count 3 && (leb c 1 || eqb c a))
 
 -- ---- the line at a place behind the header, from 0 on
 
-abbrev pub head : (variables inputs latches outputs gates : ℕ) → Header
-head m i l o a = record { variables = m; inputs = i; latches = l; outputs = o; gates = a }
+abbrev pub head_of : Head → Header
+head_of h = record { variables = h.variables; inputs = h.inputs; latches = h.latches; outputs = h.outputs; gates = h.gates }
 
 unfoldable pub item_at : Header → ℕ → List ℕ → Item
 item_at h i line = elim (ltb i h.inputs) [
@@ -38,12 +44,13 @@ item_at h i line = elim (ltb i h.inputs) [
   ]
 ]
 
--- the i-th line is a gate's
-pub record GateAt (h : Header) (i : ℕ) : Type 0 where
-  pub inputs : h.inputs ≤ i
-  pub latches : h.latches ≤ i - h.inputs
-  pub outputs : h.outputs ≤ i - h.inputs - h.latches
-  pub gates : i - h.inputs - h.latches - h.outputs < h.gates
+-- the section of the i-th line
+abbrev pub In : Header → ℕ → Section → Type 0
+In h i Inputs = i < h.inputs
+In h i Latches = (h.inputs ≤ i) × (i - h.inputs < h.latches)
+In h i Outputs = (h.inputs ≤ i) × (h.latches ≤ i - h.inputs) × (i - h.inputs - h.latches < h.outputs)
+In h i Gates = (h.inputs ≤ i) × (h.latches ≤ i - h.inputs) × (h.outputs ≤ i - h.inputs - h.latches) × (i - h.inputs - h.latches - h.outputs < h.gates)
+In h i Symbols = (h.inputs ≤ i) × (h.latches ≤ i - h.inputs) × (h.outputs ≤ i - h.inputs - h.latches) × (h.gates ≤ i - h.inputs - h.latches - h.outputs)
 
 -- behind the gates a line `c` ends all
 unfoldable pub stops_at : Header → ℕ → List ℕ → Bool
@@ -60,11 +67,6 @@ stops_at h i line = elim (ltb i h.inputs) [
 
 -- ---- the header's line: the number of outputs is capped, the others are exact
 
-pub data HeadIs : Header? → Bool → (variables inputs latches outputs gates : ℕ) → Type 0 where
-  no : {m i l o a : ℕ} → HeadIs no_header false m i l o a
-  yes : (h : Header) {m i l o a : ℕ} → m ≡ h.variables → i ≡ h.inputs → l ≡ h.latches → o ≡ capped h.outputs → a ≡ h.gates → m ≤ most_variables → HeadIs (header h) true m i l o a
-
-pub record Magic (line : List ℕ) (r : Bool) : Type 0 where
-  pub behind : r ≡ true → 4 ≤ length line
-  pub is : r ≡ true → header_of line ≡ header_from (numbers_of (words (drop 4 line)))
-  pub not : r ≡ false → header_of line ≡ no_header
+pub data HeadIs : Header? → Option Head → Type 0 where
+  no : HeadIs no_header None
+  yes : (h : Header) (r : Head) → r.variables ≡ h.variables → r.inputs ≡ h.inputs → r.latches ≡ h.latches → r.outputs ≡ capped h.outputs → r.gates ≡ h.gates → HeadIs (header h) (Some r)

@@ -1,80 +1,63 @@
 // The header, `aag M I L O A`.
 ghost use Rattle.std.specs.Prelude.{◌≡◌, ◌&&◌, ◌+◌, leb};
 ghost use Rattle.aiger_form.specs.Aag.{header_of, most_variables};
-ghost use Rattle.aiger_rows.specs.Rows.{HeadIs, Magic};
+ghost use Rattle.aiger_rows.specs.Rows.{HeadIs, head_of, In};
 
-use crate::cursor::{numbers, until};
-use crate::rows::both;
+use crate::cursor::numbers;
+use crate::head::Head;
 
+// A part of the file behind the header.
 #[derive(Clone, Copy)]
-pub struct Heading {
-    pub is: bool,
-    pub variables: usize,
-    pub inputs: usize,
-    pub latches: usize,
-    pub outputs: usize,
-    pub gates: usize,
+pub enum Section {
+    Inputs,
+    Latches,
+    Outputs,
+    Gates,
+    Symbols,
 }
 
-// Is the first word `aag`, and a second there?
-fn magic(line: &[u8]) -> bool
-    ensures { Magic line.now result }
+// The section of the i-th line behind the header, from 0 on.
+pub fn section_of(i: usize, h: Head) -> Section
+    ensures { In (head_of h) i result }
 {
-    if until(line, 0, 32) != 3 {
-        return false;
+    if i < h.inputs {
+        return Section::Inputs;
     }
-    if line.len() <= 3 {
-        return false;
+    let j = i - h.inputs;
+    if j < h.latches {
+        return Section::Latches;
     }
-    if line[0] != 97 {
-        return false;
+    let k = j - h.latches;
+    if k < h.outputs {
+        return Section::Outputs;
     }
-    if line[1] != 97 {
-        return false;
+    if k - h.outputs < h.gates {
+        return Section::Gates;
     }
-    line[2] == 103
+    Section::Symbols
 }
 
 fn fits(m: usize, i: usize, l: usize, a: usize) -> bool
     ensures { result ≡ (leb (i + l + a) m && leb m most_variables) }
 {
-    if 2147483647 < m {
-        return false;
-    }
-    if m < i {
-        return false;
-    }
-    let rest = m - i;
-    if rest < l {
-        return false;
-    }
-    a <= rest - l
+    m <= 2147483647 && i <= m && l <= m - i && a <= m - i - l
 }
 
 // The header's numbers; the outputs stop at the largest number.
-pub fn header(line: &[u8]) -> Heading
-    ensures { HeadIs (header_of line.now) result.is result.variables result.inputs result.latches result.outputs result.gates }
+pub fn header(line: &[u8]) -> Option<Head>
+    ensures { HeadIs (header_of line.now) result }
 {
-    if !magic(line) {
-        return Heading {
-            is: false,
-            variables: 0,
-            inputs: 0,
-            latches: 0,
-            outputs: 0,
-            gates: 0,
-        };
-    }
-    let n = numbers(&line[4..]);
+    let n = numbers(line.strip_prefix(b"aag ")?)?;
     let v = n.values;
-    let five = n.count == 5;
-    let right = both(n.is, both(five, fits(v[0], v[1], v[2], v[4])));
-    Heading {
-        is: right,
-        variables: v[0],
-        inputs: v[1],
-        latches: v[2],
-        outputs: v[3],
-        gates: v[4],
+    if n.count == 5 && fits(v[0], v[1], v[2], v[4]) {
+        Some(Head {
+            variables: v[0],
+            inputs: v[1],
+            latches: v[2],
+            outputs: v[3],
+            gates: v[4],
+        })
+    } else {
+        None
     }
 }

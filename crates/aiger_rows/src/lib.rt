@@ -2,5 +2,6 @@
 #![tactic(auto)]
 
 pub mod cursor;
+pub mod head;
 pub mod header;
 pub mod rows;

@@ -1,17 +1,18 @@
 // What one line says, by its text alone.
-ghost use Rattle.std.specs.Prelude.{◌≡◌, ◌&&◌, ◌||◌, ◌%◌, ◌≤◌};
+ghost use Rattle.std.specs.Prelude.{◌≡◌, ◌&&◌, true, false, MatchOption};
 ghost use Rattle.rules.specs.Lists.{same_list};
 ghost use Rattle.rules.specs.Listing.{text};
 ghost use Rattle.aiger_form.specs.Aag.{or_bad, is_literal, is_variable, input_item, latch_item, output_item, gate_line, gate_item, line_item, symbol_count, symbol_item};
-ghost use Rattle.aiger_rows.specs.Rows.{row_item, reset_in, head, item_at, stops_at};
+ghost use Rattle.aiger_rows.specs.Rows.{said, reset_in, head_of, item_at, stops_at};
 
 use crate::cursor::{number, numbers, until};
+use crate::head::Head;
+use crate::header::{Section, section_of};
 use graph::Literal;
 
-// A text that is bad, a symbol, or a line of a section with its literals. A latch's reset is 0, 1 or the latch.
+// A symbol, or a line of a section with its literals. A latch's reset is 0, 1 or the latch.
 #[derive(Clone, Copy)]
 pub enum Row {
-    Bad,
     Symbol,
     Input(Literal),
     Latch(Literal, Literal, u32),
@@ -19,218 +20,148 @@ pub enum Row {
     Gate(Literal, Literal, Literal),
 }
 
-fn row_if(right: bool, row: Row) -> Row
-    ensures { row_item result ≡ or_bad right (row_item row) }
+// A number as a literal, if it is in range.
+#[tactic(auto, using(std::proofs::lemmas::Bool::Decides::nat_tests), unfolding(aiger_form::specs::Aag::is_literal))]
+fn literal(l: usize, h: Head) -> Option<Literal>
+    ensures { MatchOption result (is_literal h.variables l ≡ false) (λ x. (is_literal h.variables l ≡ true) × (x.0 ≡ l)) }
 {
-    if right {
-        return row;
+    if l <= 2 * h.variables + 1 {
+        Some(Literal(l as u32))
+    } else {
+        None
     }
-    Row::Bad
 }
 
-// The low 32 bits: all of a number that is in range.
-fn low(x: usize) -> u32
-    ensures { result ≡ x % 4294967296 }
+// The same, if it is what a line may define.
+#[tactic(auto, using(std::proofs::lemmas::Bool::Decides::nat_tests), unfolding(aiger_form::specs::Aag::is_variable, rules::specs::Graph::inversion_of))]
+fn variable(l: usize, h: Head) -> Option<Literal>
+    ensures { MatchOption result (is_variable h.variables l ≡ false) (λ x. (is_variable h.variables l ≡ true) × (x.0 ≡ l)) }
 {
-    (x % 4294967296) as u32
-}
-
-pub fn both(a: bool, b: bool) -> bool
-    ensures { result ≡ (a && b) }
-{
-    if a {
-        return b;
+    if l % 2 == 0 && 0 < l {
+        literal(l, h)
+    } else {
+        None
     }
-    false
-}
-
-fn either(a: bool, b: bool) -> bool
-    ensures { result ≡ (a || b) }
-{
-    if a {
-        return true;
-    }
-    b
-}
-
-fn is_literal(m: usize, l: usize) -> bool
-    requires { m ≤ 2147483647 }
-    ensures { result ≡ is_literal m l }
-{
-    l <= 2 * m + 1
-}
-
-fn is_variable(m: usize, l: usize) -> bool
-    requires { m ≤ 2147483647 }
-    ensures { result ≡ is_variable m l }
-{
-    let even = l % 2 == 0;
-    let some = 0 < l;
-    both(both(even, some), is_literal(m, l))
 }
 
 // Is a latch's reset, the third number where there is one, 0, 1 or the latch?
+#[tactic(auto, using(std::proofs::lemmas::Bool::Decides::nat_tests), unfolding(crate::specs::Rows::reset_in))]
 fn is_reset(count: usize, a: usize, c: usize) -> bool
     ensures { result ≡ reset_in count a c }
 {
-    let two = count == 2;
-    let three = count == 3;
-    let bit = c <= 1;
-    let own = c == a;
-    either(two, both(three, either(bit, own)))
+    count == 2 || count == 3 && (c <= 1 || c == a)
 }
 
-fn input_row(line: &[u8], m: usize) -> Row
-    requires { m ≤ 2147483647 }
-    ensures { row_item result ≡ line_item (input_item m) line.now }
+fn input_row(line: &[u8], h: Head) -> Option<Row>
+    ensures { said result ≡ line_item (input_item h.variables) line.now }
 {
-    let n = numbers(line);
-    let v = n.values;
-    let one = n.count == 1;
-    let right = both(n.is, both(one, is_variable(m, v[0])));
-    row_if(right, Row::Input(Literal(low(v[0]))))
+    let n = numbers(line)?;
+    if n.count != 1 {
+        return None;
+    }
+    Some(Row::Input(variable(n.values[0], h)?))
 }
 
-fn latch_row(line: &[u8], m: usize) -> Row
-    requires { m ≤ 2147483647 }
-    ensures { row_item result ≡ line_item (latch_item m) line.now }
+fn latch_row(line: &[u8], h: Head) -> Option<Row>
+    ensures { said result ≡ line_item (latch_item h.variables) line.now }
 {
-    let n = numbers(line);
+    let n = numbers(line)?;
     let v = n.values;
-    let reset = is_reset(n.count, v[0], v[2]);
-    let right = both(
-        n.is,
-        both(both(reset, is_variable(m, v[0])), is_literal(m, v[1])),
-    );
-    row_if(
-        right,
-        Row::Latch(Literal(low(v[0])), Literal(low(v[1])), low(v[2])),
-    )
+    if !is_reset(n.count, v[0], v[2]) {
+        return None;
+    }
+    let latch = variable(v[0], h)?;
+    let next = literal(v[1], h)?;
+    Some(Row::Latch(latch, next, v[2] as u32))
 }
 
-fn output_row(line: &[u8], m: usize) -> Row
-    requires { m ≤ 2147483647 }
-    ensures { row_item result ≡ line_item (output_item m) line.now }
+fn output_row(line: &[u8], h: Head) -> Option<Row>
+    ensures { said result ≡ line_item (output_item h.variables) line.now }
 {
-    let n = numbers(line);
-    let v = n.values;
-    let one = n.count == 1;
-    let right = both(n.is, both(one, is_literal(m, v[0])));
-    row_if(right, Row::Output(Literal(low(v[0]))))
+    let n = numbers(line)?;
+    if n.count != 1 {
+        return None;
+    }
+    Some(Row::Output(literal(n.values[0], h)?))
 }
 
 // The row of a gate's three numbers.
-pub fn gate_of(m: usize, a: usize, b: usize, c: usize) -> Row
-    requires { m ≤ 2147483647 }
-    ensures { row_item result ≡ or_bad (is_variable m a && is_literal m b && is_literal m c) (gate_line a b c) }
+pub fn gate_of(a: usize, b: usize, c: usize, h: Head) -> Option<Row>
+    ensures { said result ≡ or_bad (is_variable h.variables a && is_literal h.variables b && is_literal h.variables c) (gate_line a b c) }
 {
-    let right = both(both(is_variable(m, a), is_literal(m, b)), is_literal(m, c));
-    row_if(
-        right,
-        Row::Gate(Literal(low(a)), Literal(low(b)), Literal(low(c))),
-    )
+    let gate = variable(a, h)?;
+    let first = literal(b, h)?;
+    let second = literal(c, h)?;
+    Some(Row::Gate(gate, first, second))
 }
 
-fn gate_row(line: &[u8], m: usize) -> Row
-    requires { m ≤ 2147483647 }
-    ensures { row_item result ≡ line_item (gate_item m) line.now }
+fn gate_row(line: &[u8], h: Head) -> Option<Row>
+    ensures { said result ≡ line_item (gate_item h.variables) line.now }
 {
-    let n = numbers(line);
+    let n = numbers(line)?;
     let v = n.values;
-    let three = n.count == 3;
-    row_if(both(n.is, three), gate_of(m, v[0], v[1], v[2]))
+    if n.count != 3 {
+        return None;
+    }
+    gate_of(v[0], v[1], v[2], h)
 }
 
 // How many there are of what a symbol's letter names.
-fn symbol_count(letter: u8, inputs: usize, latches: usize, outputs: usize) -> usize
-    ensures { result ≡ symbol_count (head 0 inputs latches outputs 0) letter }
+#[tactic(auto, using(std::proofs::lemmas::Bool::Decides::nat_tests), unfolding(aiger_form::specs::Aag::symbol_count))]
+fn symbol_count(letter: u8, h: Head) -> usize
+    ensures { result ≡ symbol_count (head_of h) letter }
 {
-    if letter == 105 {
-        return inputs;
+    match letter {
+        b'i' => h.inputs,
+        b'l' => h.latches,
+        b'o' => h.outputs,
+        _ => 0,
     }
-    if letter == 108 {
-        return latches;
-    }
-    if letter == 111 {
-        return outputs;
-    }
-    0
 }
 
-fn symbol_row(line: &[u8], inputs: usize, latches: usize, outputs: usize) -> Row
-    ensures { row_item result ≡ symbol_item (head 0 inputs latches outputs 0) line.now }
+fn symbol_row(line: &[u8], h: Head) -> Option<Row>
+    ensures { said result ≡ symbol_item (head_of h) line.now }
 {
     if line.len() == 0 {
-        return Row::Bad;
+        return None;
     }
-    let n = symbol_count(line[0], inputs, latches, outputs);
-    let e = until(line, 1, 32);
+    let e = until(line, 1, b' ');
     if line.len() <= e {
-        return Row::Bad;
+        return None;
     }
-    let x = number(&line[1..e]);
-    let below = x.value < n;
-    row_if(both(x.is, below), Row::Symbol)
+    let x = number(&line[1..e])?;
+    if x < symbol_count(line[0], h) {
+        Some(Row::Symbol)
+    } else {
+        None
+    }
 }
 
 fn is_comment(line: &[u8]) -> bool
     ensures { result ≡ same_list line.now (text "c") }
 {
-    if line.len() != 1 {
-        return false;
-    }
-    line[0] == 99
+    line.len() == 1 && line[0] == b'c'
 }
 
-// The five numbers of the header.
-#[derive(Clone, Copy)]
-pub struct Head {
-    pub variables: usize,
-    pub inputs: usize,
-    pub latches: usize,
-    pub outputs: usize,
-    pub gates: usize,
-}
-
-// The i-th line behind the header, from 0 on.
-pub fn row_at(line: &[u8], i: usize, h: Head) -> Row
-    requires { h.variables ≤ 2147483647 }
-    ensures { row_item result ≡ item_at (head h.variables h.inputs h.latches h.outputs h.gates) i line.now }
+// The i-th line behind the header, from 0 on; nothing where its text is bad.
+pub fn row_at(line: &[u8], i: usize, h: Head) -> Option<Row>
+    ensures { said result ≡ item_at (head_of h) i line.now }
 {
-    if i < h.inputs {
-        return input_row(line, h.variables);
+    match section_of(i, h) {
+        Section::Inputs => input_row(line, h),
+        Section::Latches => latch_row(line, h),
+        Section::Outputs => output_row(line, h),
+        Section::Gates => gate_row(line, h),
+        Section::Symbols => symbol_row(line, h),
     }
-    let j = i - h.inputs;
-    if j < h.latches {
-        return latch_row(line, h.variables);
-    }
-    let k = j - h.latches;
-    if k < h.outputs {
-        return output_row(line, h.variables);
-    }
-    if k - h.outputs < h.gates {
-        return gate_row(line, h.variables);
-    }
-    symbol_row(line, h.inputs, h.latches, h.outputs)
 }
 
 // Does that line end all: a `c` behind the gates?
 pub fn stops_at(line: &[u8], i: usize, h: Head) -> bool
-    ensures { result ≡ stops_at (head h.variables h.inputs h.latches h.outputs h.gates) i line.now }
+    ensures { result ≡ stops_at (head_of h) i line.now }
 {
-    if i < h.inputs {
-        return false;
+    match section_of(i, h) {
+        Section::Symbols => is_comment(line),
+        _ => false,
     }
-    let j = i - h.inputs;
-    if j < h.latches {
-        return false;
-    }
-    let k = j - h.latches;
-    if k < h.outputs {
-        return false;
-    }
-    if k - h.outputs < h.gates {
-        return false;
-    }
-    is_comment(line)
 }

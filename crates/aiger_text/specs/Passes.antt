@@ -82,14 +82,12 @@ unfoldable pub lines_from : List ℕ → ℕ → List Line
 lines_from bytes at = placed at (parts line_feed (drop at bytes))
 
 -- the lines from a place behind the header on
-pub record Behind (m start : ℕ) (bytes : List ℕ) : Type 0 where
-  pub few : m ≤ 2147483647
+pub record Behind (start : ℕ) (bytes : List ℕ) : Type 0 where
   pub some : 0 < start
   pub inside : start ≤ length bytes
 
 -- before the pass
-pub record Ready (m start lo : ℕ) (bytes map w : List ℕ) : Type 0 where
-  pub few : m ≤ 2147483647
+pub record Ready (start lo : ℕ) (bytes map w : List ℕ) : Type 0 where
   pub some : 0 < start
   pub inside : start ≤ length bytes
   pub blank : Marks lo [] map
@@ -109,8 +107,7 @@ pub record Swept (h : Header) (start lo : ℕ) (bytes map map' w w' : List ℕ) 
 pub record Known (lo : ℕ) (vs map : List ℕ) (r : Bool) : Type 0 where
   pub is : (seen : List ℕ) → Marks lo seen map → r ≡ every (λ u. mem u (0 ∷ seen)) (keep (window lo (lo + breadth)) vs)
 
-pub record Set (m start : ℕ) (bytes map : List ℕ) : Type 0 where
-  pub few : m ≤ 2147483647
+pub record Set (start : ℕ) (bytes map : List ℕ) : Type 0 where
   pub inside : start ≤ length bytes
   pub wide : length map ≡ breadth
 
@@ -118,10 +115,6 @@ pub record Used (h : Header) (start lo : ℕ) (bytes map : List ℕ) (r : ℕ) :
   pub is : (seen : List ℕ) → Marks lo seen map → r ≡ place_or (length bytes) (first_unknown_in (window lo (lo + breadth)) (0 ∷ seen) (spots_at h 0 (lines_from bytes start)))
 
 -- ---- a window's first bad line, or the length
-
-pub record Cleared (map map' : List ℕ) : Type 0 where
-  pub len : length map' ≡ length map
-  pub blank : (k : ℕ) → get_or map' k 0 ≡ 0
 
 -- the first line of all that is bad by its text, by a variable of the window that it defines again, or by one that it uses and no line defines
 unfoldable pub bad_in : Header → (start lo : ℕ) → List ℕ → ℕ

@@ -16,8 +16,8 @@ judged_in true f ss = first_bad_in f (0 ∷ defined (items ss)) [] ss
 judged_in false f ss = first_again_in f [] ss
 
 -- before
-pub record Begun (m start : ℕ) (bytes map w : List ℕ) : Type 0 where
-  pub behind : Behind m start bytes
+pub record Begun (start : ℕ) (bytes map w : List ℕ) : Type 0 where
+  pub behind : Behind start bytes
   pub wide : length map ≡ breadth
   pub room : length w ≡ area
 

@@ -1,43 +1,27 @@
 // The lines behind the header, one after the other.
-ghost use Rattle.std.specs.Prelude.{◌≡◌, true};
-ghost use Rattle.aiger_rows.specs.Rows.{head, GateAt};
-ghost use Rattle.aiger_text.specs.Lines.{Before, Stepped};
+ghost use Rattle.std.specs.Prelude.{◌≤◌, length};
+ghost use Rattle.aiger_rows.specs.Rows.{head_of};
+ghost use Rattle.aiger_text.specs.Lines.{Stepped};
 
 use aiger_rows::cursor::{triple, until};
-use aiger_rows::rows::{Head, Row, gate_of, row_at, stops_at};
+use aiger_rows::head::Head;
+use aiger_rows::header::{Section, section_of};
+use aiger_rows::rows::{Row, gate_of, row_at, stops_at};
 
-// No whole line is left, a `c` behind the gates ends all, or a line and where it ends.
+// No whole line is left, a `c` behind the gates ends all, or a line, which has no row where its text is bad, and where it ends.
 #[derive(Clone, Copy)]
 pub enum Step {
     Last,
     Stop,
-    Line(Row, usize),
-}
-
-// Is the i-th line a gate's?
-fn is_gate(i: usize, h: Head) -> bool
-    ensures { result ≡ true → GateAt (head h.variables h.inputs h.latches h.outputs h.gates) i }
-{
-    if i < h.inputs {
-        return false;
-    }
-    let j = i - h.inputs;
-    if j < h.latches {
-        return false;
-    }
-    let k = j - h.latches;
-    if k < h.outputs {
-        return false;
-    }
-    k - h.outputs < h.gates
+    Line(Option<Row>, usize),
 }
 
 // The i-th line, which starts at a place.
 fn any_line(bytes: &[u8], at: usize, i: usize, h: Head) -> Step
-    requires { Before h.variables at bytes.now }
-    ensures { Stepped (head h.variables h.inputs h.latches h.outputs h.gates) i at bytes.now result }
+    requires { at ≤ length bytes.now }
+    ensures { Stepped (head_of h) i at bytes.now result }
 {
-    let e = until(bytes, at, 10);
+    let e = until(bytes, at, b'\n');
     if bytes.len() <= e {
         return Step::Last;
     }
@@ -49,15 +33,13 @@ fn any_line(bytes: &[u8], at: usize, i: usize, h: Head) -> Step
 
 // The same; a gate's line is mostly read in one go.
 pub fn line_at(bytes: &[u8], at: usize, i: usize, h: Head) -> Step
-    requires { Before h.variables at bytes.now }
-    ensures { Stepped (head h.variables h.inputs h.latches h.outputs h.gates) i at bytes.now result }
+    requires { at ≤ length bytes.now }
+    ensures { Stepped (head_of h) i at bytes.now result }
 {
-    if !is_gate(i, h) {
-        return any_line(bytes, at, i, h);
+    if let Section::Gates = section_of(i, h) {
+        if let Some(x) = triple(bytes, at) {
+            return Step::Line(gate_of(x.a, x.b, x.c, h), x.end);
+        }
     }
-    let x = triple(bytes, at);
-    if !x.is {
-        return any_line(bytes, at, i, h);
-    }
-    Step::Line(gate_of(h.variables, x.a, x.b, x.c), x.end)
+    any_line(bytes, at, i, h)
 }

@@ -2,13 +2,15 @@
 ghost use Rattle.std.specs.Prelude.{◌≡◌, [], ◌∷◌, ltb, ◌<◌, length};
 ghost use Rattle.rules.specs.Graph.{pin_of};
 ghost use Rattle.aiger_form.specs.Aag.{body_size, uses};
-ghost use Rattle.aiger_rows.specs.Rows.{row_item, head};
+ghost use Rattle.aiger_rows.specs.Rows.{said, head_of};
 ghost use Rattle.aiger_text.specs.Lines.{Short};
-ghost use Rattle.aiger_text.specs.Passes.{breadth, area, store_item, Marked, Passed, noted, Ready, Swept, Known, Set, Used, Cleared};
+ghost use Rattle.aiger_text.specs.Passes.{breadth, area, store_item, Marked, Passed, noted, Ready, Swept, Known, Set, Used};
 ghost use Rattle.aiger_text.specs.Whole.{Begun, Place, First};
 
 use crate::lines::{Step, line_at};
-use aiger_rows::rows::{Head, Row};
+use aiger_rows::head::Head;
+use aiger_rows::header::{Section, section_of};
+use aiger_rows::rows::Row;
 use graph::{Literal, pin_of};
 
 // Mark the pin of a literal, if the window holds it; was it not marked?
@@ -17,25 +19,24 @@ fn mark(map: &mut [u8], lo: usize, l: Literal) -> bool
     ensures { Marked lo (pin_of l.0) map.old map.new result }
 {
     let v = pin_of(l).index();
-    if v < lo {
+    if v < lo || map.len() <= v - lo {
         return true;
     }
     let k = v - lo;
-    if map.len() <= k {
-        return true;
-    }
     let old = map[k];
     map[k] = 1;
     old == 0
 }
 
 // Mark what a line defines; is its text right, and was that not marked?
-fn mark_row(map: &mut [u8], lo: usize, x: Row) -> bool
+fn mark_row(map: &mut [u8], lo: usize, x: Option<Row>) -> bool
     requires { length map.old ≡ breadth }
-    ensures { Passed lo (row_item x) map.old map.new result }
+    ensures { Passed lo (said x) map.old map.new result }
 {
-    match x {
-        Row::Bad => false,
+    let Some(row) = x else {
+        return false;
+    };
+    match row {
         Row::Symbol => true,
         Row::Output(_) => true,
         Row::Input(l) => mark(map, lo, l),
@@ -45,16 +46,14 @@ fn mark_row(map: &mut [u8], lo: usize, x: Row) -> bool
 }
 
 // A gate's literals go to the two numbers of its pin.
-fn store_row(gates: &mut [u32], x: Row)
+fn store_row(gates: &mut [u32], x: Option<Row>)
     requires { length gates.old ≡ area }
-    ensures { gates.new ≡ store_item (row_item x) gates.old }
+    ensures { gates.new ≡ store_item (said x) gates.old }
 {
-    match x {
-        Row::Bad => {}
-        Row::Symbol => {}
-        Row::Output(_) => {}
-        Row::Input(_) => {}
-        Row::Latch(_, _, _) => {}
+    let Some(row) = x else {
+        return;
+    };
+    match row {
         Row::Gate(l, a, b) => {
             let p = pin_of(l).index();
             if p < 65536 {
@@ -62,6 +61,7 @@ fn store_row(gates: &mut [u32], x: Row)
                 gates[2 * p + 1] = b.0;
             }
         }
+        _ => {}
     }
 }
 
@@ -69,43 +69,25 @@ fn store_row(gates: &mut [u32], x: Row)
 fn noted(good: bool, first: usize, at: usize) -> usize
     ensures { result ≡ noted good first at }
 {
-    if good {
-        return first;
-    }
-    if first < at {
-        return first;
-    }
-    at
+    if good { first } else { first.min(at) }
 }
 
 // Is the i-th line one of those that the header counts?
 fn in_body(i: usize, h: Head) -> bool
-    ensures { result ≡ ltb i (body_size (head h.variables h.inputs h.latches h.outputs h.gates)) }
+    ensures { result ≡ ltb i (body_size (head_of h)) }
 {
-    if i < h.inputs {
-        return true;
+    match section_of(i, h) {
+        Section::Symbols => false,
+        _ => true,
     }
-    let j = i - h.inputs;
-    if j < h.latches {
-        return true;
-    }
-    let k = j - h.latches;
-    if k < h.outputs {
-        return true;
-    }
-    k - h.outputs < h.gates
 }
 
 // With i whole lines and no `c`, are lines missing, or does the file end in the middle of one?
 fn is_short(bytes: &[u8], i: usize, h: Head) -> bool
     requires { 0 < length bytes.now }
-    ensures { Short (head h.variables h.inputs h.latches h.outputs h.gates) i bytes.now result }
+    ensures { Short (head_of h) i bytes.now result }
 {
-    if in_body(i, h) {
-        return true;
-    }
-    let last = bytes.len() - 1;
-    bytes[last] != 10
+    in_body(i, h) || bytes[bytes.len() - 1] != b'\n'
 }
 
 // What a pass finds: the first bad line or the length, and whether the file is cut.
@@ -125,26 +107,22 @@ fn mark_lines(
     map: &mut [u8],
     gates: &mut [u32],
 ) -> Sweep
-    requires { Ready h.variables start lo bytes.now map.old gates.old }
-    ensures { Swept (head h.variables h.inputs h.latches h.outputs h.gates) start lo bytes.now map.old map.new gates.old gates.new result }
+    requires { Ready start lo bytes.now map.old gates.old }
+    ensures { Swept (head_of h) start lo bytes.now map.old map.new gates.old gates.new result }
 {
     let mut at = start;
     let mut i = 0;
     let mut first = bytes.len();
     loop {
-        let step = line_at(bytes, at, i, h);
-        match step {
+        match line_at(bytes, at, i, h) {
             Step::Last => {
                 return Sweep {
-                    first: first,
+                    first,
                     cut: is_short(bytes, i, h),
                 };
             }
             Step::Stop => {
-                return Sweep {
-                    first: first,
-                    cut: false,
-                };
+                return Sweep { first, cut: false };
             }
             Step::Line(x, e) => {
                 store_row(gates, x);
@@ -163,49 +141,37 @@ fn known(map: &[u8], lo: usize, l: Literal) -> bool
     ensures { Known lo (pin_of l.0 ∷ []) map.now result }
 {
     let v = pin_of(l).index();
-    if v == 0 {
+    if v == 0 || v < lo || map.len() <= v - lo {
         return true;
     }
-    if v < lo {
-        return true;
-    }
-    let k = v - lo;
-    if map.len() <= k {
-        return true;
-    }
-    map[k] != 0
+    map[v - lo] != 0
 }
 
-fn known_row(map: &[u8], lo: usize, x: Row) -> bool
+fn known_row(map: &[u8], lo: usize, x: Option<Row>) -> bool
     requires { length map.now ≡ breadth }
-    ensures { Known lo (uses (row_item x)) map.now result }
+    ensures { Known lo (uses (said x)) map.now result }
 {
-    match x {
-        Row::Bad => true,
+    let Some(row) = x else {
+        return true;
+    };
+    match row {
         Row::Symbol => true,
         Row::Input(_) => true,
         Row::Output(l) => known(map, lo, l),
-        Row::Latch(_, n, _) => known(map, lo, n),
-        Row::Gate(_, a, b) => {
-            if known(map, lo, a) {
-                known(map, lo, b)
-            } else {
-                false
-            }
-        }
+        Row::Latch(_, next, _) => known(map, lo, next),
+        Row::Gate(_, a, b) => known(map, lo, a) && known(map, lo, b),
     }
 }
 
 // The first line that uses a variable of the window that is not marked, or the length.
 fn use_lines(bytes: &[u8], start: usize, h: Head, lo: usize, map: &[u8]) -> usize
-    requires { Set h.variables start bytes.now map.now }
-    ensures { Used (head h.variables h.inputs h.latches h.outputs h.gates) start lo bytes.now map.now result }
+    requires { Set start bytes.now map.now }
+    ensures { Used (head_of h) start lo bytes.now map.now result }
 {
     let mut at = start;
     let mut i = 0;
     loop {
-        let step = line_at(bytes, at, i, h);
-        match step {
+        match line_at(bytes, at, i, h) {
             Step::Last => {
                 return bytes.len();
             }
@@ -223,16 +189,6 @@ fn use_lines(bytes: &[u8], start: usize, h: Head, lo: usize, map: &[u8]) -> usiz
     }
 }
 
-fn clear(map: &mut [u8])
-    ensures { Cleared map.old map.new }
-{
-    let mut i = 0;
-    while i < map.len() {
-        map[i] = 0;
-        i += 1;
-    }
-}
-
 // The first line that is bad for the variables of the window; of a cut file the uses are not judged.
 fn place_in(
     bytes: &[u8],
@@ -242,36 +198,31 @@ fn place_in(
     map: &mut [u8],
     gates: &mut [u32],
 ) -> Sweep
-    requires { Begun h.variables start bytes.now map.old gates.old }
-    ensures { Place (head h.variables h.inputs h.latches h.outputs h.gates) start lo bytes.now map.old map.new gates.old gates.new result }
+    requires { Begun start bytes.now map.old gates.old }
+    ensures { Place (head_of h) start lo bytes.now map.old map.new gates.old gates.new result }
 {
-    clear(map);
+    map.fill(0);
     let s = mark_lines(bytes, start, h, lo, map, gates);
     if s.cut {
         return s;
     }
     let b = use_lines(bytes, start, h, lo, map);
     Sweep {
-        first: noted(false, s.first, b),
+        first: s.first.min(b),
         cut: false,
     }
 }
 
 // The first bad line of a file, or the length. The area then holds the gates, where there are at most 65,536 variables.
 pub fn first_place(bytes: &[u8], start: usize, h: Head, map: &mut [u8], gates: &mut [u32]) -> Sweep
-    requires { Begun h.variables start bytes.now map.old gates.old }
-    ensures { First (head h.variables h.inputs h.latches h.outputs h.gates) start bytes.now map.old map.new gates.old gates.new result }
+    requires { Begun start bytes.now map.old gates.old }
+    ensures { First (head_of h) start bytes.now map.old map.new gates.old gates.new result }
 {
     let s = place_in(bytes, start, h, 0, map, gates);
     let mut first = s.first;
-    let mut lo = 65536;
-    while lo <= h.variables {
-        let a = place_in(bytes, start, h, lo, map, gates);
-        first = noted(false, first, a.first);
-        lo += 65536;
+    for w in 1..h.variables / 65536 + 1 {
+        let a = place_in(bytes, start, h, 65536 * w, map, gates);
+        first = first.min(a.first);
     }
-    Sweep {
-        first: first,
-        cut: s.cut,
-    }
+    Sweep { first, cut: s.cut }
 }

@@ -13,24 +13,14 @@ fn flip_at(records: &[u32], at: usize) -> bool
     requires { at ≤ length records.now }
     ensures { result ≡ flip_at (drop at records.now) }
 {
-    if records.len() - at < 3 {
-        return false;
-    }
-    if records[at] != 2 {
-        return false;
-    }
-    records[at + 1] == 1
+    3 <= records.len() - at && records[at] == 2 && records[at + 1] == 1
 }
 
-// Does an output?
-fn output_at(records: &[u32], at: usize) -> bool
-    requires { at ≤ length records.now }
-    ensures { result ≡ output_at (drop at records.now) }
+// Are these a kind and a number, of an output?
+fn is_output(pair: &[u32]) -> bool
+    ensures { result ≡ output_at pair.now }
 {
-    if records.len() - at < 2 {
-        return false;
-    }
-    records[at] == 1
+    2 <= pair.len() && pair[0] == 1
 }
 
 // Are there only outputs from an index on?
@@ -38,12 +28,11 @@ fn outputs_only(records: &[u32], from: usize) -> bool
     requires { from ≤ length records.now }
     ensures { result ≡ outputs_only (drop from records.now) }
 {
-    let mut at = from;
-    while at < records.len() {
-        if !output_at(records, at) {
+    // Not `starts`: it ends at a record that is not whole, and does not say so.
+    for pair in records[from..].chunks(2) {
+        if !is_output(pair) {
             return false;
         }
-        at += 2;
     }
     true
 }
@@ -52,31 +41,21 @@ fn outputs_only(records: &[u32], from: usize) -> bool
 fn shaped(records: &[u32], n: usize) -> bool
     ensures { result ≡ shaped n records.now }
 {
-    let mut at = 0;
-    let mut left = n;
-    while 0 < left {
-        if !flip_at(records, at) {
+    for i in 0..n {
+        if !flip_at(records, 3 * i) {
             return false;
         }
-        at += 3;
-        left -= 1;
     }
-    outputs_only(records, at)
+    outputs_only(records, 3 * n)
 }
 
 pub fn is_leaf_pin(gates: &[u32], pin: Pin) -> bool
     ensures { result ≡ is_leaf_pin (graph_of gates.now) pin.0 }
 {
     let p = pin.index();
-    if p == 0 {
-        return false;
-    }
-    if pin_count(gates) <= p {
-        return false;
-    }
     match node_at(gates, pin) {
-        Node::Leaf => true,
-        Node::Gate(a, b) => false,
+        Node::Leaf => 0 < p && p < pin_count(gates),
+        Node::Gate(_, _) => false,
     }
 }
 
@@ -85,9 +64,8 @@ fn mark_latches(gates: &[u32], latches: &[u32], marks: &mut [u8]) -> bool
     requires { pin_count gates.now ≤ length marks.old }
     ensures { Marked (graph_of gates.now) latches.now marks.old result marks.new }
 {
-    let mut i = 0;
-    while i < latches.len() {
-        let pin = Pin(latches[i]);
+    for l in latches {
+        let pin = Pin(*l);
         if !is_leaf_pin(gates, pin) {
             return false;
         }
@@ -96,7 +74,6 @@ fn mark_latches(gates: &[u32], latches: &[u32], marks: &mut [u8]) -> bool
             return false;
         }
         marks[p] = 1;
-        i += 1;
     }
     true
 }
@@ -112,15 +89,8 @@ pub fn judge(
     requires { marks.old ≡ replicate 65536 0 }
     ensures { Judged given.now (netlist_of gates.now records.now latches.now) marks.old result marks.new }
 {
-    if given.len() != 0 {
+    if given.len() != 0 || refusal(6, true, gates, given, records).is_err() {
         return false;
     }
-    let verdict = refusal(6, true, gates, given, records);
-    if verdict.number != 0 {
-        return false;
-    }
-    if !shaped(records, latches.len()) {
-        return false;
-    }
-    mark_latches(gates, latches, marks)
+    shaped(records, latches.len()) && mark_latches(gates, latches, marks)
 }

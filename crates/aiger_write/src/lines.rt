@@ -17,11 +17,7 @@ fn is_input(gates: &[u32], marks: &[u8], pin: Pin) -> bool
     requires { pin.0 < length marks.now }
     ensures { result ≡ is_input gates.now marks.now pin.0 }
 {
-    if !is_leaf_pin(gates, pin) {
-        return false;
-    }
-    let p = pin.index();
-    marks[p] == 0
+    is_leaf_pin(gates, pin) && marks[pin.index()] == 0
 }
 
 fn count_inputs(gates: &[u32], marks: &[u8]) -> usize
@@ -30,12 +26,10 @@ fn count_inputs(gates: &[u32], marks: &[u8]) -> usize
 {
     let pins = pin_count(gates);
     let mut n = 0;
-    let mut p = 0;
-    while p < pins {
+    for p in 0..pins {
         if is_input(gates, marks, Pin(p as u32)) {
             n += 1;
         }
-        p += 1;
     }
     n
 }
@@ -45,7 +39,7 @@ fn is_gate(gates: &[u32], pin: Pin) -> bool
 {
     match node_at(gates, pin) {
         Node::Leaf => false,
-        Node::Gate(a, b) => true,
+        Node::Gate(_, _) => true,
     }
 }
 
@@ -55,12 +49,10 @@ fn count_gates(gates: &[u32]) -> usize
 {
     let pins = pin_count(gates);
     let mut n = 0;
-    let mut p = 0;
-    while p < pins {
+    for p in 0..pins {
         if is_gate(gates, Pin(p as u32)) {
             n += 1;
         }
-        p += 1;
     }
     n
 }
@@ -117,10 +109,8 @@ fn input_lines(out: &mut [u8], limit: usize, at: usize, gates: &[u32], marks: &[
 {
     let pins = pin_count(gates);
     let mut now = at;
-    let mut p = 0;
-    while p < pins {
+    for p in 0..pins {
         now = input_line(out, limit, now, gates, marks, Pin(p as u32));
-        p += 1;
     }
     now
 }
@@ -131,11 +121,9 @@ fn latch_lines(out: &mut [u8], limit: usize, at: usize, records: &[u32], latches
     ensures { Laid limit at (gather (latch_text latches.now records.now) (up_to (length latches.now) 0)) out.old result out.new }
 {
     let mut now = at;
-    let mut i = 0;
-    while i < latches.len() {
+    for i in 0..latches.len() {
         let next = 3 * i + 2;
         now = pin_line(out, limit, now, Pin(latches[i]), &records[next..next + 1]);
-        i += 1;
     }
     now
 }
@@ -160,10 +148,8 @@ fn output_lines(
     ensures { Laid limit at (gather (output_text records.now from) (up_to n 0)) out.old result out.new }
 {
     let mut now = at;
-    let mut i = 0;
-    while i < n {
+    for i in 0..n {
         now = output_line(out, limit, now, Literal(records[from + 2 * i + 1]));
-        i += 1;
     }
     now
 }
@@ -185,10 +171,8 @@ fn gate_lines(out: &mut [u8], limit: usize, at: usize, gates: &[u32]) -> usize
 {
     let pins = pin_count(gates);
     let mut now = at;
-    let mut p = 0;
-    while p < pins {
+    for p in 0..pins {
         now = gate_line(out, limit, now, gates, Pin(p as u32));
-        p += 1;
     }
     now
 }

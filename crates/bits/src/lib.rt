@@ -6,18 +6,12 @@ ghost use Rattle.rules.specs.Job.{bits_of, number_width};
 ghost use Rattle.bits.specs.Fields.{bits_in, FieldAt, FieldIs};
 ghost use Rattle.bits.specs.Putting.{BitAt, WithBit, FieldTo, Put};
 
-fn wide(b: u8) -> u32
-    ensures { result ≡ b }
-{
-    b as u32
-}
-
 fn bit(bytes: &[u8], at: usize) -> u32
     requires { at < 8 * length bytes.now }
     ensures { result ≡ get_or (bits_in bytes.now) at 0 }
 {
     let k = (7 - at % 8) as u32;
-    (wide(bytes[at / 8]) >> k) % 2
+    (u32::from(bytes[at / 8]) >> k) % 2
 }
 
 // The number in the w bits from `at` on.
@@ -26,10 +20,8 @@ pub fn field(bytes: &[u8], at: usize, w: usize) -> u32
     ensures { FieldIs at w bytes.now result }
 {
     let mut n: u32 = 0;
-    let mut i = 0;
-    while i < w {
+    for i in 0..w {
         n = 2 * n + bit(bytes, at + i);
-        i += 1;
     }
     n
 }
@@ -56,10 +48,9 @@ fn put_bit(bytes: &mut [u8], at: usize, b: u32)
     ensures { bits_in bytes.new ≡ set (bits_in bytes.old) at b }
 {
     let i = at / 8;
-    if bytes.len() <= i {
-        return;
+    if i < bytes.len() {
+        bytes[i] = with_bit(u32::from(bytes[i]), at % 8, b) as u8;
     }
-    bytes[i] = with_bit(wide(bytes[i]), at % 8, b) as u8;
 }
 
 // A number in the w bits from `at` on; the answer is the bit behind them.
@@ -68,9 +59,7 @@ pub fn put(bytes: &mut [u8], from: usize, w: usize, n: u32) -> usize
     ensures { Put (bits_of w n) bytes.old bytes.new from result }
 {
     let mut at = from;
-    let mut left = w;
-    while 0 < left {
-        left -= 1;
+    for left in (0..w).rev() {
         put_bit(bytes, at, (n >> (left as u32)) % 2);
         at += 1;
     }

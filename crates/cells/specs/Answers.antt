@@ -1,11 +1,10 @@
 -- What the functions answer, for any numbers. Assumes nothing.
-use Rattle.std.specs.Prelude.{ℕ, Bool, true, false, ◌&&◌, leb, ltb}
+use Rattle.std.specs.Prelude.{ℕ, Option, Some, None, Bool, true, false, ◌&&◌, leb, ltb}
 use Rattle.rules.specs.Cells.{is_height, row_at}
-use Rattle.cells.specs.declared.MaybeHeight.{MaybeHeight}
-use Rattle.cells.specs.declared.MaybeHeight.TheVariants.{Made, Refused}
+use Rattle.cells.specs.declared.Height.{Height}
 
-unfoldable pub height_of : ℕ → MaybeHeight
-height_of K = elim (is_height K) [ true ↦ Made (record { 0 = K }) | false ↦ Refused ]
+unfoldable pub height_of : ℕ → Option Height
+height_of K = elim (is_height K) [ true ↦ Some (record { 0 = K }) | false ↦ None ]
 
 -- a number where there is one, else 0
 unfoldable pub or_zero : Bool → ℕ → ℕ

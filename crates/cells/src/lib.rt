@@ -9,26 +9,15 @@ ghost use Rattle.cells.specs.Answers.{height_of, or_zero, has_level, has_cell};
 #[derive(Clone, Copy)]
 pub struct Height(pub u32);
 
-// What making a height answers.
-#[derive(Clone, Copy)]
-pub enum MaybeHeight {
-    Made(Height),
-    Refused,
-}
-
 impl Height {
     pub const LEAST: u32 = 6;
 
     pub const GREATEST: u32 = 13;
 
-    pub fn new(k: u32) -> MaybeHeight
+    pub fn new(k: u32) -> Option<Height>
         ensures { result ≡ height_of k }
     {
-        if is_height(k) {
-            MaybeHeight::Made(Height(k))
-        } else {
-            MaybeHeight::Refused
-        }
+        if is_height(k) { Some(Height(k)) } else { None }
     }
 
     // The cells of level 0.
@@ -90,21 +79,14 @@ impl Height {
 pub fn is_height(k: u32) -> bool
     ensures { result ≡ is_height k }
 {
-    if k < Height::LEAST {
-        return false;
-    }
-    k <= Height::GREATEST
+    Height::LEAST <= k && k <= Height::GREATEST
 }
 
 // Does a stage of this height have this level?
 pub fn has_level(height: u32, level: u32) -> bool
     ensures { result ≡ has_level height level }
 {
-    if is_height(height) {
-        level <= height
-    } else {
-        false
-    }
+    is_height(height) && level <= height
 }
 
 // The position of a cell of a level.

@@ -1,9 +1,10 @@
 -- What the checks of a graph ask and say. Assumes nothing.
-use Rattle.std.specs.Prelude.{ℕ, ◌*◌, ◌%◌, ◌≤◌, ◌<◌, Bool, true, false, ◌&&◌, List, [], ◌∷◌, ◌≡◌, leb, eqb, length, drop}
+use Rattle.std.specs.Prelude.{ℕ, Result, ◌*◌, ◌%◌, ◌≤◌, ◌<◌, Bool, true, false, ◌&&◌, List, [], ◌∷◌, ◌≡◌, leb, eqb, length, drop}
 use Rattle.rules.specs.Graph.{gate, graph_of, pin_count}
 use Rattle.rules.specs.Checks.{nodes_right, graph_right, loops_right, pin_shown}
 use Rattle.graph_loops.specs.Marks.{Lower}
-use Rattle.checks.specs.declared.Verdict.{Verdict}
+use Rattle.refusals.specs.declared.Refusal.{Refusal}
+use Rattle.refusals.specs.Numbers.{number_said, pin_said}
 
 -- may literal l be an operand among n pins: is a gate of l alone right there
 unfoldable pub operand_right : ℕ → ℕ → Bool
@@ -23,7 +24,7 @@ pub record Rising (gates : List ℕ) (p : ℕ) : Type 0 where
   pub same : nodes_right (pin_count gates) 0 (graph_of gates) ≡ nodes_right (pin_count gates) p (graph_of (drop (2 * p) gates))
   pub lower : (q : ℕ) → q < p → Lower gates q
 
--- number n, and the pin shown with it
-pub record Says (n : ℕ) (gates : List ℕ) (r : Verdict) : Type 0 where
-  pub number : r.number ≡ n
-  pub pin : r.pin.0 ≡ pin_shown n gates
+-- number n, 0 where nothing is refused, and the pin shown with it
+pub record Says {A : Type 0} (n : ℕ) (gates : List ℕ) (r : Result A Refusal) : Type 0 where
+  pub number : number_said r ≡ n
+  pub pin : pin_said r ≡ pin_shown n gates

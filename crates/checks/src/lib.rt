@@ -11,9 +11,9 @@ ghost use Rattle.records.specs.Values.{record_right};
 
 use cells::is_height;
 use graph::{Literal, Node, Pin, node_of, pin_count, pin_of, wide};
-use graph_loops::{Looped, loop_pin};
+use graph_loops::loop_pin;
 use records::{endpoint, size_at};
-use refusals::{LOOP, NO_HEIGHT, WRONG_GIVEN, WRONG_GRAPH, WRONG_RECORD, WRONG_SIZE};
+use refusals::Refusal;
 use sizes::areas_sized;
 
 // May a literal be an operand among so many pins?
@@ -36,11 +36,7 @@ fn node_right(pins: usize, p: usize, node: Node) -> bool
             if p == 0 {
                 return false;
             }
-            if operand_right(pins, a) {
-                operand_right(pins, b)
-            } else {
-                false
-            }
+            operand_right(pins, a) && operand_right(pins, b)
         }
     }
 }
@@ -50,12 +46,10 @@ fn first_forward(gates: &[u32]) -> usize
     ensures { Rising gates.now result }
 {
     let pins = pin_count(gates);
-    let mut p = 0;
-    while p < pins {
+    for p in 0..pins {
         if !node_right(p, p, node_of(gates[2 * p], gates[2 * p + 1])) {
             return p;
         }
-        p += 1;
     }
     pins
 }
@@ -66,12 +60,10 @@ fn nodes_right(gates: &[u32], from: usize) -> bool
     ensures { result ≡ nodes_right (pin_count gates.now) 0 (graph_of gates.now) }
 {
     let pins = pin_count(gates);
-    let mut p = from;
-    while p < pins {
+    for p in from..pins {
         if !node_right(pins, p, node_of(gates[2 * p], gates[2 * p + 1])) {
             return false;
         }
-        p += 1;
     }
     true
 }
@@ -90,44 +82,23 @@ fn graph_sized(gates: &[u32]) -> bool
     pins <= 65536
 }
 
-// What the checks say: the scope document's number, 0 where none applies, and with 23 the smallest pin on any loop.
-#[derive(Clone, Copy)]
-pub struct Verdict {
-    pub number: u32,
-    pub pin: Pin,
-}
-
-fn refused(number: u32) -> Verdict
-    ensures number { result.number ≡ number }
-    ensures pin { result.pin.0 ≡ 0 }
-{
-    Verdict {
-        number: number,
-        pin: Pin(0),
-    }
-}
-
 // The first of 3 and 23 that applies. Where every operand is below its gate, which is looked at first, there is no loop to be searched for.
-fn graph_refusal(gates: &[u32]) -> Verdict
+fn graph_refusal(gates: &[u32]) -> Result<(), Refusal>
     ensures { Says (graph_refusal gates.now) gates.now result }
 {
     if !graph_sized(gates) {
-        return refused(WRONG_GRAPH);
+        return Err(Refusal::WrongGraph);
     }
     let from = first_forward(gates);
     if from == pin_count(gates) {
-        return refused(0);
+        return Ok(());
     }
     if !nodes_right(gates, from) {
-        return refused(WRONG_GRAPH);
+        return Err(Refusal::WrongGraph);
     }
-    let looped = loop_pin(gates);
-    match looped {
-        Looped::Free => refused(0),
-        Looped::At(p) => Verdict {
-            number: LOOP,
-            pin: p,
-        },
+    match loop_pin(gates) {
+        None => Ok(()),
+        Some(pin) => Err(Refusal::Loop(pin)),
     }
 }
 
@@ -137,12 +108,10 @@ fn record_right(pins: usize, records: &[u32], at: usize) -> bool
     ensures { result ≡ record_right pins (drop at records.now) }
 {
     let size = size_at(records, at);
-    let mut i = 0;
-    while i < size {
+    for i in 0..size {
         if pins <= endpoint(records, at, i).index() {
             return false;
         }
-        i += 1;
     }
     true
 }
@@ -154,6 +123,7 @@ fn records_right(pins: usize, records: &[u32]) -> bool
         return false;
     }
     let mut at = 0;
+    // No `starts`: it ends at a record that is not whole, and does not say so.
     while at < records.len() {
         let size = size_at(records, at);
         if size == 0 {
@@ -170,38 +140,34 @@ fn records_right(pins: usize, records: &[u32]) -> bool
 pub fn given_right(pins: usize, given: &[u32]) -> bool
     ensures { result ≡ given_right pins given.now }
 {
-    let mut i = 0;
-    while i < given.len() {
-        if pins <= wide(given[i]) {
-            return false;
-        }
-        i += 1;
-    }
-    true
+    given.iter().all(|&p| wide(p) < pins)
 }
 
-// The first of 1, 2, 3, 23, 4, 5 that applies, or 0; `sized` says whether every lent area has a right size.
-pub fn refusal(height: u32, sized: bool, gates: &[u32], given: &[u32], records: &[u32]) -> Verdict
+// The first of 1, 2, 3, 23, 4, 5 that applies; `sized` says whether every lent area has a right size.
+pub fn refusal(
+    height: u32,
+    sized: bool,
+    gates: &[u32],
+    given: &[u32],
+    records: &[u32],
+) -> Result<(), Refusal>
     ensures { Says (refusal_of height sized gates.now given.now records.now) gates.now result }
 {
     if !is_height(height) {
-        return refused(NO_HEIGHT);
+        return Err(Refusal::NoHeight);
     }
     if !sized {
-        return refused(WRONG_SIZE);
+        return Err(Refusal::WrongSize);
     }
-    let graph = graph_refusal(gates);
-    if graph.number != 0 {
-        return graph;
-    }
+    graph_refusal(gates)?;
     let pins = pin_count(gates);
     if !records_right(pins, records) {
-        return refused(WRONG_RECORD);
+        return Err(Refusal::WrongRecord);
     }
     if !given_right(pins, given) {
-        return refused(WRONG_GIVEN);
+        return Err(Refusal::WrongGiven);
     }
-    refused(0)
+    Ok(())
 }
 
 // The checks of a build, whose areas have these lengths.
@@ -214,7 +180,7 @@ pub fn check(
     words: usize,
     counts: usize,
     work: usize,
-) -> Verdict
+) -> Result<(), Refusal>
     ensures { Says (refusal_of height (areas_sized height (work_size gates.now records.now) plan words counts work) gates.now given.now records.now) gates.now result }
 {
     let sized = areas_sized(

@@ -50,25 +50,22 @@ fn blank(cells: &[u32], p: usize) -> bool
     ensures { Blank cells.now p result }
 {
     let mut n: u32 = 0;
-    let mut i = 0;
-    while i < 8 {
+    for i in 0..8 {
         if cells[p + i] == EMPTY {
             n += 1;
         }
-        i += 1;
     }
     n == 8
 }
 
-// The positions from `from` to `to`, rising: lower cells stand higher, so they are still pins when they are looked at.
+// The positions from `from` to `to`, rising: lower cells stand higher, so they are still pins when they are looked at. By their places,
+// since a cell's code reads another cell of the stage.
 fn code_part(height: Height, cells: &mut [u32], gates: &[u32], from: usize, to: usize)
     requires { Some (λ pl. PartAt height.0 (graph_of gates.now) from to cells.old pl) }
     ensures { Every (λ pl. PartAt height.0 (graph_of gates.now) from to cells.old pl) (λ pl. cells.new ≡ coded_to height.0 (graph_of gates.now) pl to) }
 {
-    let mut p = from;
-    while p < to {
+    for p in from..to {
         cells[p] = coded_cell(height, cells, gates, p as u32).0;
-        p += 1;
     }
 }
 
@@ -77,14 +74,10 @@ pub fn code_stage(height: Height, cells: &mut [u32], gates: &[u32])
     requires { StageAt height.0 cells.old }
     ensures { cells.new ≡ coded height.0 (graph_of gates.now) cells.old }
 {
-    let end = height.width();
-    let mut p = 0;
-    while p < end {
-        let next = p + 8;
+    for p in (0..height.width()).step_by(8) {
         if !blank(cells, p) {
-            code_part(height, cells, gates, p, next);
+            code_part(height, cells, gates, p, p + 8);
         }
-        p = next;
     }
 }
 
@@ -94,12 +87,8 @@ pub fn code_plan(height: Height, plan: &mut [u32], gates: &[u32], n: usize)
     ensures { plan.new ≡ coded_plan n height.0 (graph_of gates.now) plan.old }
 {
     let size = height.stage_size();
-    let mut k = 0;
-    let mut at = 0;
-    while k < n {
-        let end = at + size;
-        code_stage(height, &mut plan[at..end], gates);
-        at = end;
-        k += 1;
+    for k in 0..n {
+        let at = k * size;
+        code_stage(height, &mut plan[at..at + size], gates);
     }
 }

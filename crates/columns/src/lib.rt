@@ -141,17 +141,6 @@ pub fn tail_set(work: &mut [u32], m: usize, j: usize, v: u32)
     work[16 * m + j] = v;
 }
 
-// A slice becomes v throughout.
-pub fn fill_part(s: &mut [u32], v: u32)
-    ensures { s.new ≡ replicate (length s.old) v }
-{
-    let mut i = 0;
-    while i < s.len() {
-        s[i] = v;
-        i += 1;
-    }
-}
-
 // The first n numbers of column f become 0.
 pub fn clear_front(work: &mut [u32], m: usize, n: usize, f: usize)
     requires { f * m + n ≤ length work.old }
@@ -159,7 +148,7 @@ pub fn clear_front(work: &mut [u32], m: usize, n: usize, f: usize)
 {
     let from = f * m;
     let to = from + n;
-    fill_part(&mut work[from..to], 0);
+    work[from..to].fill(0);
 }
 
 // The tail's first n numbers become v.
@@ -169,7 +158,7 @@ pub fn fill_tail(work: &mut [u32], m: usize, n: usize, v: u32)
 {
     let a = 16 * m;
     let e = a + n;
-    fill_part(&mut work[a..e], v);
+    work[a..e].fill(v);
 }
 
 // The area's first `size` numbers become 0.
@@ -177,7 +166,7 @@ pub fn clear(work: &mut [u32], size: usize)
     requires { size ≤ length work.old }
     ensures { work.new ≡ laid_over (replicate size 0) work.old }
 {
-    fill_part(&mut work[0..size], 0);
+    work[0..size].fill(0);
 }
 
 // Pin p behind the list of n pins in column f, whose marks are column g, unless it is there. Returns how many are listed.

@@ -3,24 +3,18 @@ ghost use Rattle.rules.specs.Records.{groups_of};
 ghost use Rattle.placer_start.specs.Reservation.{Counts, ReserveAt};
 ghost use Rattle.depth.specs.Walks.{MeasureAt, Tallied, Totalled};
 
-use columns::fill_part;
 use graph::pin_count;
 use placer_start::reservation::{Count, add_record};
-use records::size_at;
+use records::starts;
 
 // In an area of m pins whose heads of chains are 0.
 fn count_all(records: &[u32], work: &mut [u32], m: usize) -> Count
     requires { ReserveAt m records.now work.old }
     ensures { Totalled records.now work.old result work.new }
 {
-    let mut count = Count {
-        memories: 0,
-        duplicates: 0,
-    };
-    let mut at = 0;
-    while at < records.len() {
+    let mut count = Count::default();
+    for at in starts(records) {
         count = add_record(records, work, m, at, at, count);
-        at += 1 + size_at(records, at);
     }
     count
 }
@@ -31,8 +25,8 @@ pub fn tally(gates: &[u32], given: &[u32], records: &[u32], work: &mut [u32]) ->
     ensures { Tallied records.now work.old result work.new }
 {
     let m = pin_count(gates);
-    fill_part(work, 0);
+    work.fill(0);
     let count = count_all(records, work, m);
-    fill_part(work, 0);
+    work.fill(0);
     count
 }

@@ -1,5 +1,6 @@
 -- What an entry for other languages returns and leaves, for any areas and any reply. Assumes nothing.
-use Rattle.std.specs.Prelude.{true, false, List, ◌∷◌, ℕ, suc, ltb, length}
+use Rattle.std.specs.Prelude.{true, false, List, ◌∷◌, ℕ, suc, ltb, length, Result, Ok, Err}
+use Rattle.refusals.specs.declared.Refusal.{Refusal}
 use Rattle.rules.specs.Lists.{laid_over}
 
 -- the number returned, the lent areas and the slice for the answer
@@ -14,6 +15,11 @@ entry n a xs = record { number = n; areas = a; answer = xs }
 -- numbers over the front of a slice; one that is shorter stays as it is
 unfoldable pub written : List ℕ → List ℕ → List ℕ
 written ns xs = elim (ltb (length xs) (length ns)) [ true ↦ xs | false ↦ laid_over ns xs ]
+
+-- the length that is told beside the number: 0 where a file is refused
+abbrev pub length_said : Result ℕ Refusal → ℕ
+length_said (Ok n) = n
+length_said (Err r) = 0
 
 -- a reply, its number first, and the areas as they were and as it leaves them; a slice shorter than the reply gives 2 and nothing is changed
 unfoldable pub entered : {A : Type 0} → (before after : A) → ℕ → List ℕ → List ℕ → Entry A

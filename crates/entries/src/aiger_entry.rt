@@ -5,10 +5,9 @@ ghost use Rattle.aiger_write.specs.Answers.{netlist_of};
 ghost use Rattle.entries.specs.Entry.{entry};
 ghost use Rattle.entries.specs.Aiger.{aiger_read, aiger_written};
 
-use crate::answers::tell;
+use crate::answers::{WRONG_SIZE, tell, tell_length};
 use aiger::{read, write};
 use columns::wide;
-use refusals::WRONG_SIZE;
 
 // As `aiger::read`, with number, place, pin and the three counts in the first six numbers of `answer`. Returns the number. Where `answer` is
 // shorter that is 2, and nothing is changed.
@@ -25,12 +24,17 @@ pub extern "C" fn read_aiger(
     if answer.len() < 6 {
         return WRONG_SIZE;
     }
-    let a = read(bytes, gates, records, latches);
-    let pin = a.pin;
-    let shown = pin.index();
-    let numbers = [wide(a.number), a.at, shown, a.gates, a.records, a.latches];
-    tell(&numbers, answer);
-    a.number
+    match read(bytes, gates, records, latches) {
+        Ok(a) => {
+            tell(&[0, 0, 0, a.gates, a.records, a.latches], answer);
+            0
+        }
+        Err(r) => {
+            let number = r.why.number();
+            tell(&[wide(number), r.at, r.why.pin().index(), 0, 0, 0], answer);
+            number
+        }
+    }
 }
 
 // As `aiger::write`, with number and length in the first two numbers of `answer`. Returns the number. Where `answer` is shorter that is 2, and
@@ -49,8 +53,5 @@ pub extern "C" fn write_aiger(
     if answer.len() < 2 {
         return WRONG_SIZE;
     }
-    let a = write(gates, given, records, latches, bytes);
-    let numbers = [wide(a.number), a.length];
-    tell(&numbers, answer);
-    a.number
+    tell_length(write(gates, given, records, latches, bytes), answer)
 }

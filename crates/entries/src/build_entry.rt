@@ -5,11 +5,10 @@ ghost use Rattle.entries.specs.Entry.{entry};
 ghost use Rattle.entries.specs.Rule.{rule_for};
 ghost use Rattle.entries.specs.Build.{built, built_by};
 
-use crate::answers::tell;
+use crate::answers::{WRONG_SIZE, tell, tell_built};
 use crate::rule_number::rule_refusal;
 use columns::wide;
 use placer::build;
-use refusals::WRONG_SIZE;
 
 fn enter(
     height: u32,
@@ -27,12 +26,8 @@ fn enter(
     if answer.len() < 6 {
         return WRONG_SIZE;
     }
-    let a = build(height, gates, given, records, plan, words, counts, work);
-    let pin = a.pin;
-    let shown = pin.index();
-    let numbers = [wide(a.number), a.stages, a.words, a.stage, shown, a.cells];
-    tell(&numbers, answer);
-    a.number
+    let built = build(height, gates, given, records, plan, words, counts, work);
+    tell_built(built, answer)
 }
 
 // As `build`, with the answer in the first six numbers of `answer`. Returns the number. Where `answer` is shorter that is 2, and nothing is changed. The
@@ -52,13 +47,14 @@ pub extern "C" fn placer_build_by(
 ) -> u32
     ensures { entry result (areas plan.new words.new counts.new work.new) answer.new ≡ built_by (rule_for rule) height gates.now given.now records.now (areas plan.old words.old counts.old work.old) answer.old }
 {
-    let refused = rule_refusal(rule);
-    if refused != 0 {
-        let numbers = [wide(refused), 0, 0, 0, 0, 0];
-        tell(&numbers, answer);
-        return refused;
+    match rule_refusal(rule) {
+        Err(why) => {
+            let number = why.number();
+            tell(&[wide(number), 0, 0, 0, 0, 0], answer);
+            number
+        }
+        Ok(()) => enter(
+            height, gates, given, records, plan, words, counts, work, answer,
+        ),
     }
-    enter(
-        height, gates, given, records, plan, words, counts, work, answer,
-    )
 }

@@ -3,10 +3,9 @@ ghost use Rattle.std.specs.Prelude.{◌≡◌};
 ghost use Rattle.entries.specs.Entry.{entry};
 ghost use Rattle.entries.specs.Depth.{depth_told, reserved_told};
 
-use crate::answers::tell;
+use crate::answers::{WRONG_SIZE, tell};
 use columns::wide;
 use depth::{depth, reserved};
-use refusals::WRONG_SIZE;
 
 // As `depth::depth`, with number, D and pin in the first three numbers of `answer`. Returns the number. Where `answer` is shorter that is 2,
 // and nothing is changed.
@@ -23,12 +22,17 @@ pub extern "C" fn placer_depth(
     if answer.len() < 3 {
         return WRONG_SIZE;
     }
-    let a = depth(gates, given, records, work);
-    let pin = a.pin;
-    let shown = pin.index();
-    let numbers = [wide(a.number), a.depth, shown];
-    tell(&numbers, answer);
-    a.number
+    match depth(gates, given, records, work) {
+        Ok(depth) => {
+            tell(&[0, depth, 0], answer);
+            0
+        }
+        Err(why) => {
+            let number = why.number();
+            tell(&[wide(number), 0, why.pin().index()], answer);
+            number
+        }
+    }
 }
 
 // As `depth::reserved`, with number, memories, duplicates, words set aside and pin in the first five numbers of `answer`. Returns the
@@ -46,10 +50,15 @@ pub extern "C" fn placer_reserved(
     if answer.len() < 5 {
         return WRONG_SIZE;
     }
-    let a = reserved(gates, given, records, work);
-    let pin = a.pin;
-    let shown = pin.index();
-    let numbers = [wide(a.number), a.memories, a.duplicates, a.words, shown];
-    tell(&numbers, answer);
-    a.number
+    match reserved(gates, given, records, work) {
+        Ok(a) => {
+            tell(&[0, a.memories, a.duplicates, a.words, 0], answer);
+            0
+        }
+        Err(why) => {
+            let number = why.number();
+            tell(&[wide(number), 0, 0, 0, why.pin().index()], answer);
+            number
+        }
+    }
 }

@@ -4,11 +4,10 @@ ghost use Rattle.entries.specs.Entry.{entry};
 ghost use Rattle.entries.specs.Rule.{rule_for};
 ghost use Rattle.entries.specs.Explain.{lent_to, build_explained, build_explained_by};
 
-use crate::answers::tell;
+use crate::answers::{WRONG_SIZE, tell};
 use crate::rule_number::rule_refusal;
 use columns::wide;
 use explain::explain;
-use refusals::WRONG_SIZE;
 
 fn enter(
     height: u32,
@@ -30,20 +29,20 @@ fn enter(
     let e = explain(
         height, gates, given, records, plan, words, counts, work, list,
     );
-    let a = e.answer;
-    let pin = a.pin;
-    let shown = pin.index();
-    let numbers = [
-        wide(a.number),
-        a.stages,
-        a.words,
-        a.stage,
-        shown,
-        a.cells,
-        e.lines,
-    ];
-    tell(&numbers, answer);
-    a.number
+    match e.answer {
+        Ok(a) => {
+            tell(&[0, a.stages, a.words, 0, 0, a.cells, e.lines], answer);
+            0
+        }
+        Err(r) => {
+            let number = r.why.number();
+            tell(
+                &[wide(number), 0, 0, r.stage, r.why.pin().index(), 0, e.lines],
+                answer,
+            );
+            number
+        }
+    }
 }
 
 // As `explain`, with the build's answer and the lines in the first seven numbers of `answer`. Returns the number. Where `answer` is shorter that is 2, and
@@ -64,13 +63,14 @@ pub extern "C" fn explain_build_by(
 ) -> u32
     ensures { entry result (lent_to plan.new words.new counts.new work.new list.new) answer.new ≡ build_explained_by (rule_for rule) height gates.now given.now records.now (lent_to plan.old words.old counts.old work.old list.old) answer.old }
 {
-    let refused = rule_refusal(rule);
-    if refused != 0 {
-        let numbers = [wide(refused), 0, 0, 0, 0, 0, 0];
-        tell(&numbers, answer);
-        return refused;
+    match rule_refusal(rule) {
+        Err(why) => {
+            let number = why.number();
+            tell(&[wide(number), 0, 0, 0, 0, 0, 0], answer);
+            number
+        }
+        Ok(()) => enter(
+            height, gates, given, records, plan, words, counts, work, list, answer,
+        ),
     }
-    enter(
-        height, gates, given, records, plan, words, counts, work, list, answer,
-    )
 }

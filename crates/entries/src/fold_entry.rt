@@ -3,10 +3,9 @@ ghost use Rattle.std.specs.Prelude.{◌≡◌};
 ghost use Rattle.entries.specs.Entry.{entry};
 ghost use Rattle.entries.specs.Fold.{lent_to, plan_folded};
 
-use crate::answers::tell;
+use crate::answers::{WRONG_SIZE, tell};
 use columns::wide;
 use fold::fold;
-use refusals::WRONG_SIZE;
 
 // As `fold::fold`, with the number in the first number of `answer`. Returns the number. Where `answer` is empty that is 2, and nothing is
 // changed.
@@ -24,9 +23,10 @@ pub extern "C" fn fold_plan(
     if answer.len() < 1 {
         return WRONG_SIZE;
     }
-    let a = fold(height, plan, bits, res, work);
-    let number = a.number();
-    let numbers = [wide(number)];
-    tell(&numbers, answer);
+    let number = match fold(height, plan, bits, res, work) {
+        Ok(()) => 0,
+        Err(why) => why.number(),
+    };
+    tell(&[wide(number)], answer);
     number
 }

@@ -3,11 +3,9 @@ ghost use Rattle.std.specs.Prelude.{◌≡◌};
 ghost use Rattle.entries.specs.Entry.{entry};
 ghost use Rattle.entries.specs.Listing.{answer_listed};
 
-use crate::answers::tell;
-use columns::wide;
+use crate::answers::{WRONG_SIZE, tell_length};
 use graph::Pin;
 use listing::answer_text;
-use refusals::WRONG_SIZE;
 
 // As `answer_text`, with number and length in the first two numbers of `answer`. Returns the number. Where `answer` is shorter that is 2,
 // and nothing is changed.
@@ -29,7 +27,7 @@ pub extern "C" fn list_answer(
     if answer.len() < 2 {
         return WRONG_SIZE;
     }
-    let a = answer_text(
+    let size = answer_text(
         height,
         number,
         stages,
@@ -40,7 +38,5 @@ pub extern "C" fn list_answer(
         counts,
         out,
     );
-    let numbers = [wide(a.number), a.length];
-    tell(&numbers, answer);
-    a.number
+    tell_length(size, answer)
 }

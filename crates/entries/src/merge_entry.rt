@@ -4,11 +4,10 @@ ghost use Rattle.entries.specs.Entry.{entry};
 ghost use Rattle.entries.specs.Rule.{rule_for};
 ghost use Rattle.entries.specs.Merge.{lent, merged, merged_by};
 
-use crate::answers::tell;
+use crate::answers::{WRONG_SIZE, tell};
 use crate::rule_number::rule_refusal;
 use columns::wide;
 use merge::merge;
-use refusals::WRONG_SIZE;
 
 fn enter(
     height: u32,
@@ -30,24 +29,46 @@ fn enter(
     if answer.len() < 9 {
         return WRONG_SIZE;
     }
-    let a = merge(
+    let merged = merge(
         height, gates, given, records, indices, lengths, stages, extra, plan, words, counts, work,
     );
-    let pin = a.pin;
-    let shown = pin.index();
-    let numbers = [
-        wide(a.number),
-        a.stages,
-        a.words,
-        a.stage,
-        a.partitions,
-        a.trials,
-        a.refused,
-        shown,
-        a.cells,
-    ];
-    tell(&numbers, answer);
-    a.number
+    match merged {
+        Ok(m) => {
+            tell(
+                &[
+                    0,
+                    m.stages,
+                    m.words,
+                    0,
+                    m.partitions,
+                    m.trials,
+                    0,
+                    0,
+                    m.cells,
+                ],
+                answer,
+            );
+            0
+        }
+        Err(r) => {
+            let number = r.why.number();
+            tell(
+                &[
+                    wide(number),
+                    0,
+                    0,
+                    r.stage,
+                    0,
+                    0,
+                    r.part,
+                    r.why.pin().index(),
+                    0,
+                ],
+                answer,
+            );
+            number
+        }
+    }
 }
 
 // As `merge`, with the answer in the first nine numbers of `answer`. Returns the number. Where `answer` is shorter that is 2, and nothing is changed. The
@@ -71,14 +92,15 @@ pub extern "C" fn merge_partitions_by(
 ) -> u32
     ensures { entry result (lent indices.new lengths.new stages.new plan.new words.new counts.new work.new) answer.new ≡ merged_by (rule_for rule) height gates.now given.now records.now extra (lent indices.old lengths.old stages.old plan.old words.old counts.old work.old) answer.old }
 {
-    let refused = rule_refusal(rule);
-    if refused != 0 {
-        let numbers = [wide(refused), 0, 0, 0, 0, 0, 0, 0, 0];
-        tell(&numbers, answer);
-        return refused;
+    match rule_refusal(rule) {
+        Err(why) => {
+            let number = why.number();
+            tell(&[wide(number), 0, 0, 0, 0, 0, 0, 0, 0], answer);
+            number
+        }
+        Ok(()) => enter(
+            height, gates, given, records, indices, lengths, stages, extra, plan, words, counts,
+            work, answer,
+        ),
     }
-    enter(
-        height, gates, given, records, indices, lengths, stages, extra, plan, words, counts, work,
-        answer,
-    )
 }

@@ -5,9 +5,8 @@ ghost use Rattle.replay_finished.specs.Answers.{handed, lent};
 ghost use Rattle.entries.specs.Entry.{entry};
 ghost use Rattle.entries.specs.Plans.{mend_to, plan_checked, plan_replayed, plan_mended};
 
-use crate::answers::tell;
+use crate::answers::{WRONG_SIZE, tell, tell_checked};
 use columns::wide;
-use refusals::WRONG_SIZE;
 
 // As `plan_check::check_plan`, with number, stage, position and pin in the first four numbers of `answer`. Returns the number. Where `answer` is
 // shorter that is 2, and nothing is changed.
@@ -28,12 +27,10 @@ pub extern "C" fn check_plan(
     if answer.len() < 4 {
         return WRONG_SIZE;
     }
-    let a = plan_check::check_plan(height, gates, given, records, plan, words, counts, stages);
-    let pin = a.pin;
-    let shown = pin.index();
-    let numbers = [wide(a.number), a.stage, a.position, shown];
-    tell(&numbers, answer);
-    a.number
+    let checked = plan_check::check_plan(
+        height, gates, given, records, plan, words, counts, stages,
+    );
+    tell_checked(checked, answer)
 }
 
 // As `replay_finished::replay_plan`, with the same four numbers. Returns the number. Where `answer` is shorter that is 2, and nothing is changed.
@@ -64,15 +61,11 @@ pub extern "C" fn replay_plan(
     if answer.len() < 4 {
         return WRONG_SIZE;
     }
-    let a = replay_finished::replay_plan(
+    let checked = replay_finished::replay_plan(
         height, gates, given, records, driven, start, lines, recording, out, end, plan, words,
         counts, stages, work, tape, slots, bits,
     );
-    let pin = a.pin;
-    let shown = pin.index();
-    let numbers = [wide(a.number), a.stage, a.position, shown];
-    tell(&numbers, answer);
-    a.number
+    tell_checked(checked, answer)
 }
 
 // As `mend::mend`, with number, stage, position, pin and count in the first five numbers of `answer`. Returns the number. Where `answer` is shorter that
@@ -96,12 +89,21 @@ pub extern "C" fn mend_plan(
     if answer.len() < 5 {
         return WRONG_SIZE;
     }
-    let a = mend::mend(
+    let mended = mend::mend(
         height, gates, given, records, plan, words, counts, stages, list, work,
     );
-    let pin = a.pin;
-    let shown = pin.index();
-    let numbers = [wide(a.number), a.stage, a.position, shown, a.count];
-    tell(&numbers, answer);
-    a.number
+    match mended {
+        Ok(count) => {
+            tell(&[0, 0, 0, 0, count], answer);
+            0
+        }
+        Err(r) => {
+            let number = r.why.number();
+            tell(
+                &[wide(number), r.stage, r.position, r.why.pin().index(), 0],
+                answer,
+            );
+            number
+        }
+    }
 }

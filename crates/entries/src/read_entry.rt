@@ -3,10 +3,9 @@ ghost use Rattle.std.specs.Prelude.{◌≡◌};
 ghost use Rattle.entries.specs.Entry.{entry};
 ghost use Rattle.entries.specs.Jobs.{lists, job_read};
 
-use crate::answers::tell;
+use crate::answers::{WRONG_SIZE, tell};
 use columns::wide;
 use job::read;
-use refusals::WRONG_SIZE;
 
 // As `job::read`, with number, height and the three counts in the first five numbers of `answer`. Returns the number. Where `answer` is
 // shorter that is 2, and nothing is changed.
@@ -23,8 +22,18 @@ pub extern "C" fn read_job(
     if answer.len() < 5 {
         return WRONG_SIZE;
     }
-    let a = read(bytes, gates, given, records);
-    let numbers = [wide(a.number), wide(a.height), a.gates, a.given, a.records];
-    tell(&numbers, answer);
-    a.number
+    match read(bytes, gates, given, records) {
+        Ok(job) => {
+            tell(
+                &[0, wide(job.height), job.gates, job.given, job.records],
+                answer,
+            );
+            0
+        }
+        Err(why) => {
+            let number = why.number();
+            tell(&[wide(number), 0, 0, 0, 0], answer);
+            number
+        }
+    }
 }

@@ -4,9 +4,7 @@ ghost use Rattle.replay.specs.Answers.{job, lent};
 ghost use Rattle.entries.specs.Entry.{entry};
 ghost use Rattle.entries.specs.Replay.{recording_replayed};
 
-use crate::answers::tell;
-use columns::wide;
-use refusals::WRONG_SIZE;
+use crate::answers::{WRONG_SIZE, tell_built};
 use replay::replay;
 
 // As `replay::replay`, with the answer in the first six numbers of `answer`, as of a build. Returns the number. Where `answer` is shorter that is
@@ -37,13 +35,9 @@ pub extern "C" fn replay_recording(
     if answer.len() < 6 {
         return WRONG_SIZE;
     }
-    let a = replay(
+    let built = replay(
         height, gates, given, records, driven, start, lines, recording, out, end, plan, words,
         counts, work, tape, slots, bits,
     );
-    let pin = a.pin;
-    let shown = pin.index();
-    let numbers = [wide(a.number), a.stages, a.words, a.stage, shown, a.cells];
-    tell(&numbers, answer);
-    a.number
+    tell_built(built, answer)
 }

@@ -4,9 +4,8 @@ ghost use Rattle.sheet_form.specs.Calls.{areas};
 ghost use Rattle.entries.specs.Entry.{entry};
 ghost use Rattle.entries.specs.Sheets.{sheet_read, sheet_written};
 
-use crate::answers::tell;
+use crate::answers::{WRONG_SIZE, tell, tell_length};
 use columns::wide;
-use refusals::WRONG_SIZE;
 use sheet::{read, write};
 
 // As `sheet::read`, with number, height, stages and words in the first four numbers of `answer`. Returns the number. Where `answer` is shorter
@@ -25,10 +24,17 @@ pub extern "C" fn read_sheet(
     if answer.len() < 4 {
         return WRONG_SIZE;
     }
-    let a = read(gates, bytes, plan, words, counts);
-    let numbers = [wide(a.number), wide(a.height), a.stages, a.words];
-    tell(&numbers, answer);
-    a.number
+    match read(gates, bytes, plan, words, counts) {
+        Ok(sheet) => {
+            tell(&[0, wide(sheet.height), sheet.stages, sheet.words], answer);
+            0
+        }
+        Err(why) => {
+            let number = why.number();
+            tell(&[wide(number), 0, 0, 0], answer);
+            number
+        }
+    }
 }
 
 // As `sheet::write`, with number and length in the first two numbers of `answer`. Returns the number. Where `answer` is shorter that is 2, and
@@ -48,8 +54,5 @@ pub extern "C" fn write_sheet(
     if answer.len() < 2 {
         return WRONG_SIZE;
     }
-    let a = write(height, stages, plan, words, counts, bytes);
-    let numbers = [wide(a.number), a.length];
-    tell(&numbers, answer);
-    a.number
+    tell_length(write(height, stages, plan, words, counts, bytes), answer)
 }

@@ -4,10 +4,8 @@ ghost use Rattle.job_write.specs.Answers.{job_of};
 ghost use Rattle.entries.specs.Entry.{entry};
 ghost use Rattle.entries.specs.Jobs.{job_written};
 
-use crate::answers::tell;
-use columns::wide;
+use crate::answers::{WRONG_SIZE, tell_length};
 use job_write::write;
-use refusals::WRONG_SIZE;
 
 // As `job_write::write`, with number and length in the first two numbers of `answer`. Returns the number. Where `answer` is shorter that
 // is 2, and nothing is changed.
@@ -25,8 +23,5 @@ pub extern "C" fn write_job(
     if answer.len() < 2 {
         return WRONG_SIZE;
     }
-    let a = write(height, gates, given, records, bytes);
-    let numbers = [wide(a.number), a.length];
-    tell(&numbers, answer);
-    a.number
+    tell_length(write(height, gates, given, records, bytes), answer)
 }

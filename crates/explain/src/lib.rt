@@ -17,11 +17,10 @@ use coding::code_plan;
 use columns::RECORDS;
 use explain_build::lay;
 pub use explain_stages::Explanation;
-use explain_stages::refused;
 use graph::pin_count;
-use placer::Answer;
+use placer::Refused;
 use placer::areas::empty_all;
-use refusals::SHORT_LINES;
+use refusals::Refusal;
 
 // Are the lines more than the list holds? With room for K - 1 lines a room and one more they never are; with less they are counted first. The list
 // stays as it is, whatever the other areas hold then.
@@ -80,15 +79,16 @@ fn place(
     if short {
         empty_all(plan, words, counts, work);
         return Explanation {
-            answer: refused(SHORT_LINES, 0),
+            answer: Err(Refused::from(Refusal::ShortLines)),
             lines: 0,
         };
     }
     let e = lay(
         height, gates, given, records, plan, words, counts, work, list,
     );
-    let a = e.answer;
-    code_plan(height, plan, gates, a.stages);
+    if let Ok(built) = e.answer {
+        code_plan(height, plan, gates, built.stages);
+    }
     e
 }
 
@@ -106,7 +106,7 @@ pub fn explain(
 ) -> Explanation
     ensures { explained result plan.new words.new counts.new work.new list.new ≡ explainer needed_runs height gates.now given.now records.now list.old (areas plan.old words.old counts.old work.old) }
 {
-    let verdict = check(
+    let checked = check(
         height,
         gates,
         given,
@@ -116,18 +116,9 @@ pub fn explain(
         counts.len(),
         work.len(),
     );
-    if verdict.number != 0 {
-        let pin = verdict.pin;
-        let answer = Answer {
-            number: verdict.number,
-            stages: 0,
-            words: 0,
-            stage: 0,
-            pin: pin,
-            cells: 0,
-        };
+    if let Err(why) = checked {
         return Explanation {
-            answer: answer,
+            answer: Err(Refused::from(why)),
             lines: 0,
         };
     }

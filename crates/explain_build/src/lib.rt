@@ -9,11 +9,12 @@ ghost use Rattle.why_form.specs.Why.{why_of};
 ghost use Rattle.explain_build.specs.Call.{Attempted, Explained};
 
 use cells::Height;
-use explain_stages::{Explanation, refused, tell};
+use explain_stages::{Explanation, tell};
 use graph::pin_count;
+use placer::Refused;
 use placer::areas::{empty_all, tidy};
-use placer_start::{Opening, begin};
-use refusals::OVER_RESERVED;
+use placer_start::begin;
+use refusals::Refusal;
 use six::tell_six;
 
 mod six;
@@ -36,22 +37,27 @@ fn attempt(
     let m = pin_count(gates);
     let rooms = counts.len();
     let limit = words.len();
-    let opening = begin(given, records, work, m, limit);
-    match opening {
-        Opening::Over => {
-            tell_six(gates, records, limit, list);
-            Explanation {
-                answer: refused(OVER_RESERVED, 0),
-                lines: 1,
-            }
-        }
-        Opening::Ready(reserved, n) => {
-            let room = limit - reserved;
-            tell(
-                gates, plan, words, counts, work, list, m, height, rooms, n, room,
-            )
-        }
-    }
+    let Some(opening) = begin(given, records, work, m, limit) else {
+        tell_six(gates, records, limit, list);
+        return Explanation {
+            answer: Err(Refused::from(Refusal::OverReserved)),
+            lines: 1,
+        };
+    };
+    let room = limit - opening.words;
+    tell(
+        gates,
+        plan,
+        words,
+        counts,
+        work,
+        list,
+        m,
+        height,
+        rooms,
+        opening.waiting,
+        room,
+    )
 }
 
 // The build of records that passed the checks, in areas of exactly their counted sizes: stages of pins, and as many lines as fit the list.
@@ -73,7 +79,6 @@ pub fn lay(
     let e = attempt(
         height, gates, given, records, plan, words, counts, work, list,
     );
-    let a = e.answer;
-    tidy(a.number, plan, words, counts, work);
+    tidy(e.answer.is_ok(), plan, words, counts, work);
     e
 }

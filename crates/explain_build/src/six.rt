@@ -6,19 +6,20 @@ ghost use Rattle.explain_build.specs.Six.{SixAt, six_of, TellAt, Told};
 use explain_lines::{Line, put_line};
 use placer_start::reservation::Count;
 use plan_check::room::counted;
-use refusals::OVER_RESERVED;
+use refusals::Refusal;
 
 fn six_line(limit: usize, c: Count) -> Line
     requires { SixAt limit c }
     ensures { six result ≡ six_of limit c.memories c.duplicates }
 {
+    let number = Refusal::OverReserved.number();
     let memories = c.memories;
     let duplicates = c.duplicates;
     let reserved = memories + (duplicates + 31) / 32;
     if reserved < limit {
         let count = 4 * memories + duplicates;
         return Line(
-            OVER_RESERVED,
+            number,
             0,
             limit as u32,
             count as u32,
@@ -28,7 +29,7 @@ fn six_line(limit: usize, c: Count) -> Line
     }
     let most = limit - 1;
     Line(
-        OVER_RESERVED,
+        number,
         0,
         most as u32,
         reserved as u32,

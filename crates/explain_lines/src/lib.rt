@@ -53,11 +53,9 @@ pub fn copy_notes(work: &mut [u32], m: usize, stage: u32, list: &mut [u32], n: u
     requires { NotesAt m n work.old }
     ensures { AllCopied m stage n work.old list.old result work.new list.new }
 {
-    let mut h = 13;
     let mut lines = n;
-    while h > 1 {
+    for h in (2..=13).rev() {
         lines = copy_note(work, m, h, stage, list, lines);
-        h -= 1;
     }
     lines
 }

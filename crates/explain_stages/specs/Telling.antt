@@ -1,10 +1,12 @@
 -- The stages of a build with their lines. Assumes nothing.
-use Rattle.std.specs.Prelude.{◌≡◌, List, [], ℕ, suc, ◌+◌, ◌-◌, ◌*◌, ◌<◌, ◌≤◌, length}
+use Rattle.std.specs.Prelude.{◌≡◌, IfOk, IfErr, OnOk, OnErr, List, [], ℕ, suc, ◌+◌, ◌-◌, ◌*◌, ◌≤◌, length}
 use Rattle.rules.specs.Lists.{count}
 use Rattle.rules.specs.Cells.{filled}
 use Rattle.rules.specs.States.{State, none, state, after_from}
 use Rattle.rules.specs.Build as rules
 use Rattle.stage_notes.specs.Notes.{notes, Bare}
+use Rattle.refusals.specs.Numbers.{number_of}
+use Rattle.stage.specs.Stopped.{refusal_of}
 use Rattle.placer.specs.Answers.{told}
 use Rattle.placer.specs.Stages.{Course, answer, Underway, Kept, OneAt, StagesAt, Whole}
 use Rattle.why_form.specs.Why.{Line, why_from}
@@ -31,15 +33,15 @@ pub record TellAt (C : Course) (m K half : ℕ) (k n at room lines : ℕ) (gates
 pub record Tells (C : Course) (m k at lines : ℕ) (pl ws cs w list : List ℕ) (s : Step) (pl' ws' cs' w' list' : List ℕ) : Type 0 where
   pub kept : Kept pl ws cs w pl' ws' cs' w'
   pub size : length list' ≡ length list
-  pub refused : 0 < s.number → answer C ≡ rules.refusal s.number (suc k)
-  pub last : 0 < s.number → list' ≡ put_lines lines (lines_after C k) list
-  pub last_count : 0 < s.number → s.lines ≡ lines + length (lines_after C k)
-  pub on : s.number ≡ 0 → Underway C m (suc k) (at + s.words) s.waiting pl' ws' cs' w'
-  pub more : s.number ≡ 0 → count filled pl' ≡ count filled pl + s.cells
-  pub bare : s.number ≡ 0 → Bare 13 (notes m w')
-  pub few : s.number ≡ 0 → s.lines ≤ 12 * suc k
-  pub next : s.number ≡ 0 → put_lines lines (lines_after C k) list ≡ put_lines s.lines (lines_after C (suc k)) list'
-  pub next_count : s.number ≡ 0 → lines + length (lines_after C k) ≡ s.lines + length (lines_after C (suc k))
+  pub refused : IfErr s.outcome (λ e. answer C ≡ rules.refusal (number_of (refusal_of e)) (suc k))
+  pub last : OnErr s.outcome (list' ≡ put_lines lines (lines_after C k) list)
+  pub last_count : OnErr s.outcome (s.lines ≡ lines + length (lines_after C k))
+  pub on : IfOk s.outcome (λ o. Underway C m (suc k) (at + o.words) o.waiting pl' ws' cs' w')
+  pub more : IfOk s.outcome (λ o. count filled pl' ≡ count filled pl + o.cells)
+  pub bare : OnOk s.outcome (Bare 13 (notes m w'))
+  pub few : OnOk s.outcome (s.lines ≤ 12 * suc k)
+  pub next : OnOk s.outcome (put_lines lines (lines_after C k) list ≡ put_lines s.lines (lines_after C (suc k)) list')
+  pub next_count : OnOk s.outcome (lines + length (lines_after C k) ≡ s.lines + length (lines_after C (suc k)))
 
 -- ---- all stages
 
@@ -54,6 +56,6 @@ pub record AllAt (C : Course) (m K half : ℕ) (rooms k at n room lines : ℕ) (
 pub record AllTold (C : Course) (pl ws cs w list : List ℕ) (e : Explanation) (pl' ws' cs' w' list' : List ℕ) : Type 0 where
   pub kept : Kept pl ws cs w pl' ws' cs' w'
   pub reply : told e.answer ≡ rules.reply (answer C)
-  pub whole : e.answer.number ≡ 0 → Whole C (rules.stages_of (answer C)) pl' ws' cs'
+  pub whole : IfOk e.answer (λ _. Whole C (rules.stages_of (answer C)) pl' ws' cs')
   pub lines : list' ≡ put_lines 0 (lines_after C 0) list
   pub count : e.lines ≡ length (lines_after C 0)

@@ -1,14 +1,9 @@
--- The numbers of the answers, and an answer with the lent areas. Assumes nothing.
-use Rattle.std.specs.Prelude.{ℕ, List}
+-- What is answered, with the lent areas. Assumes nothing.
+use Rattle.std.specs.Prelude.{ℕ, List, Result}
 use Rattle.rules.specs.Coded.{FoldOutcome}
-use Rattle.fold.specs.declared.Answer.{Answer}
-use Rattle.fold.specs.declared.Answer.TheVariants.{Folded, NoHeight, WrongSize}
-
-unfoldable pub number_for : Answer → ℕ
-number_for Folded = 0
-number_for NoHeight = 1
-number_for WrongSize = 2
+use Rattle.refusals.specs.declared.Refusal.{Refusal}
+use Rattle.refusals.specs.Numbers.{number_said}
 
 -- answer and areas together, as the rules have them
-unfoldable pub outcome : Answer → (result work : List ℕ) → FoldOutcome
-outcome a result work = record { number = number_for a; result = result; work = work }
+unfoldable pub outcome : {A : Type 0} → Result A Refusal → (result work : List ℕ) → FoldOutcome
+outcome a result work = record { number = number_said a; result = result; work = work }

@@ -5,58 +5,42 @@ mod stages;
 
 ghost use Rattle.std.specs.Prelude.{◌≡◌};
 ghost use Rattle.rules.specs.Coded.{fold_refusal, folder};
-ghost use Rattle.fold.specs.Answers.{number_for, outcome};
+ghost use Rattle.refusals.specs.Numbers.{number_said};
+ghost use Rattle.fold.specs.Answers.{outcome};
 
 use cells::{Height, is_height};
+use refusals::Refusal;
 use sizes::plan_sized;
 use stages::fold_plan;
 
-#[derive(Clone, Copy)]
-pub enum Answer {
-    Folded,
-    NoHeight,
-    WrongSize,
-}
-
-impl Answer {
-    pub fn number(self) -> u32
-        ensures { result ≡ number_for self }
-    {
-        match self {
-            Answer::Folded => 0,
-            Answer::NoHeight => 1,
-            Answer::WrongSize => 2,
-        }
-    }
-}
-
-// The first of 1 and 2 that applies, else 0.
-fn check(height: u32, plan: usize, res: usize, work: usize) -> Answer
-    ensures { number_for result ≡ fold_refusal height plan res work }
+// The first of 1 and 2 that applies.
+fn check(height: u32, plan: usize, res: usize, work: usize) -> Result<(), Refusal>
+    ensures { number_said result ≡ fold_refusal height plan res work }
 {
     if !is_height(height) {
-        return Answer::NoHeight;
+        return Err(Refusal::NoHeight);
     }
     if !plan_sized(height, plan) {
-        return Answer::WrongSize;
+        return Err(Refusal::WrongSize);
     }
-    if res < plan {
-        return Answer::WrongSize;
+    if res < plan || work < 65536 {
+        return Err(Refusal::WrongSize);
     }
-    if work < 65536 {
-        return Answer::WrongSize;
-    }
-    Answer::Folded
+    Ok(())
 }
 
 // One bit a position for every stage of a plan, in the front of `result`; the first 65,536 numbers of `work`, one for each pin that a cell may
 // hold, are 0 afterwards. A refusal changes nothing.
-pub fn fold(height: u32, plan: &[u32], bits: &[u32], res: &mut [u32], work: &mut [u32]) -> Answer
+pub fn fold(
+    height: u32,
+    plan: &[u32],
+    bits: &[u32],
+    res: &mut [u32],
+    work: &mut [u32],
+) -> Result<(), Refusal>
     ensures { outcome result res.new work.new ≡ folder height plan.now bits.now res.old work.old }
 {
-    let answer = check(height, plan.len(), res.len(), work.len());
-    if answer.number() == 0 {
-        fold_plan(Height(height), plan, bits, res, &mut work[0..65536]);
-    }
-    answer
+    check(height, plan.len(), res.len(), work.len())?;
+    fold_plan(Height(height), plan, bits, res, &mut work[0..65536]);
+    Ok(())
 }

@@ -8,7 +8,6 @@ ghost use Rattle.fold_stage.specs.Loads.{held};
 ghost use Rattle.fold.specs.Stages.{OneAt, NextAt, Folds, PlanAt, StepAt, stage_from, Steps};
 
 use cells::Height;
-use columns::fill_part;
 use fold_stage::bits::fold_up;
 use fold_stage::loads::{forget, load_first, load_next, remember};
 
@@ -36,7 +35,7 @@ fn fold_first(height: Height, cells: &[u32], own: &[u32], res: &mut [u32], looks
     ensures { Folds height.0 (own_bit own.now) cells.now res.new looks.old looks.new }
 {
     first_stage(height, cells, own, res);
-    fill_part(looks, 0);
+    looks.fill(0);
     remember(height, cells, res, looks);
 }
 
@@ -77,10 +76,8 @@ fn fold_stages(height: Height, plan: &[u32], own: &[u32], res: &mut [u32], looks
     }
     let size = height.stage_size();
     fold_first(height, &plan[0..size], own, &mut res[0..size], looks);
-    let mut at = size;
-    while at < plan.len() {
+    for at in (size..plan.len()).step_by(size) {
         fold_at(height, plan, res, looks, at);
-        at += size;
     }
 }
 
@@ -92,5 +89,5 @@ pub fn fold_plan(height: Height, plan: &[u32], own: &[u32], res: &mut [u32], loo
     ensures cleared { looks.new ≡ replicate (length looks.old) 0 }
 {
     fold_stages(height, plan, own, res, looks);
-    fill_part(looks, 0);
+    looks.fill(0);
 }

@@ -13,7 +13,7 @@ use positions::{first_lower, second_lower};
 pub fn as_number(bit: bool) -> u32
     ensures { result ≡ as_number bit }
 {
-    if bit { 1 } else { 0 }
+    u32::from(bit)
 }
 
 fn inverted(inversion: u32, bit: bool) -> bool
@@ -26,11 +26,7 @@ fn inverted(inversion: u32, bit: bool) -> bool
 fn and_bit(cell: Cell, first: bool, second: bool) -> bool
     ensures { result ≡ (literal_bit (first_inversion cell.0) first && literal_bit (second_inversion cell.0) second) }
 {
-    if inverted(cell.first_inversion(), first) {
-        inverted(cell.second_inversion(), second)
-    } else {
-        false
-    }
+    inverted(cell.first_inversion(), first) && inverted(cell.second_inversion(), second)
 }
 
 // The bit of the cell at position p, above level 0, by those of its lower cells.
@@ -47,10 +43,7 @@ fn fold_cell(cells: &[u32], bits: &[u32], p: u32) -> bool
         return bits[a] != 0;
     }
     let b = second_lower(p);
-    if Cell(cells[a]).is_empty() {
-        return false;
-    }
-    if Cell(cells[b]).is_empty() {
+    if Cell(cells[a]).is_empty() || Cell(cells[b]).is_empty() {
         return false;
     }
     and_bit(held, bits[a] != 0, bits[b] != 0)
@@ -61,9 +54,7 @@ pub fn fold_up(height: Height, cells: &[u32], bits: &mut [u32])
     requires { UpAt height.0 cells.now bits.old }
     ensures { FoldsUp height.0 cells.now bits.old bits.new }
 {
-    let mut c = height.width();
-    while 1 < c {
-        c -= 1;
+    for c in (1..height.width()).rev() {
         bits[c] = as_number(fold_cell(cells, bits, c as u32));
     }
     bits[0] = 0;

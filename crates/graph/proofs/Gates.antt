@@ -10,25 +10,25 @@ use lib.Seq.{drop-cons}
 use borrow.Author.Tests.{lt-ltb, le-ltb, eq-eqb, ne_eqb}
 use Rattle.rules.specs.Cells.{empty}
 use Rattle.rules.specs.Graph.{leaf, gate, pin_of, inversion_of, literal_of, node_of, graph_of, pin_count}
-use Rattle.graph.specs.declared.MaybeLiteral.TheVariants.{Made, Refused}
+use Rattle.std.specs.Prelude.{Some, None}
 use Rattle.graph.specs.Values.{made_literal}
 use Rattle.rules.proofs.Bools.{and_none}
 
 -- a pin of 31 bits and an inversion make a literal
-pub literal_made : (p i : ℕ) → p ≤ 2147483647 → i ≤ 1 → Made (record { 0 = 2 * p + i }) ≡ made_literal p i
+pub literal_made : (p i : ℕ) → p ≤ 2147483647 → i ≤ 1 → Some (record { 0 = 2 * p + i }) ≡ made_literal p i
 unfolding made_literal literal_of
 literal_made p i a b = rw (lt-ltb i 2 (omega arith), lt-ltb (2 * p + i) (2 ^ 32) (omega arith), made_literal)
 
 -- a greater pin or another inversion makes none
-pub literal_refused : (p i : ℕ) → (2147483647 < p) ⊎ (1 < i) → Refused ≡ made_literal p i
+pub literal_refused : (p i : ℕ) → (2147483647 < p) ⊎ (1 < i) → None ≡ made_literal p i
 unfolding made_literal literal_of
 literal_refused p i (inl a) = rw (le-ltb (2 * p + i) (2 ^ 32) (omega arith), and_none (ltb i 2), made_literal)
 literal_refused p i (inr a) = rw (le-ltb i 2 (omega arith), made_literal)
 
 -- a literal's pin and inversion make it again
-pub literal_back : (l : ℕ) → l < 2 ^ 32 → made_literal (pin_of l) (inversion_of l) ≡ Made (record { 0 = l })
+pub literal_back : (l : ℕ) → l < 2 ^ 32 → made_literal (pin_of l) (inversion_of l) ≡ Some (record { 0 = l })
 unfolding pin_of inversion_of
-literal_back l h = sym (literal_made (l / 2) (l % 2) (omega arith) (omega arith)) ∙ ap (λ (n : ℕ). Made (record { 0 = n })) (omega arith)
+literal_back l h = sym (literal_made (l / 2) (l % 2) (omega arith) (omega arith)) ∙ ap (λ (n : ℕ). Some (record { 0 = n })) (omega arith)
 
 -- two empty marks are a leaf
 pub node_leaf : (a b : ℕ) → a ≡ 4294967295 → b ≡ 4294967295 → leaf ≡ node_of a b

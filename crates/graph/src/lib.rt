@@ -23,13 +23,6 @@ impl Pin {
 #[derive(Clone, Copy)]
 pub struct Literal(pub u32);
 
-// What making a literal answers.
-#[derive(Clone, Copy)]
-pub enum MaybeLiteral {
-    Made(Literal),
-    Refused,
-}
-
 // What drives a pin: nothing here, or a gate of two literals.
 #[derive(Clone, Copy)]
 pub enum Node {
@@ -51,17 +44,14 @@ pub fn inversion_of(l: Literal) -> u32
     l.0 % 2
 }
 
-pub fn literal_of(pin: Pin, inversion: u32) -> MaybeLiteral
+pub fn literal_of(pin: Pin, inversion: u32) -> Option<Literal>
     ensures { result ≡ made_literal pin.0 inversion }
 {
     let p = pin.0;
-    if 2147483647 < p {
-        return MaybeLiteral::Refused;
+    if 2147483647 < p || 1 < inversion {
+        return None;
     }
-    if 1 < inversion {
-        return MaybeLiteral::Refused;
-    }
-    MaybeLiteral::Made(Literal(2 * p + inversion))
+    Some(Literal(2 * p + inversion))
 }
 
 // The pins of a lent graph, pin 0 among them.

@@ -1,8 +1,10 @@
 -- What reading a job file answers, and the lent areas then. Assumes nothing.
-use Rattle.std.specs.Prelude.{Bool, true, false, ◌&&◌, List, ℕ, leb, length}
+use Rattle.std.specs.Prelude.{Bool, true, false, ◌&&◌, Result, Ok, Err, List, ℕ, leb, length}
 use Rattle.rules.specs.Lists.{laid_over}
 use Rattle.rules.specs.Job.{Job, Job?, no_job, job}
-use Rattle.job.specs.declared.Answer.{Answer}
+use Rattle.refusals.specs.declared.Refusal.{Refusal}
+use Rattle.refusals.specs.Numbers.{number_of}
+use Rattle.job.specs.declared.Job as code
 
 pub record Outcome : Type 0 where
   pub number : ℕ
@@ -14,8 +16,10 @@ pub record Outcome : Type 0 where
   pub given_area : List ℕ
   pub records_area : List ℕ
 
-unfoldable pub outcome : Answer → (g v c : List ℕ) → Outcome
-outcome a g v c = record { number = a.number; height = a.height; gates = a.gates; given = a.given; records = a.records; gates_area = g; given_area = v; records_area = c }
+-- a job's height and counts, or a refusal
+unfoldable pub outcome : Result code.Job Refusal → (g v c : List ℕ) → Outcome
+outcome (Ok j) g v c = record { number = 0; height = j.height; gates = j.gates; given = j.given; records = j.records; gates_area = g; given_area = v; records_area = c }
+outcome (Err r) g v c = record { number = number_of r; height = 0; gates = 0; given = 0; records = 0; gates_area = g; given_area = v; records_area = c }
 
 -- nothing changed
 unfoldable pub refused : ℕ → (g v c : List ℕ) → Outcome

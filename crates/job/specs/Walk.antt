@@ -37,7 +37,7 @@ pub record Walked (xs g v c g' v' c' : List ℕ) (at K ng nv nc : ℕ) : Type 0 
   pub stored : (h : at ≤ 8 * length xs) → Stored (measured.read h).J g v c g' v' c'
 
 -- the program's sizes, by the counts
-unfoldable pub sized : ℕ → ℕ → ℕ → Bool
+abbrev pub sized : ℕ → ℕ → ℕ → Bool
 sized K ng nc = leb K 10 && leb (ng / 2) 501 && leb nc 512
 
 unfoldable pub accepts : List ℕ → ℕ → ℕ → ℕ → ℕ → Bool

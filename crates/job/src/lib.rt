@@ -8,13 +8,12 @@ ghost use Rattle.std.specs.Prelude.{◌≡◌, ◌&&◌, leb};
 ghost use Rattle.rules.specs.Job.{read_job};
 ghost use Rattle.job.specs.Answers.{outcome, read_into};
 
-use refusals::{NO_JOB, WRONG_SIZE};
+use refusals::Refusal;
 use walk::{is_job, measure, walk};
 
-// The scope document's number, the height, and how many numbers of each area the job takes; all 0 on refusal but the number.
+// The height, and how many numbers of each area the job takes.
 #[derive(Clone, Copy)]
-pub struct Answer {
-    pub number: u32,
+pub struct Job {
     pub height: u32,
     pub gates: usize,
     pub given: usize,
@@ -32,38 +31,25 @@ fn has_room(
 ) -> bool
     ensures { result ≡ (leb gates first && leb given second && leb records third) }
 {
-    if first < gates {
-        return false;
-    }
-    if second < given {
-        return false;
-    }
-    records <= third
+    gates <= first && given <= second && records <= third
 }
 
 // Gates, given pins and records of a job file to the front of the areas. Refusals: 11 where the bytes are no job, 2 where an area is
 // too short; they change nothing, so the file is measured first.
-pub fn read(bytes: &[u8], gates: &mut [u32], given: &mut [u32], records: &mut [u32]) -> Answer
+pub fn read(
+    bytes: &[u8],
+    gates: &mut [u32],
+    given: &mut [u32],
+    records: &mut [u32],
+) -> Result<Job, Refusal>
     ensures { outcome result gates.new given.new records.new ≡ read_into (read_job bytes.now) gates.old given.old records.old }
 {
     if 8192 < bytes.len() {
-        return Answer {
-            number: NO_JOB,
-            height: 0,
-            gates: 0,
-            given: 0,
-            records: 0,
-        };
+        return Err(Refusal::NoJob);
     }
     let m = measure(bytes, gates, given, records);
-    if !is_job(bytes, m.at, m.height, m.gates, m.records) {
-        return Answer {
-            number: NO_JOB,
-            height: 0,
-            gates: 0,
-            given: 0,
-            records: 0,
-        };
+    if !is_job(bytes, m) {
+        return Err(Refusal::NoJob);
     }
     if !has_room(
         m.gates,
@@ -73,20 +59,13 @@ pub fn read(bytes: &[u8], gates: &mut [u32], given: &mut [u32], records: &mut [u
         given.len(),
         records.len(),
     ) {
-        return Answer {
-            number: WRONG_SIZE,
-            height: 0,
-            gates: 0,
-            given: 0,
-            records: 0,
-        };
+        return Err(Refusal::WrongSize);
     }
     let w = walk(bytes, gates, given, records);
-    Answer {
-        number: 0,
+    Ok(Job {
         height: w.height,
         gates: w.gates,
         given: w.given,
         records: w.records,
-    }
+    })
 }

@@ -7,7 +7,7 @@ ghost use Rattle.job.specs.Steps.{one_field, counted, At, FieldsAt, SectionAt, T
 use bits::{field, number_width};
 use cells::wide;
 use graph::EMPTY;
-use records::{kind_of, size_of};
+use records::size_for;
 
 // The bit behind what was read, and how many numbers are stored.
 #[derive(Clone, Copy)]
@@ -19,10 +19,9 @@ pub struct Step {
 pub fn store(area: &mut [u32], i: usize, x: u32)
     ensures { area.new ≡ set area.old i x }
 {
-    if area.len() <= i {
-        return;
+    if i < area.len() {
+        area[i] = x;
     }
-    area[i] = x;
 }
 
 fn read_field(bytes: &[u8], at: usize, w: usize, area: &mut [u32], s: usize) -> Step
@@ -51,20 +50,15 @@ fn read_fields(bytes: &[u8], from: usize, n: usize, w: usize, area: &mut [u32], 
     let end = 8 * bytes.len();
     let mut at = from;
     let mut count = s;
-    let mut i = 0;
-    while i < n {
+    for _ in 0..n {
         let step = read_field(bytes, at, w, area, count);
         if end < step.at {
             return step;
         }
         at = step.at;
         count = step.count;
-        i += 1;
     }
-    Step {
-        at: at,
-        count: count,
-    }
+    Step { at, count }
 }
 
 // A gate's literals, or the marks of a leaf.
@@ -97,20 +91,15 @@ fn read_pins(bytes: &[u8], from: usize, n: usize, area: &mut [u32], s: usize) ->
     let end = 8 * bytes.len();
     let mut at = from;
     let mut count = s;
-    let mut i = 0;
-    while i < n {
+    for _ in 0..n {
         let step = read_pin(bytes, at, area, count);
         if end < step.at {
             return step;
         }
         at = step.at;
         count = step.count;
-        i += 1;
     }
-    Step {
-        at: at,
-        count: count,
-    }
+    Step { at, count }
 }
 
 // A kind and its numbers.
@@ -126,7 +115,7 @@ fn read_record(bytes: &[u8], at: usize, area: &mut [u32], s: usize) -> Step
         };
     }
     let kind = field(bytes, at, 3);
-    let size = size_of(kind_of(kind));
+    let size = size_for(kind);
     if size == 0 {
         return Step {
             at: end + 1,
@@ -144,20 +133,15 @@ fn read_records(bytes: &[u8], from: usize, n: usize, area: &mut [u32], s: usize)
     let end = 8 * bytes.len();
     let mut at = from;
     let mut count = s;
-    let mut i = 0;
-    while i < n {
+    for _ in 0..n {
         let step = read_record(bytes, at, area, count);
         if end < step.at {
             return step;
         }
         at = step.at;
         count = step.count;
-        i += 1;
     }
-    Step {
-        at: at,
-        count: count,
-    }
+    Step { at, count }
 }
 
 fn read_count(bytes: &[u8], at: usize) -> Step

@@ -41,7 +41,7 @@ pub fn walk(bytes: &[u8], gates: &mut [u32], given: &mut [u32], records: &mut [u
     let c = count_records(bytes, b.at, records, 0);
     Extent {
         at: c.at,
-        height: height,
+        height,
         gates: a.count,
         given: b.count,
         records: c.count,
@@ -67,34 +67,22 @@ fn is_padding(bytes: &[u8], at: usize) -> bool
     ensures { result ≡ is_padding (drop at (bits_in bytes.now)) }
 {
     let left = 8 * bytes.len() - at;
-    if 8 <= left {
-        return false;
-    }
-    field(bytes, at, left) == 0
+    left < 8 && field(bytes, at, left) == 0
 }
 
 fn is_sized(height: u32, gates: usize, records: usize) -> bool
     ensures { result ≡ sized height gates records }
 {
-    if 10 < height {
-        return false;
-    }
-    if 501 < gates / 2 {
-        return false;
-    }
-    records <= 512
+    height <= 10 && gates / 2 <= 501 && records <= 512
 }
 
 // Is a measured file a job for the program?
-pub fn is_job(bytes: &[u8], at: usize, height: u32, gates: usize, records: usize) -> bool
+pub fn is_job(bytes: &[u8], met: Extent) -> bool
     requires { length bytes.now ≤ 8192 }
-    ensures { result ≡ accepts bytes.now at height gates records }
+    ensures { result ≡ accepts bytes.now met.at met.height met.gates met.records }
 {
-    if 8 * bytes.len() < at {
+    if 8 * bytes.len() < met.at {
         return false;
     }
-    if !is_padding(bytes, at) {
-        return false;
-    }
-    is_sized(height, gates, records)
+    is_padding(bytes, met.at) && is_sized(met.height, met.gates, met.records)
 }

@@ -1,8 +1,9 @@
 -- What writing a job file answers, and the lent bytes then. Assumes nothing.
-use Rattle.std.specs.Prelude.{true, false, List, ℕ, leb, length}
+use Rattle.std.specs.Prelude.{true, false, Result, Ok, Err, List, ℕ, leb, length}
 use Rattle.rules.specs.Lists.{laid_over}
 use Rattle.rules.specs.Job.{Job, File?, no_file, file}
-use Rattle.job_write.specs.declared.Written.{Written}
+use Rattle.refusals.specs.declared.Refusal.{Refusal}
+use Rattle.refusals.specs.Numbers.{number_of}
 
 abbrev pub job_of : ℕ → (g v c : List ℕ) → Job
 job_of K g v c = record { height = K; gates = g; given = v; records = c }
@@ -12,8 +13,10 @@ pub record Outcome : Type 0 where
   pub length : ℕ
   pub bytes : List ℕ
 
-unfoldable pub outcome : Written → List ℕ → Outcome
-outcome w xs = record { number = w.number; length = w.length; bytes = xs }
+-- a file's length, or a refusal
+unfoldable pub outcome : Result ℕ Refusal → List ℕ → Outcome
+outcome (Ok n) xs = record { number = 0; length = n; bytes = xs }
+outcome (Err r) xs = record { number = number_of r; length = 0; bytes = xs }
 
 -- nothing changed
 unfoldable pub refused : ℕ → List ℕ → Outcome

@@ -1,6 +1,6 @@
 // Which jobs a file can hold: every number fits its field, and the sizes are the program's.
 ghost use Rattle.std.specs.Prelude.{◌≡◌, ◌^◌, ◌<◌, ltb, length};
-ghost use Rattle.rules.specs.Lists.{every};
+ghost use Rattle.std.specs.List.{list_all};
 ghost use Rattle.rules.specs.Graph.{node_of, graph_of};
 ghost use Rattle.rules.specs.Records.{read};
 ghost use Rattle.rules.specs.Job.{node_fits, nodes_fit, gates_fit, number_width};
@@ -11,16 +11,9 @@ use graph::EMPTY;
 use records::size_at;
 
 fn numbers_fit(numbers: &[u32], limit: u32) -> bool
-    ensures { result ≡ every (λ x. ltb x limit) numbers.now }
+    ensures { result ≡ list_all (λ x. ltb x limit) numbers.now }
 {
-    let mut i = 0;
-    while i < numbers.len() {
-        if limit <= numbers[i] {
-            return false;
-        }
-        i += 1;
-    }
-    true
+    numbers.iter().all(|x| *x < limit)
 }
 
 // Two empty marks, or two literals of 17 bits.
@@ -40,12 +33,10 @@ fn nodes_fit(gates: &[u32]) -> bool
     ensures { result ≡ nodes_fit (graph_of gates.now) }
 {
     let n = gates.len() / 2;
-    let mut i = 0;
-    while i < n {
+    for i in 0..n {
         if !node_fits(gates[2 * i], gates[2 * i + 1]) {
             return false;
         }
-        i += 1;
     }
     true
 }
@@ -53,16 +44,10 @@ fn nodes_fit(gates: &[u32]) -> bool
 fn gates_fit(gates: &[u32]) -> bool
     ensures { result ≡ gates_fit gates.now }
 {
-    if gates.len() % 2 == 1 {
+    if gates.len() % 2 == 1 || gates.len() < 2 {
         return false;
     }
-    if gates.len() < 2 {
-        return false;
-    }
-    if !(gates[0] == EMPTY) {
-        return false;
-    }
-    if !(gates[1] == EMPTY) {
+    if gates[0] != EMPTY || gates[1] != EMPTY {
         return false;
     }
     nodes_fit(gates)
@@ -75,59 +60,41 @@ fn limit(kind: u32) -> u32
     if kind == 4 { 65536 } else { 131072 }
 }
 
-// How many numbers the record at an index has, its kind among them; 0 if it is not whole or does not fit.
-fn record_fits(records: &[u32], at: usize) -> usize
+// How many numbers the record at an index has, its kind among them; none if it is not whole or does not fit.
+fn record_fits(records: &[u32], at: usize) -> Option<usize>
     requires { at < length records.now }
     ensures { RecordIs records.now at result }
 {
     let size = size_at(records, at);
-    if size == 0 {
-        return 0;
+    if size == 0 || !numbers_fit(&records[at + 1..at + 1 + size], limit(records[at])) {
+        return None;
     }
-    if !numbers_fit(&records[at + 1..at + 1 + size], limit(records[at])) {
-        return 0;
-    }
-    1 + size
+    Some(1 + size)
 }
 
-// One more than the records, 0 if one does not fit.
-fn count_groups(records: &[u32]) -> usize
+// How many records there are, if each fits.
+fn count_groups(records: &[u32]) -> Option<usize>
     ensures { result ≡ counted (read records.now) }
 {
     let mut i = 0;
     let mut count = 0;
+    // No `starts`: it ends at a record that is not whole, and does not say so.
     while i < records.len() {
-        let step = record_fits(records, i);
-        if step == 0 {
-            return 0;
-        }
-        i += step;
+        i += record_fits(records, i)?;
         count += 1;
     }
-    count + 1
+    Some(count)
 }
 
-// One more than the job's records, 0 if something does not fit.
-pub fn judge(height: u32, gates: &[u32], given: &[u32], records: &[u32]) -> usize
+// How many records the job has, if everything fits.
+pub fn judge(height: u32, gates: &[u32], given: &[u32], records: &[u32]) -> Option<usize>
     ensures { Judged (job_of height gates.now given.now records.now) result }
 {
-    if 10 < height {
-        return 0;
+    if 10 < height || 501 < gates.len() / 2 || 512 < records.len() || 65536 <= given.len() {
+        return None;
     }
-    if 501 < gates.len() / 2 {
-        return 0;
-    }
-    if 512 < records.len() {
-        return 0;
-    }
-    if 65536 <= given.len() {
-        return 0;
-    }
-    if !gates_fit(gates) {
-        return 0;
-    }
-    if !numbers_fit(given, 65536) {
-        return 0;
+    if !gates_fit(gates) || !numbers_fit(given, 65536) {
+        return None;
     }
     count_groups(records)
 }

@@ -13,17 +13,15 @@ ghost use Rattle.job_write.specs.Sections.{head_bits, given_bits, records_bits, 
 
 use bits::{number_width, put};
 use graph::EMPTY;
-use records::size_at;
+use records::{size_at, starts};
 
 fn put_numbers(bytes: &mut [u8], from: usize, numbers: &[u32], w: usize) -> usize
     requires { NumbersTo from w numbers.now }
     ensures { Put (gather (bits_of w) numbers.now) bytes.old bytes.new from result }
 {
     let mut at = from;
-    let mut i = 0;
-    while i < numbers.len() {
-        at = put(bytes, at, w, numbers[i]);
-        i += 1;
+    for number in numbers {
+        at = put(bytes, at, w, *number);
     }
     at
 }
@@ -31,10 +29,7 @@ fn put_numbers(bytes: &mut [u8], from: usize, numbers: &[u32], w: usize) -> usiz
 fn is_leaf(a: u32, b: u32) -> bool
     ensures { result ≡ (eqb a empty && eqb b empty) }
 {
-    if a == EMPTY {
-        return b == EMPTY;
-    }
-    false
+    a == EMPTY && b == EMPTY
 }
 
 // A gate's literals behind a one, a zero for a leaf.
@@ -57,10 +52,8 @@ fn put_pins(bytes: &mut [u8], from: usize, gates: &[u32]) -> usize
 {
     let n = gates.len() / 2;
     let mut at = from;
-    let mut i = 1;
-    while i < n {
+    for i in 1..n {
         at = put_pin(bytes, at, gates[2 * i], gates[2 * i + 1]);
-        i += 1;
     }
     at
 }
@@ -78,11 +71,9 @@ fn put_records(bytes: &mut [u8], from: usize, records: &[u32]) -> usize
     ensures { PutIn (20 * length records.now) (groups_bits (groups_of records.now)) bytes.old bytes.new from result }
 {
     let mut at = from;
-    let mut i = 0;
-    while i < records.len() {
+    for i in starts(records) {
         let size = size_at(records, i);
         at = put_record(bytes, at, records[i], &records[i + 1..i + 1 + size]);
-        i += 1 + size;
     }
     at
 }

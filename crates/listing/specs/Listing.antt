@@ -1,8 +1,10 @@
 -- The listing of a plan that stands in lent areas, and what a call leaves. Assumes nothing.
-use Rattle.std.specs.Prelude.{Bool, true, false, ◌&&◌, List, [], ◌∷◌, ℕ, zero, suc, ◌+◌, ◌*◌, ◌^◌, ◌≤◌, ◌<◌, leb, eqb, length, take, drop, get_or}
+use Rattle.std.specs.Prelude.{Bool, true, false, ◌&&◌, Result, Ok, Err, List, ℕ, leb, eqb, length, take}
 use Rattle.rules.specs.Lists.{laid_over, sum}
 use Rattle.rules.specs.Cells.{is_height, stage_size, rooms}
 use Rattle.rules.specs.Listing.{listing, refused_line}
+use Rattle.refusals.specs.declared.Refusal.{Refusal}
+use Rattle.refusals.specs.Numbers.{number_of}
 use Rattle.listing_lines.specs.Stages.{stages_in}
 
 -- what is answered, and the area for the text
@@ -13,6 +15,11 @@ pub record Outcome : Type 0 where
 
 unfoldable pub outcome : ℕ → ℕ → List ℕ → Outcome
 outcome number size out = record { number = number; length = size; out = out }
+
+-- a length, or a refusal with none
+abbrev pub told : Result ℕ Refusal → List ℕ → Outcome
+told (Ok size) out = outcome 0 size out
+told (Err r) out = outcome (number_of r) 0 out
 
 -- a text over the front of an area; 2 and nothing changed where it is too short
 unfoldable pub written : List ℕ → List ℕ → Outcome

@@ -7,19 +7,12 @@ ghost use Rattle.rules.specs.Lists.{sum};
 ghost use Rattle.rules.specs.Cells.{is_height};
 ghost use Rattle.rules.specs.Listing.{listing, refused_line};
 ghost use Rattle.listing_lines.specs.Stages.{stages_in, Holds};
-ghost use Rattle.listing.specs.Listing.{outcome, written, hold, listed, answered};
+ghost use Rattle.listing.specs.Listing.{told, written, hold, listed, answered};
 
 use cells::{Height, is_height, wide};
 use graph::Pin;
 use listing_lines::{refused_line, whole};
-use refusals::{NO_HEIGHT, WRONG_SIZE};
-
-// 0 and the length of the text; 1 for a bad height, 2 for an area of the wrong size, with length 0.
-#[derive(Clone, Copy)]
-pub struct Written {
-    pub number: u32,
-    pub length: usize,
-}
+use refusals::Refusal;
 
 // Whether the first n counts sum to no more than `most`.
 fn spent_in(counts: &[u32], n: usize, most: usize) -> bool
@@ -27,14 +20,12 @@ fn spent_in(counts: &[u32], n: usize, most: usize) -> bool
     ensures { result ≡ leb (sum (take n counts.now)) most }
 {
     let mut left = most;
-    let mut i = 0;
-    while i < n {
-        let count = wide(counts[i]);
+    for c in &counts[..n] {
+        let count = wide(*c);
         if count > left {
             return false;
         }
-        left = left - count;
-        i += 1;
+        left -= count;
     }
     true
 }
@@ -44,10 +35,7 @@ fn holds(height: u32, n: usize, plan: &[u32], words: &[u32], counts: &[u32]) -> 
     requires { is_height height ≡ true }
     ensures { result ≡ hold height n plan.now words.now counts.now }
 {
-    if n > Height(height).rooms(plan.len()) {
-        return false;
-    }
-    if n > counts.len() {
+    if n > Height(height).rooms(plan.len()) || n > counts.len() {
         return false;
     }
     spent_in(counts, n, words.len())
@@ -62,27 +50,22 @@ fn lay(
     words: &[u32],
     counts: &[u32],
     out: &mut [u8],
-) -> Written
+) -> Result<usize, Refusal>
     requires { Holds size n plan.now words.now counts.now }
-    ensures { outcome result.number result.length out.new ≡ written (listing height (stages_in size n plan.now words.now counts.now)) out.old }
+    ensures { told result out.new ≡ written (listing height (stages_in size n plan.now words.now counts.now)) out.old }
 {
     let mut nowhere: [u8; 1] = [0; 1];
     let limit = out.len() + 1;
     let length = whole(&mut nowhere, limit, height, size, n, plan, words, counts);
     if length > out.len() {
-        return Written {
-            number: WRONG_SIZE,
-            length: 0,
-        };
+        return Err(Refusal::WrongSize);
     }
     whole(out, limit, height, size, n, plan, words, counts);
-    Written {
-        number: 0,
-        length: length,
-    }
+    Ok(length)
 }
 
-// The listing of the n stages that stand in plan, words and counts as a build leaves them.
+// The listing of the n stages that stand in plan, words and counts as a build leaves them. Answers the length of the text; refused with 1 for a bad
+// height, with 2 for an area of the wrong size.
 pub fn listing(
     height: u32,
     n: usize,
@@ -90,43 +73,31 @@ pub fn listing(
     words: &[u32],
     counts: &[u32],
     out: &mut [u8],
-) -> Written
-    ensures { outcome result.number result.length out.new ≡ listed height n plan.now words.now counts.now out.old }
+) -> Result<usize, Refusal>
+    ensures { told result out.new ≡ listed height n plan.now words.now counts.now out.old }
 {
     if !is_height(height) {
-        return Written {
-            number: NO_HEIGHT,
-            length: 0,
-        };
+        return Err(Refusal::NoHeight);
     }
     if !holds(height, n, plan, words, counts) {
-        return Written {
-            number: WRONG_SIZE,
-            length: 0,
-        };
+        return Err(Refusal::WrongSize);
     }
     let size = Height(height).stage_size();
     lay(height, size, n, plan, words, counts, out)
 }
 
-// A refusal's line; the pin is shown where it is not 0.
-pub fn refused(number: u32, stage: usize, pin: Pin, out: &mut [u8]) -> Written
-    ensures { outcome result.number result.length out.new ≡ written (refused_line number stage pin.0) out.old }
+// A refusal's line; the pin is shown where it is not 0. The refusal is a number, since a caller from C may hand in any.
+pub fn refused(number: u32, stage: usize, pin: Pin, out: &mut [u8]) -> Result<usize, Refusal>
+    ensures { told result out.new ≡ written (refused_line number stage pin.0) out.old }
 {
     let mut nowhere: [u8; 1] = [0; 1];
     let limit = out.len() + 1;
     let length = refused_line(&mut nowhere, limit, number, stage, pin);
     if length > out.len() {
-        return Written {
-            number: WRONG_SIZE,
-            length: 0,
-        };
+        return Err(Refusal::WrongSize);
     }
     refused_line(out, limit, number, stage, pin);
-    Written {
-        number: 0,
-        length: length,
-    }
+    Ok(length)
 }
 
 // What a build's answer and areas print.
@@ -140,8 +111,8 @@ pub fn answer_text(
     words: &[u32],
     counts: &[u32],
     out: &mut [u8],
-) -> Written
-    ensures { outcome result.number result.length out.new ≡ answered height number stages stage pin.0 plan.now words.now counts.now out.old }
+) -> Result<usize, Refusal>
+    ensures { told result out.new ≡ answered height number stages stage pin.0 plan.now words.now counts.now out.old }
 {
     if number != 0 {
         return refused(number, stage, pin, out);

@@ -1,3 +1,4 @@
 pub mod Laid
 pub mod Decimal
 pub mod Lines
+pub mod Fits

@@ -20,12 +20,10 @@ fn filled(cells: &[u32]) -> usize
     ensures { result ≡ count filled cells.now }
 {
     let mut n = 0;
-    let mut i = 0;
-    while i < cells.len() {
-        if cells[i] != EMPTY {
+    for c in cells {
+        if *c != EMPTY {
             n += 1;
         }
-        i += 1;
     }
     n
 }
@@ -47,10 +45,8 @@ fn cell_lines(out: &mut [u8], limit: usize, at: usize, cells: &[u32]) -> usize
     ensures { Laid limit at (cell_lines 0 cells.now) out.old result out.new }
 {
     let mut now = at;
-    let mut p = 0;
-    while p < cells.len() {
-        now = cell_line(out, limit, now, p, cells[p]);
-        p += 1;
+    for (p, c) in cells.iter().enumerate() {
+        now = cell_line(out, limit, now, p, *c);
     }
     now
 }
@@ -67,10 +63,8 @@ pub fn spaced(out: &mut [u8], limit: usize, at: usize, words: &[u32]) -> usize
     ensures { Laid limit at (spaced words.now) out.old result out.new }
 {
     let mut now = at;
-    let mut i = 0;
-    while i < words.len() {
-        now = spaced_one(out, limit, now, words[i]);
-        i += 1;
+    for word in words {
+        now = spaced_one(out, limit, now, *word);
     }
     now
 }
@@ -78,10 +72,11 @@ pub fn spaced(out: &mut [u8], limit: usize, at: usize, words: &[u32]) -> usize
 fn words_text(out: &mut [u8], limit: usize, at: usize, words: &[u32]) -> usize
     ensures { Laid limit at (words_text words.now) out.old result out.new }
 {
-    if words.len() == 0 {
-        return put_text(out, limit, at, b" -");
+    if words.is_empty() {
+        put_text(out, limit, at, b" -")
+    } else {
+        spaced(out, limit, at, words)
     }
-    spaced(out, limit, at, words)
 }
 
 // A stage's number and how many of its cells are filled.
@@ -147,12 +142,10 @@ fn stages_lines(
 {
     let mut now = at;
     let mut from = 0;
-    let mut k = 0;
-    while k < n {
+    for k in 0..n {
         let count = wide(counts[k]);
         now = next_stage(out, limit, now, size, k, from, count, plan, words);
-        from = from + count;
-        k += 1;
+        from += count;
     }
     now
 }
@@ -191,7 +184,7 @@ fn pin_text(out: &mut [u8], limit: usize, at: usize, pin: Pin) -> usize
 {
     let p = pin.index();
     if p == 0 {
-        return put_text(out, limit, at, b"");
+        return at;
     }
     let a = put_text(out, limit, at, b" pin ");
     put_decimal(out, limit, a, p)

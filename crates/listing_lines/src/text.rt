@@ -7,19 +7,15 @@ ghost use Rattle.listing_lines.specs.Laid.{step, Laid};
 fn store(out: &mut [u8], at: usize, b: u8)
     ensures { out.new ≡ set out.old at b }
 {
-    if at >= out.len() {
-        return;
+    if at < out.len() {
+        out[at] = b;
     }
-    out[at] = b;
 }
 
 fn next(limit: usize, at: usize) -> usize
     ensures { result ≡ step limit at }
 {
-    if at < limit {
-        return at + 1;
-    }
-    at
+    if at < limit { at + 1 } else { at }
 }
 
 pub fn put(out: &mut [u8], limit: usize, at: usize, b: u8) -> usize
@@ -33,10 +29,8 @@ pub fn put_text(out: &mut [u8], limit: usize, at: usize, text: &[u8]) -> usize
     ensures { Laid limit at text.now out.old result out.new }
 {
     let mut now = at;
-    let mut i = 0;
-    while i < text.len() {
-        now = put(out, limit, now, text[i]);
-        i += 1;
+    for b in text {
+        now = put(out, limit, now, *b);
     }
     now
 }

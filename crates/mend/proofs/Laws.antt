@@ -12,17 +12,20 @@ use borrow.Author.Tests.{le-leb, lt-leb, leb-true, eqb-true}
 use Rattle.rules.specs.Lists.{laid_over}
 use Rattle.rules.specs.Cells.{is_height, rooms}
 use Rattle.rules.specs.Checks.{plan_sized, refusal_of, pin_shown}
-use Rattle.rules.specs.Faults.{faultless, fault_at, fault}
 use Rattle.rules.proofs.Lists.Members.{split, and_true}
 use Rattle.rules.proofs.Lists.Parts.{part_laid, divides}
 use Rattle.cells.specs.Answers.{or_zero}
 use Rattle.cells.proofs.Heights.{or_zero_true}
-use Rattle.graph.specs.declared.Pin.{Pin}
-use Rattle.checks.specs.declared.Verdict.{Verdict}
+use Rattle.refusals.specs.declared.Refusal.{Refusal}
+use Rattle.refusals.specs.declared.Refusal.TheVariants.{ShortList, WrongPlan}
+use Rattle.refusals.specs.Numbers.{number_of}
+use Rattle.refusals.proofs.Numbers.{number_is}
+use Rattle.plan_check.specs.declared.Refused.{Refused}
 use Rattle.checks.specs.Values.{Says}
 use Rattle.checks.specs.Passed.{Passed}
 use Rattle.checks.proofs.Laws.Passed.{passed}
 use Rattle.placer_start.specs.declared.reservation.Count.{Count}
+use Rattle.std.specs.Prelude.{Result, Ok, Err}
 use Rattle.plan_check.specs.declared.stages.Place.{Place}
 use Rattle.plan_check.specs.Stages as check
 use Rattle.plan_check.specs.Stages.{fault_for}
@@ -34,8 +37,7 @@ use Rattle.mending.specs.Call.{answer, rebuilt, listed, tested, mending, mender}
 use Rattle.mending.proofs.Listed.{four_each}
 use Rattle.mend_list.specs.Lists.{Counted, WriteAt}
 use Rattle.mend_plan.specs.Plans as plans
-use Rattle.mend.specs.declared.Answer.{Answer}
-use Rattle.mend.specs.Calls.{mend_fits, outcome, Ready, SettleAt, Settles, JudgeAt, Rebuilds, Judges, MendAt, Mends}
+use Rattle.mend.specs.Calls.{mend_fits, replied, outcome, Ready, SettleAt, Settles, JudgeAt, Rebuilds, Judges, MendAt, Mends}
 
 -- ---- sizes
 
@@ -63,39 +65,29 @@ module _ (K plan counts work n : ℕ) (t : Bool) (et : t ≡ is_height K && plan
 
 module _ (K : ℕ) (plan made list : List ℕ) (A : SettleAt K plan made) where
   module _ (n : ℕ) (C : Counted plan made n) where
-    module _ (r : Answer) (q : Pin) (z : q.0 ≡ 0) where
-      -- the list is too short
-      pub settle_short : length list / 4 < n → r ≡ record { number = 24; stage = 0; position = 0; pin = q; count = 0 } → Settles K plan made list plan list r
-      unfolding outcome listed answer
-      settle_short h er = record {
-        is = λ work.
-            let d : leb (length (numbers_of (changes K plan made))) (length list) ≡ false = lt-leb (length (numbers_of (changes K plan made))) (length list) (omega (arith, four_each (changes K plan made), C.is K)) in
-            rw (er, z, listed, d);
-      }
+    -- the list is too short
+    pub settle_short : length list / 4 < n → Settles K plan made list plan list (Err (record { why = ShortList; stage = 0; position = 0 }))
+    unfolding outcome replied listed answer
+    settle_short h = record {
+      is = λ work.
+          let d : leb (length (numbers_of (changes K plan made))) (length list) ≡ false = lt-leb (length (numbers_of (changes K plan made))) (length list) (omega (arith, four_each (changes K plan made), C.is K)) in
+          rw (listed, d);
+    }
 
-      -- it has room
-      pub settle_listed : n ≤ length list / 4 → r ≡ record { number = 0; stage = 0; position = 0; pin = q; count = n } → (list' : List ℕ) → list' ≡ laid_over (numbers_of (changes K plan made)) list → (plan' : List ℕ) → plan' ≡ made → Settles K plan made list plan' list' r
-      unfolding outcome listed answer
-      settle_listed h er list' el plan' ep = record {
-        is = λ work.
-            let d : leb (length (numbers_of (changes K plan made))) (length list) ≡ true = le-leb (length (numbers_of (changes K plan made))) (length list) (omega (arith, four_each (changes K plan made), C.is K)) in
-            rw (er, z, el, ep, C.is K, listed, d);
-      }
+    -- it has room
+    pub settle_listed : n ≤ length list / 4 → (list' : List ℕ) → list' ≡ laid_over (numbers_of (changes K plan made)) list → (plan' : List ℕ) → plan' ≡ made → Settles K plan made list plan' list' (Ok n)
+    unfolding outcome replied listed answer
+    settle_listed h list' el plan' ep = record {
+      is = λ work.
+          let d : leb (length (numbers_of (changes K plan made))) (length list) ≡ true = le-leb (length (numbers_of (changes K plan made))) (length list) (omega (arith, four_each (changes K plan made), C.is K)) in
+          rw (el, ep, C.is K, listed, d);
+    }
 
     -- all changes may be written
     pub write_at : n ≤ length list / 4 → WriteAt K plan made list
     write_at h = record { height = A.height; same = A.same; high = A.high; stages = A.few; room = omega (arith, C.is K) }
 
 -- ---- the rebuilt plan
-
--- what a place says of a fault
-fault_wrong : (p : Place) → p.wrong ≡ true → fault_for p ≡ fault_at p.stage p.position
-unfolding fault_for
-fault_wrong p e = rw e
-
-fault_none : (p : Place) → p.wrong ≡ false → fault_for p ≡ faultless
-unfolding fault_for
-fault_none p e = rw e
 
 module _ (K : ℕ) (gates given records plan words counts : List ℕ) (n : ℕ) (count : Count) (made : List ℕ) (A : JudgeAt K gates given records plan counts n count made) where
   checkable : (xs : List ℕ) → length xs ≡ length plan → check.PlanAt K gates given records xs counts n count
@@ -107,16 +99,15 @@ module _ (K : ℕ) (gates given records plan words counts : List ℕ) (n : ℕ) 
     named = A.ready.named;
   }
 
-  module _ (list : List ℕ) (p : Place) (S : check.PlanSays K gates given records plan words counts n p) where
-    -- it has no fault
-    pub judge_none : p.wrong ≡ false → (r : Answer) (q : Pin) → q.0 ≡ 0 → r ≡ record { number = 0; stage = 0; position = 0; pin = q; count = 0 } → Judges K gates given records plan words counts n list plan list r
-    unfolding outcome mending answer
-    judge_none e r q z er = record { is = λ work. let f : fault K gates given records plan words counts n ≡ faultless = sym S.is ∙ fault_none p e in rw (f, mending, er, z) }
+  -- it has no fault
+  pub judge_none : (list : List ℕ) {u : Unit {0}} → check.PlanSays K gates given records plan words counts n (Ok u) → Judges K gates given records plan words counts n list plan list (Ok 0)
+  unfolding outcome replied mending answer fault_for
+  judge_none list S = record { is = λ work. rw (← S.is) }
 
-    -- it has one
-    pub judge_fault : p.wrong ≡ true → (plan' list' : List ℕ) (r : Answer) → Rebuilds K gates given records plan words counts n list plan' list' r → Judges K gates given records plan words counts n list plan' list' r
-    unfolding mending
-    judge_fault e plan' list' r R = record { is = λ work. let f : fault K gates given records plan words counts n ≡ fault_at p.stage p.position = sym S.is ∙ fault_wrong p e in R.is work ∙ rw (f, mending) }
+  -- it has one
+  pub judge_fault : (list : List ℕ) (p : Place) → check.PlanSays K gates given records plan words counts n (Err p) → (plan' list' : List ℕ) (r : Result ℕ Refused) → Rebuilds K gates given records plan words counts n list plan' list' r → Judges K gates given records plan words counts n list plan' list' r
+  unfolding mending fault_for
+  judge_fault list p S plan' list' r R = record { is = λ work. R.is work ∙ rw (← S.is) }
 
   module _ (made₁ : List ℕ) (e₁ : made₁ ≡ plan) where
     module _ (made₂ : List ℕ) (P : plans.PlanSays K gates given made₁ n made₂) where
@@ -134,31 +125,30 @@ module _ (K : ℕ) (gates given records plan words counts : List ℕ) (n : ℕ) 
       pub settle_at : SettleAt K plan made₂
       settle_at = record { height = A.ready.here.tall.height; high = omega (arith, A.ready.here.tall.double, A.ready.here.tall.high); same = made_long; few = A.ready.few }
 
-      module _ (list : List ℕ) (p : Place) (S : check.PlanSays K gates given records made₂ words counts n p) where
-        -- it has a fault
-        pub rebuild_fault : p.wrong ≡ true → (r : Answer) (q : Pin) → q.0 ≡ 0 → r ≡ record { number = 22; stage = p.stage; position = p.position; pin = q; count = 0 } → Rebuilds K gates given records plan words counts n list plan list r
-        unfolding outcome tested answer
-        rebuild_fault e r q z er = record { is = λ work. let f : fault K gates given records (rebuilt K gates given plan words counts n) words counts n ≡ fault_at p.stage p.position = rw (← made_is) (sym S.is ∙ fault_wrong p e) in rw (f, tested, er, z) }
+      -- it has a fault
+      pub rebuild_fault : (list : List ℕ) (p : Place) → check.PlanSays K gates given records made₂ words counts n (Err p) → Rebuilds K gates given records plan words counts n list plan list (Err (record { why = WrongPlan; stage = p.stage; position = p.position }))
+      unfolding outcome replied tested answer fault_for
+      rebuild_fault list p S = record { is = λ work. rw (← made_is, ← S.is) }
 
-        -- it has none
-        pub rebuild_settled : p.wrong ≡ false → (plan' list' : List ℕ) (r : Answer) → Settles K plan made₂ list plan' list' r → Rebuilds K gates given records plan words counts n list plan' list' r
-        unfolding tested
-        rebuild_settled e plan' list' r T = record { is = λ work. let f : fault K gates given records (rebuilt K gates given plan words counts n) words counts n ≡ faultless = rw (← made_is) (sym S.is ∙ fault_none p e) in (rw made_is at (T.is work)) ∙ rw (f, tested) }
+      -- it has none
+      pub rebuild_settled : (list : List ℕ) {u : Unit {0}} → check.PlanSays K gates given records made₂ words counts n (Ok u) → (plan' list' : List ℕ) (r : Result ℕ Refused) → Settles K plan made₂ list plan' list' r → Rebuilds K gates given records plan words counts n list plan' list' r
+      unfolding tested fault_for
+      rebuild_settled list S plan' list' r T = record { is = λ work. T.is work ∙ rw (← made_is, ← S.is) }
 
 -- ---- the part of the work area
 
 module _ (K : ℕ) (gates given records plan words counts : List ℕ) (n : ℕ) (list made : List ℕ) (A : MendAt K gates given records plan counts n made) where
-  pub mends : (plan' list' : List ℕ) (r : Answer) → Judges K gates given records plan words counts n list plan' list' r → (x made' : List ℕ) → made' ≡ replicate (length x) 0 → length x ≡ length made → Mends K gates given records plan words counts n list made plan' list' made' r
+  pub mends : (plan' list' : List ℕ) (r : Result ℕ Refused) → Judges K gates given records plan words counts n list plan' list' r → (x made' : List ℕ) → made' ≡ replicate (length x) 0 → length x ≡ length made → Mends K gates given records plan words counts n list made plan' list' made' r
   mends plan' list' r J x made' e l = record { judges = J; zero = rw l at e }
 
 -- ---- the call
 
-module _ (K : ℕ) (gates given records plan words counts list work : List ℕ) (n : ℕ) (s : Bool) (es : s ≡ is_height K && mend_fits K (length plan) (length counts) (length work) n) (v : Verdict) (S : Says (refusal_of K s gates given records) gates v) where
+module _ (K : ℕ) (gates given records plan words counts list work : List ℕ) (n : ℕ) (s : Bool) (es : s ≡ is_height K && mend_fits K (length plan) (length counts) (length work) n) where
   abbrev right : Bool
   right = mend_fits K (length plan) (length counts) (length work) n
 
-  number_is : v.number ≡ refusal_of K right gates given records
-  number_is = S.number ∙ ap (λ (b : Bool). refusal_of K b gates given records) es ∙ height_first K right gates given records
+  is_right : refusal_of K s gates given records ≡ refusal_of K right gates given records
+  is_right = ap (λ (b : Bool). refusal_of K b gates given records) es ∙ height_first K right gates given records
 
   refused_at_lem : (m : ℕ) → m ≡ refusal_of K right gates given records → (m ≡ 0 → ⊥) → mender K (length plan) right gates given records plan words counts list work n ≡ record { reply = record { number = m; stage = 0; position = 0; pin = pin_shown m gates; count = 0 }; plan = plan; list = list; work = work }
   unfolding mender
@@ -166,13 +156,16 @@ module _ (K : ℕ) (gates given records plan words counts list work : List ℕ) 
   refused_at_lem (suc m) e d = rw (← e, mender)
 
   -- what the checks refuse changes nothing
-  pub call_refused : (v.number ≡ 0 → ⊥) → (r : Answer) → r ≡ record { number = v.number; stage = 0; position = 0; pin = v.pin; count = 0 } → outcome r plan list work ≡ mender K (length plan) right gates given records plan words counts list work n
-  unfolding outcome
-  call_refused d r er = rw er (sym (refused_at_lem v.number number_is d ∙ (λ i. record { reply = record { number = v.number; stage = 0; position = 0; pin = sym (S.pin ∙ ap (λ (m : ℕ). pin_shown m gates) (sym S.number)) i; count = 0 }; plan = plan; list = list; work = work })))
+  pub call_refused : (w : Refusal) → Says {A = Unit {0}} (refusal_of K s gates given records) gates (Err w) → outcome (Err (record { why = w; stage = 0; position = 0 })) plan list work ≡ mender K (length plan) right gates given records plan words counts list work n
+  unfolding outcome replied
+  call_refused w S = sym (refused_at_lem (number_of w) (S.number ∙ is_right) (number_is w) ∙ (λ i. record { reply = record { number = number_of w; stage = 0; position = 0; pin = sym (S.pin ∙ ap (λ (m : ℕ). pin_shown m gates) (sym S.number)) i; count = 0 }; plan = plan; list = list; work = work }))
 
-  module _ (e : v.number ≡ 0) where
+  module _ {u : Unit {0}} (S : Says (refusal_of K s gates given records) gates (Ok u)) where
+    passes : refusal_of K right gates given records ≡ 0
+    passes = sym (S.number ∙ is_right)
+
     P : Passed K right gates given records
-    P = passed K right gates given records (sym number_is ∙ e)
+    P = passed K right gates given records passes
 
     sizes : (plan_sized K (length plan) ≡ true) × (n ≤ rooms K (length plan)) × (n ≤ length counts) × (length plan ≤ length work) × (rooms K (length plan) ≤ 4294967295)
     unfolding mend_fits plan_fits
@@ -203,10 +196,9 @@ module _ (K : ℕ) (gates given records plan words counts list work : List ℕ) 
     mend_at_work = record { ready = ready; same = length-take-le (length plan - 0) work (omega (arith, work_inside)) ∙ omega arith }
 
     -- what is mended there is told, with the rest of the area as it was
-    pub call_mended : (plan' list' made' : List ℕ) (r : Answer) → Mends K gates given records plan words counts n list (take (length plan - 0) (drop 0 work)) plan' list' made' r → length made' ≡ length (take (length plan - 0) work) →
+    pub call_mended : (plan' list' made' : List ℕ) (r : Result ℕ Refused) → Mends K gates given records plan words counts n list (take (length plan - 0) (drop 0 work)) plan' list' made' r → length made' ≡ length (take (length plan - 0) work) →
         outcome r plan' list' (made' ++ drop (length plan - 0) (drop 0 work)) ≡ mender K (length plan) right gates given records plan words counts list work n
     unfolding mender
     call_mended plan' list' made' r M l =
         let y : made' ++ drop (length plan - 0) work ≡ laid_over (replicate (length plan) 0) work = part_laid (length plan - 0) work made' (omega (arith, work_inside)) l ∙ ap (λ (x : List ℕ). laid_over x work) (M.zero ∙ ap (λ (i : ℕ). replicate i 0) mend_at_work.same) in
-        let z : refusal_of K right gates given records ≡ 0 = sym number_is ∙ e in
-        rw (y, mender, z) (M.judges.is (laid_over (replicate (length plan) 0) work))
+        rw (y, mender, passes) (M.judges.is (laid_over (replicate (length plan) 0) work))

@@ -8,68 +8,44 @@ ghost use Rattle.mend.specs.Calls.{mend_fits, outcome, SettleAt, Settles, JudgeA
 
 use cells::Height;
 use checks::refusal;
-use columns::fill_part;
-use graph::Pin;
 use mend_list::{count_changes, write_changes};
 use mend_plan::mend_plan;
-use merge_slots::copy;
 use placer_start::reservation::Count;
-use plan_check::plan_fits;
 use plan_check::room::counted;
 use plan_check::stages::plan_place;
-use refusals::{SHORT_LIST, WRONG_PLAN};
-
-// The first of 1, 2, 3, 23, 4, 5 that applies, with 23 the smallest pin on any loop; else 22, with the place of the mended plan's first fault; else
-// 24, where the list is too short; else 0, with the number of changes.
-#[derive(Clone, Copy)]
-pub struct Answer {
-    pub number: u32,
-    pub stage: usize,
-    pub position: usize,
-    pub pin: Pin,
-    pub count: usize,
-}
+use plan_check::{Refused, plan_fits};
+use refusals::Refusal;
 
 // The most rooms whose numbers a list can hold.
 const MOST_ROOMS: usize = 4294967295;
-
-fn replied(number: u32, stage: usize, position: usize, pin: Pin, count: usize) -> Answer
-    ensures { result ≡ record { number = number; stage = stage; position = position; pin = pin; count = count } }
-{
-    Answer {
-        number: number,
-        stage: stage,
-        position: position,
-        pin: pin,
-        count: count,
-    }
-}
 
 // As for a check of the plan; the work area has room for a copy of the plan, and the number of its last room fits a number of the list.
 fn sized(height: u32, plan: usize, counts: usize, work: usize, stages: usize) -> bool
     ensures { result ≡ is_height height && mend_fits height plan counts work stages }
 {
-    if !plan_fits(height, plan, counts, stages) {
-        return false;
-    }
-    if work < plan {
+    if !plan_fits(height, plan, counts, stages) || work < plan {
         return false;
     }
     Height(height).rooms(plan) <= MOST_ROOMS
 }
 
 // A mended plan without fault takes the plan's place, if the list has room for the changes.
-fn settle(height: Height, plan: &mut [u32], made: &[u32], list: &mut [u32]) -> Answer
+fn settle(
+    height: Height,
+    plan: &mut [u32],
+    made: &[u32],
+    list: &mut [u32],
+) -> Result<usize, Refused>
     requires { SettleAt height.0 plan.old made.now }
     ensures { Settles height.0 plan.old made.now list.old plan.new list.new result }
 {
     let n = count_changes(plan, made);
     if list.len() / 4 < n {
-        return replied(SHORT_LIST, 0, 0, Pin(0), 0);
+        return Err(Refused::from(Refusal::ShortList));
     }
     write_changes(height, plan, made, list);
-    copy(plan, made);
-    replied(0, 0, 0, Pin(0), n)
+    plan.copy_from_slice(made);
+    Ok(n)
 }
 
 // A plan with a fault. `made` has its size, whatever it holds.
@@ -85,18 +61,15 @@ fn rebuild(
     count: Count,
     list: &mut [u32],
     made: &mut [u32],
-) -> Answer
+) -> Result<usize, Refused>
     requires { JudgeAt height.0 gates.now given.now records.now plan.old counts.now stages count made.old }
     ensures { Rebuilds height.0 gates.now given.now records.now plan.old words.now counts.now stages list.old plan.new list.new result }
 {
-    copy(made, plan);
+    made.copy_from_slice(plan);
     mend_plan(height, gates, given, made, stages);
-    let place = plan_place(
+    plan_place(
         height, gates, given, records, made, words, counts, stages, count,
-    );
-    if place.wrong {
-        return replied(WRONG_PLAN, place.stage, place.position, Pin(0), 0);
-    }
+    )?;
     settle(height, plan, made, list)
 }
 
@@ -113,19 +86,18 @@ fn judge(
     count: Count,
     list: &mut [u32],
     made: &mut [u32],
-) -> Answer
+) -> Result<usize, Refused>
     requires { JudgeAt height.0 gates.now given.now records.now plan.old counts.now stages count made.old }
     ensures { Judges height.0 gates.now given.now records.now plan.old words.now counts.now stages list.old plan.new list.new result }
 {
-    let place = plan_place(
+    match plan_place(
         height, gates, given, records, plan, words, counts, stages, count,
-    );
-    if !place.wrong {
-        return replied(0, 0, 0, Pin(0), 0);
+    ) {
+        Ok(()) => Ok(0),
+        Err(_) => rebuild(
+            height, gates, given, records, plan, words, counts, stages, count, list, made,
+        ),
     }
-    rebuild(
-        height, gates, given, records, plan, words, counts, stages, count, list, made,
-    )
 }
 
 // The same in a part of the work area, which is 0 afterwards.
@@ -140,7 +112,7 @@ fn mend_in(
     stages: usize,
     list: &mut [u32],
     made: &mut [u32],
-) -> Answer
+) -> Result<usize, Refused>
     requires { MendAt height.0 gates.now given.now records.now plan.old counts.now stages made.old }
     ensures { Mends height.0 gates.now given.now records.now plan.old words.now counts.now stages list.old made.old plan.new list.new made.new result }
 {
@@ -148,11 +120,13 @@ fn mend_in(
     let answer = judge(
         height, gates, given, records, plan, words, counts, stages, count, list, made,
     );
-    fill_part(made, 0);
+    made.fill(0);
     answer
 }
 
-// So many stages of a plan, with their words and counts; a word that isn't there is no word. Of the work area as many numbers count as the plan has. The
+// So many stages of a plan, with their words and counts; a word that isn't there is no word. Answers the number of changes; refused with the first of
+// 1, 2, 3, 23, 4, 5 that applies, with 23 the smallest pin on any loop; else with 22, with the place of the mended plan's first fault; else with 24,
+// where the list is too short. Of the work area as many numbers count as the plan has. The
 // list gets four numbers a change: stage, position, old cell, new cell.
 pub fn mend(
     height: u32,
@@ -165,20 +139,12 @@ pub fn mend(
     stages: usize,
     list: &mut [u32],
     work: &mut [u32],
-) -> Answer
+) -> Result<usize, Refused>
     ensures { outcome result plan.new list.new work.new ≡ mender height (length plan.old) (mend_fits height (length plan.old) (length counts.now) (length work.old) stages) gates.now given.now records.now plan.old words.now counts.now list.old work.old stages }
 {
     let need = plan.len();
-    let verdict = refusal(
-        height,
-        sized(height, need, counts.len(), work.len(), stages),
-        gates,
-        given,
-        records,
-    );
-    if verdict.number != 0 {
-        return replied(verdict.number, 0, 0, verdict.pin, 0);
-    }
+    let sized = sized(height, need, counts.len(), work.len(), stages);
+    refusal(height, sized, gates, given, records)?;
     mend_in(
         Height(height),
         gates,

@@ -6,7 +6,6 @@ ghost use Rattle.rules.specs.Graph.{graph_of};
 ghost use Rattle.mend_levels.specs.Levels.{level_by, PassAt, Passed, LevelsAt, Levelled};
 
 use cells::Height;
-use columns::fill_part;
 use graph::{Node, Pin, node_at, pin_count, pin_of};
 use plan_check_stage::marks::has_mark;
 
@@ -14,27 +13,14 @@ use plan_check_stage::marks::has_mark;
 pub fn level_at(levels: &[u32], p: Pin) -> u32
     ensures { result ≡ get_or levels.now p.0 0 }
 {
-    let i = p.index();
-    if levels.len() <= i {
-        return 0;
-    }
-    levels[i]
+    levels.get(p.index()).copied().unwrap_or(0)
 }
 
 // One more than the greater of two, but no more than `cap`.
 fn above(a: u32, b: u32, cap: u32) -> u32
     ensures { result ≡ min (suc (max a b)) cap }
 {
-    if cap <= a {
-        return cap;
-    }
-    if cap <= b {
-        return cap;
-    }
-    if a < b {
-        return b + 1;
-    }
-    a + 1
+    a.max(b).saturating_add(1).min(cap)
 }
 
 // Pin p's level by those of its operands: 0 for a leaf and for a pin to stop at.
@@ -61,11 +47,8 @@ fn pass(gates: &[u32], stop: &[u8], levels: &mut [u32], cap: u32) -> bool
 {
     let m = pin_count(gates);
     let mut changed = false;
-    let mut i = 0;
-    while i < m {
-        let p = i;
+    for p in 0..m {
         let v = level_by(gates, stop, levels, Pin(p as u32), cap);
-        i += 1;
         if levels[p] != v {
             levels[p] = v;
             changed = true;
@@ -80,12 +63,10 @@ pub fn find_levels(height: Height, gates: &[u32], stop: &[u8], levels: &mut [u32
     ensures { Levelled height.0 (graph_of gates.now) stop.now levels.old levels.new }
 {
     let cap = height.0 + 1;
-    fill_part(levels, 0);
-    let mut r = 0;
-    while r < cap {
+    levels.fill(0);
+    for _ in 0..cap {
         if !pass(gates, stop, levels, cap) {
             return;
         }
-        r += 1;
     }
 }

@@ -23,12 +23,8 @@ pub fn count_changes(old: &[u32], new: &[u32]) -> usize
     ensures { Counted old.now new.now result }
 {
     let mut n = 0;
-    let mut i = 0;
-    while i < old.len() {
-        let a = old[i];
-        let b = new[i];
-        i += 1;
-        if a != b {
+    for (i, x) in old.iter().enumerate() {
+        if *x != new[i] {
             n += 1;
         }
     }
@@ -44,8 +40,8 @@ fn change_at(height: Height, i: usize, old: u32, new: u32) -> Change
     Change {
         stage: (i / size + 1) as u32,
         position: (i % size) as u32,
-        old: old,
-        new: new,
+        old,
+        new,
     }
 }
 
@@ -66,15 +62,10 @@ pub fn write_changes(height: Height, old: &[u32], new: &[u32], list: &mut [u32])
     ensures { list.new ≡ laid_over (numbers_of (changes height.0 old.now new.now)) list.old }
 {
     let mut at = 0;
-    let mut i = 0;
-    while i < old.len() {
-        let place = i;
-        let x = old[i];
+    for (i, x) in old.iter().enumerate() {
         let y = new[i];
-        i += 1;
-        if x != y {
-            let change = change_at(height, place, x, y);
-            put_change(list, at, change);
+        if *x != y {
+            put_change(list, at, change_at(height, i, *x, y));
             at += 4;
         }
     }

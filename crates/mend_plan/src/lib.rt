@@ -40,13 +40,11 @@ fn mend_all(
     ensures { AllSays height.0 (graph_of gates.now) plan.old n stop.old plan.new }
 {
     let size = height.stage_size();
-    let mut k = 0;
     let mut at = 0;
-    while k < n {
+    for _ in 0..n {
         let end = at + size;
         mend_one(height, gates, &mut plan[at..end], stop, levels, fixed);
         at = end;
-        k += 1;
     }
 }
 

@@ -1,5 +1,5 @@
 -- A cell by what the code tests, and a stage as far as it is mended. Assumes nothing.
-use Prim.Native.Nat.{ℕ, zero, suc, ◌+◌, ◌-◌, ◌≤◌, ◌<◌}
+use Prim.Native.Nat.{ℕ, zero, suc, ◌+◌, ◌≤◌, ◌<◌}
 use mathlib.Core.Path.{◌≡◌, refl, sym, ◌∙◌, ap}
 use mathlib.Core.Logic.{◌⊎◌, inl, inr}
 use mathlib.Core.Bool.{true, false}
@@ -191,10 +191,10 @@ module _ (K : ℕ) (gates levels cells fixed : List ℕ) (A : StageAt K gates ce
 
   module _ (p : ℕ) (now fx : List ℕ) (R : MendedTo K (graph_of gates) levels cells p now fx) where
     -- the cell is there
-    pub cell_here : p < length now → (p < 16384) × (p < length fx)
+    pub cell_here : p < length cells → (p < 16384) × (p < length fx)
     cell_here h = omega (arith, R.len, R.room, A.size, A.high)
 
-    module _ (h : p < length now) (n : ℕ) (en : n ≡ pin_for (get_or now p 0) (get_or fx p 0)) (d : Deed) (D : DeedSays K (graph_of gates) levels p n d) (v : ℕ) (ev : v ≡ mended (deed_for d) (get_or now p 0)) (fx' : List ℕ) (ef : fx' ≡ fixing p (deed_for d) fx) where
+    module _ (h : p < length cells) (n : ℕ) (en : n ≡ pin_for (get_or now p 0) (get_or fx p 0)) (d : Deed) (D : DeedSays K (graph_of gates) levels p n d) (v : ℕ) (ev : v ≡ mended (deed_for d) (get_or now p 0)) (fx' : List ℕ) (ef : fx' ≡ fixing p (deed_for d) fx) where
       -- it is mended, and what it fixes is fixed
       pub mended_more : MendedTo K (graph_of gates) levels cells (p + 1) (set now p v) fx'
       mended_more = record {
@@ -206,15 +206,17 @@ module _ (K : ℕ) (gates levels cells fixed : List ℕ) (A : StageAt K gates ce
             let f : get_or fx p empty ≡ get_or fx p 0 = default_same fx p empty 0 (cell_here h).1 in
             let s = mend_step K (graph_of gates) stop p (get_or now p 0) (get_or fx p 0) fx (drop (suc p) now) f in
             R.is stop T
-            ∙ ap (λ (x : List ℕ). take p now ++ mend_from K (graph_of gates) stop p fx x) (drop-cons now p 0 h)
+            ∙ ap (λ (x : List ℕ). take p now ++ mend_from K (graph_of gates) stop p fx x) (drop-cons now p 0 (omega (arith, R.len)))
             ∙ ap (λ (x : List ℕ). take p now ++ x) (s
             ∙ (λ k. mended (e k) (get_or now p 0) ∷ mend_from K (graph_of gates) stop (suc p) (fixing p (e k) fx) (drop (suc p) now))
             ∙ (λ k. sym ev k ∷ mend_from K (graph_of gates) stop (suc p) (sym ef k) (drop (suc p) now)))
-            ∙ rw (add-one p, take-suc-set now p v h, drop-set-lt (suc p) now p v (omega arith)) (sym (append_assoc (take p now) (v ∷ []) (mend_from K (graph_of gates) stop (suc p) fx' (drop (suc p) now))));
+            ∙ rw (add-one p, take-suc-set now p v (omega (arith, R.len)), drop-set-lt (suc p) now p v (omega arith)) (sym (append_assoc (take p now) (v ∷ []) (mend_from K (graph_of gates) stop (suc p) fx' (drop (suc p) now))));
       }
 
-    pub mended_all : length now ≤ p → StageSays K (graph_of gates) levels cells now
-    mended_all h = record {
-      len = R.len;
-      is = λ stop T. sym (R.is stop T ∙ ap (λ (x : List ℕ). take p now ++ x) (mend_end K (graph_of gates) stop p fx (drop p now) (drop_of_length-le now h)) ∙ append-nil (take p now) ∙ take_all p now h);
-    }
+    pub mended_all : length cells ≤ p → StageSays K (graph_of gates) levels cells now
+    mended_all e =
+        let h : length now ≤ p = omega (arith, R.len) in
+        record {
+          len = R.len;
+          is = λ stop T. sym (R.is stop T ∙ ap (λ (x : List ℕ). take p now ++ x) (mend_end K (graph_of gates) stop p fx (drop p now) (drop_of_length-le now h)) ∙ append-nil (take p now) ∙ take_all p now h);
+        }

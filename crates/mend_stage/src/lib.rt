@@ -8,7 +8,6 @@ ghost use Rattle.mend_stage.specs.Stages.{deed_for, deed_pin, DeedAt, DeedSays, 
 
 use cell::Cell;
 use cells::Height;
-use columns::fill_part;
 use graph::{EMPTY, Literal, Node, Pin, inversion_of, node_at, pin_count, pin_of};
 use mend_levels::level_at;
 use positions::{first_lower, level_of, second_lower};
@@ -51,10 +50,7 @@ fn deed_of(height: Height, gates: &[u32], levels: &[u32], p: u32, pin: Pin) -> D
     ensures { DeedSays height.0 (graph_of gates.now) levels.now p pin.0 result }
 {
     let n = pin.index();
-    if n == 0 {
-        return Deed::Kept;
-    }
-    if pin_count(gates) <= n {
+    if n == 0 || pin_count(gates) <= n {
         return Deed::Kept;
     }
     let h = level_of(height.0, p);
@@ -75,8 +71,7 @@ fn mended_cell(deed: Deed, cell: Cell) -> Cell
 {
     match deed {
         Deed::Kept => cell,
-        Deed::Stands(n) => Cell::plain(n),
-        Deed::Copies(n) => Cell::plain(n),
+        Deed::Stands(n) | Deed::Copies(n) => Cell::plain(n),
         Deed::Joins(n, a, b) => Cell::and_of(n, inversion_of(a), inversion_of(b)),
     }
 }
@@ -95,8 +90,7 @@ fn fix(deed: Deed, fixed: &mut [u32], p: u32)
     ensures { fixed.new ≡ fixing p (deed_for deed) fixed.old }
 {
     match deed {
-        Deed::Kept => {}
-        Deed::Stands(_) => {}
+        Deed::Kept | Deed::Stands(_) => {}
         Deed::Copies(n) => fix_at(fixed, first_lower(p), n),
         Deed::Joins(_, a, b) => {
             fix_at(fixed, first_lower(p), pin_of(a));
@@ -116,14 +110,12 @@ pub fn mend_stage(
     requires { StageAt height.0 gates.now cells.old fixed.old }
     ensures { StageSays height.0 (graph_of gates.now) levels.now cells.old cells.new }
 {
-    fill_part(fixed, EMPTY);
-    let mut p = 1;
-    while p < cells.len() {
+    fixed.fill(EMPTY);
+    for p in 1..cells.len() {
         let cell = Cell(cells[p]);
         let pin = pin_for(cell, Pin(fixed[p]));
         let deed = deed_of(height, gates, levels, p as u32, pin);
         cells[p] = mended_cell(deed, cell).0;
         fix(deed, fixed, p as u32);
-        p += 1;
     }
 }

@@ -26,7 +26,8 @@ use Rattle.coded.proofs.Reading.{accepted_folds, accepted_read}
 use Rattle.checks.proofs.Laws.Passed.{passed}
 use Rattle.plan_check.specs.Answers as check
 use Rattle.plan_check.specs.Answers.{plan_fits, judged, plan_checker}
-use Rattle.plan_check.specs.declared.Answer as check-answer
+use Rattle.std.specs.Prelude.{Result}
+use Rattle.plan_check.specs.declared.Refused.{Refused}
 use Rattle.mending.specs.Changes.{changes, changes_of, apply, undo}
 use Rattle.mending.specs.Damage.{Damaged}
 use Rattle.mending.specs.Call.{Outcome, answer, mender}
@@ -35,15 +36,15 @@ use Rattle.mending.proofs.Recovered.{call_damaged}
 use Rattle.mend.specs.Calls.{mend_fits, outcome}
 use Rattle.theorems.proofs.Calls as theorems
 use Rattle.mended.specs.Calls as calls
-use Rattle.mended.specs.Calls.{Call, Mended, sized, refused, fault_in}
+use Rattle.mended.specs.Calls.{Call, Mended, reply, sized, refused, fault_in}
 
 module _ (C : Call) (M : Mended C) where
   -- what the definition says is left
-  number_is : M.answer.number ≡ (calls.mends C).reply.number
+  number_is : (reply M).number ≡ (calls.mends C).reply.number
   unfolding outcome
   number_is = ap (λ (o : Outcome). o.reply.number) M.ensures
 
-  count_is : M.answer.count ≡ (calls.mends C).reply.count
+  count_is : (reply M).count ≡ (calls.mends C).reply.count
   unfolding outcome
   count_is = ap (λ (o : Outcome). o.reply.count) M.ensures
 
@@ -56,14 +57,14 @@ module _ (C : Call) (M : Mended C) where
   list_is = ap (λ (o : Outcome). o.list) M.ensures
 
   -- A plan that the check accepts is left as it is, with an empty list.
-  pub accepted_stays : refused C ≡ 0 → fault_in C C.plan ≡ faultless → (M.answer.number ≡ 0) × (M.answer.count ≡ 0) × (M.plan ≡ C.plan) × (M.list ≡ C.list)
+  pub accepted_stays : refused C ≡ 0 → fault_in C C.plan ≡ faultless → ((reply M).number ≡ 0) × ((reply M).count ≡ 0) × (M.plan ≡ C.plan) × (M.list ≡ C.list)
   unfolding answer
   accepted_stays e f =
       let z = accepted_unchanged C.height (length C.plan) (sized C) C.gates C.given C.records C.plan C.words C.counts C.list C.work C.stages e f in
       (number_is ∙ ap (λ (o : Outcome). o.reply.number) z, count_is ∙ ap (λ (o : Outcome). o.reply.count) z, plan_is ∙ ap (λ (o : Outcome). o.plan) z, list_is ∙ ap (λ (o : Outcome). o.list) z)
 
   -- Any number but 0 leaves plan and list as they were.
-  pub refused_stays : (M.answer.number ≡ 0 → ⊥) → (M.plan ≡ C.plan) × (M.list ≡ C.list)
+  pub refused_stays : ((reply M).number ≡ 0 → ⊥) → (M.plan ≡ C.plan) × (M.list ≡ C.list)
   unfolding answer
   refused_stays d = go (call_ends C.height (length C.plan) (sized C) C.gates C.given C.records C.plan C.words C.counts C.list C.work C.stages)
     where
@@ -74,7 +75,7 @@ module _ (C : Call) (M : Mended C) where
 
   -- ---- an answer of 0
 
-  module _ (z : M.answer.number ≡ 0) where
+  module _ (z : (reply M).number ≡ 0) where
     zeroed : (calls.mends C).reply.number ≡ 0
     zeroed = sym number_is ∙ z
 
@@ -107,7 +108,7 @@ module _ (C : Call) (M : Mended C) where
     still = rw long stages_there
 
     -- So the check of plans accepts it.
-    pub mended_accepted : (a : check-answer.Answer) → check.outcome a ≡ plan_checker C.height C.gates C.given C.records M.plan C.words C.counts C.stages → a.number ≡ 0
+    pub mended_accepted : (a : Result (Unit {0}) Refused) → check.outcome a ≡ plan_checker C.height C.gates C.given C.records M.plan C.words C.counts C.stages → (check.outcome a).number ≡ 0
     unfolding check.outcome plan_checker judged
     mended_accepted a e =
         let s : plan_fits C.height (length M.plan) (length C.counts) C.stages ≡ sized C = rw long (fits ∙ sym (passed C.height (sized C) C.gates C.given C.records mended_passes.0).areas) in
@@ -116,10 +117,10 @@ module _ (C : Call) (M : Mended C) where
         ap (λ (o : check.Checked). o.number) (e ∙ y)
 
     -- The list and the two plans tell each other.
-    pub new_from_old : apply C.height (changes_of (take (4 * M.answer.count) M.list)) C.plan ≡ M.plan
+    pub new_from_old : apply C.height (changes_of (take (4 * (reply M).count) M.list)) C.plan ≡ M.plan
     new_from_old = rw (count_is, list_is, plan_is) (new_told C.height (length C.plan) (sized C) C.gates C.given C.records C.plan C.words C.counts C.list C.work C.stages zeroed inside)
 
-    pub old_from_new : undo C.height (changes_of (take (4 * M.answer.count) M.list)) M.plan ≡ C.plan
+    pub old_from_new : undo C.height (changes_of (take (4 * (reply M).count) M.list)) M.plan ≡ C.plan
     old_from_new = rw (count_is, list_is, plan_is) (old_told C.height (length C.plan) (sized C) C.gates C.given C.records C.plan C.words C.counts C.list C.work C.stages zeroed inside)
 
     abbrev input : Input
@@ -137,10 +138,11 @@ module _ (C : Call) (M : Mended C) where
 
 -- another call, on another plan and other areas
 abbrev pub again : Call → (plan list work : List ℕ) → Call
-again C plan list work = record { height = C.height; gates = C.gates; given = C.given; records = C.records; plan = plan; words = C.words; counts = C.counts; stages = C.stages; list = list; work = work }
+again C plan list work =
+    record { height = C.height; gates = C.gates; given = C.given; records = C.records; plan = plan; words = C.words; counts = C.counts; stages = C.stages; list = list; work = work }
 
 -- the areas of a second call are right too
-again_passes : (C : Call) (M : Mended C) (z : M.answer.number ≡ 0) (list work : List ℕ) → length C.plan ≤ length work → refused (again C M.plan list work) ≡ 0
+again_passes : (C : Call) (M : Mended C) (z : (reply M).number ≡ 0) (list work : List ℕ) → length C.plan ≤ length work → refused (again C M.plan list work) ≡ 0
 unfolding mend_fits
 again_passes C M z list work h =
     let P = passed C.height (sized C) C.gates C.given C.records (mended_passes C M z).0 in
@@ -150,8 +152,8 @@ again_passes C M z list work h =
     rw s (mended_passes C M z).0
 
 -- Mending what a call of 0 left changes nothing more.
-pub mended_twice : (C : Call) (M : Mended C) → M.answer.number ≡ 0 → (list work : List ℕ) → (N : Mended (again C M.plan list work)) →
-    length C.plan ≤ length work → (N.answer.number ≡ 0) × (N.answer.count ≡ 0) × (N.plan ≡ M.plan) × (N.list ≡ list)
+pub mended_twice : (C : Call) (M : Mended C) → (reply M).number ≡ 0 → (list work : List ℕ) → (N : Mended (again C M.plan list work)) →
+    length C.plan ≤ length work → ((reply N).number ≡ 0) × ((reply N).count ≡ 0) × (N.plan ≡ M.plan) × (N.list ≡ list)
 mended_twice C M z list work N h =
     let D : Call = again C M.plan list work in
     accepted_stays D N (again_passes C M z list work h) (mended_passes C M z).1
@@ -159,8 +161,11 @@ mended_twice C M z list work N h =
 -- ---- a damaged plan of the placer
 
 -- what the definition leaves, wherever words and counts stand
-recovered : (rule : WordRule) (I : Input) (L : ℕ) (ss : List Stage) → built rule I (rooms I.K L) ≡ whole ss → (more more' bad good words counts : List ℕ) (n need : ℕ) (list work : List ℕ) → good ≡ padded L empty (cells_of (coded_stages I.K (graph_of I.gates) ss)) →
-    words ≡ words_of ss ++ more → counts ≡ counts_of ss ++ more' → n ≡ length ss → Damaged I.K (graph_of I.gates) I.given (coded_stages I.K (graph_of I.gates) ss) good bad → 4 * length (changes I.K bad good) ≤ length list → (o : Outcome) → o ≡ mender I.K need I.sized I.gates I.given I.records bad words counts list work n →
+recovered : (rule : WordRule) (I : Input) (L : ℕ) (ss : List Stage) → built rule I (rooms I.K L) ≡ whole ss → (more more' bad good words counts : List ℕ) (n need : ℕ) (list work : List ℕ) →
+    good ≡ padded L empty (cells_of (coded_stages I.K (graph_of I.gates) ss)) →
+    words ≡ words_of ss ++ more → counts ≡ counts_of ss ++ more' → n ≡ length ss →
+    Damaged I.K (graph_of I.gates) I.given (coded_stages I.K (graph_of I.gates) ss) good bad → 4 * length (changes I.K bad good) ≤ length list →
+    (o : Outcome) → o ≡ mender I.K need I.sized I.gates I.given I.records bad words counts list work n →
     (o.reply.number ≡ 0) × (((fault I.K I.gates I.given I.records bad words counts n ≡ faultless) × (o.plan ≡ bad)) ⊎ (o.plan ≡ good))
 unfolding answer
 recovered rule I L ss b more more' bad good words counts n need list work eg ew ec en D h o eo =
@@ -174,15 +179,29 @@ recovered rule I L ss b more more' bad good words counts n need list work eg ew 
 
 -- a call on what came back of what a build left
 abbrev pub mend_built : theorems.Call → (bad list work : List ℕ) → Call
-mend_built B bad list work = record { height = B.height; gates = B.gates; given = B.given; records = B.records; plan = bad; words = B.exit.words; counts = B.exit.counts; stages = B.answer.stages; list = list; work = work }
+mend_built B bad list work =
+    record {
+      height = B.height;
+      gates = B.gates;
+      given = B.given;
+      records = B.records;
+      plan = bad;
+      words = B.exit.words;
+      counts = B.exit.counts;
+      stages = (theorems.reply B).stages;
+      list = list;
+      work = work;
+    }
 
 -- What a build left with an answer of 0, damaged only in cells that a cell above fixes, or in kinds and inversions anywhere, comes back as the build
 -- left it, or as it is where the check accepts it so: if no check refuses the call and the list is long enough.
-pub built_recovered : (B : theorems.Call) (b : B.answer.number ≡ 0) (bad list work : List ℕ) → Damaged B.height (graph_of B.gates) B.given (coded_stages B.height (graph_of B.gates) (theorems.whole B b).ss) B.exit.plan bad →
+pub built_recovered : (B : theorems.Call) (b : (theorems.reply B).number ≡ 0) (bad list work : List ℕ) →
+    Damaged B.height (graph_of B.gates) B.given (coded_stages B.height (graph_of B.gates) (theorems.whole B b).ss) B.exit.plan bad →
     (M : Mended (mend_built B bad list work)) → refused (mend_built B bad list work) ≡ 0 → 4 * length (changes B.height bad B.exit.plan) ≤ length list →
-    (M.answer.number ≡ 0) × (((fault_in (mend_built B bad list work) bad ≡ faultless) × (M.plan ≡ bad)) ⊎ (M.plan ≡ B.exit.plan))
+    ((reply M).number ≡ 0) × (((fault_in (mend_built B bad list work) bad ≡ faultless) × (M.plan ≡ bad)) ⊎ (M.plan ≡ B.exit.plan))
 unfolding outcome
 built_recovered B b bad list work D M e h =
     let W = theorems.whole B b in
-    recovered B.rule (record { K = B.height; sized = sized (mend_built B bad list work); gates = B.gates; given = B.given; records = B.records; passes = e }) (length B.entry.plan) W.ss W.built W.behind W.after
-    bad B.exit.plan B.exit.words B.exit.counts B.answer.stages (length bad) list work W.plan W.words W.counts W.stages D h (outcome M.answer M.plan M.list M.work) M.ensures
+    recovered B.rule (record { K = B.height; sized = sized (mend_built B bad list work); gates = B.gates; given = B.given; records = B.records; passes = e })
+    (length B.entry.plan) W.ss W.built W.behind W.after
+    bad B.exit.plan B.exit.words B.exit.counts (theorems.reply B).stages (length bad) list work W.plan W.words W.counts W.stages D h (outcome M.answer M.plan M.list M.work) M.ensures

@@ -1,10 +1,10 @@
 -- A call that mends a plan. Assumes nothing.
-use Rattle.std.specs.Prelude.{ℕ, ◌≡◌, Bool, List, length}
+use Rattle.std.specs.Prelude.{ℕ, Result, ◌≡◌, Bool, List, length}
 use Rattle.rules.specs.Checks.{refusal_of}
 use Rattle.rules.specs.Faults as rules
-use Rattle.mending.specs.Call.{Outcome, mender}
-use Rattle.mend.specs.declared.Answer.{Answer}
-use Rattle.mend.specs.Calls.{mend_fits, outcome}
+use Rattle.mending.specs.Call.{Reply, Outcome, mender}
+use Rattle.plan_check.specs.declared.Refused.{Refused}
+use Rattle.mend.specs.Calls.{mend_fits, replied, outcome}
 
 -- what is handed in
 pub record Call : Type 0 where
@@ -28,11 +28,15 @@ mends C = mender C.height (length C.plan) (sized C) C.gates C.given C.records C.
 
 -- answer and areas at exit, by the contract
 pub record Mended (C : Call) : Type 0 where
-  pub answer : Answer
+  pub answer : Result ℕ Refused
   pub plan : List ℕ
   pub list : List ℕ
   pub work : List ℕ
   pub ensures : outcome answer plan list work ≡ mends C
+
+-- what it answers, as the rules have it
+abbrev pub reply : {C : Call} → Mended C → Reply
+reply M = replied M.answer
 
 -- the number of its first refusal by a check, or 0
 abbrev pub refused : Call → ℕ

@@ -9,26 +9,23 @@ ghost use Rattle.rules.specs.Merge.{mergeable, merge_refusal};
 ghost use Rattle.checks.specs.Values.{Says};
 ghost use Rattle.merge_checks.specs.Values.{Readable, group_list, areas, merge_areas};
 
-use checks::{Verdict, given_right, refusal};
+use checks::{given_right, refusal};
 use columns::wide;
-use graph::Pin;
-use records::size_at;
-use refusals::WRONG_GROUPS;
-use sizes::{has_room, lent_sized, take_eights, work_left};
+use records::starts;
+use refusals::Refusal;
+use sizes::{lent_sized, take_eights, work_left};
 
 // Do the lengths sum to `total`? They are taken off it one by one, so that nothing wraps.
 fn lengths_right(lengths: &[u32], total: usize) -> bool
     ensures { result ≡ eqb (sum lengths.now) total }
 {
     let mut left = total;
-    let mut i = 0;
-    while i < lengths.len() {
-        let l = wide(lengths[i]);
+    for length in lengths {
+        let l = wide(*length);
         if left < l {
             return false;
         }
         left -= l;
-        i += 1;
     }
     left == 0
 }
@@ -59,7 +56,7 @@ fn merge_sized(
     }
     let build = work_left(gates, records, work);
     let partitions = take_eights(build, stages);
-    has_room(take_eights(partitions, indices))
+    take_eights(partitions, indices).is_some()
 }
 
 // How many groups readable records have.
@@ -67,13 +64,7 @@ fn groups_in(records: &[u32]) -> usize
     requires { Readable records.now }
     ensures { result ≡ length (groups_of records.now) }
 {
-    let mut n = 0;
-    let mut at = 0;
-    while at < records.len() {
-        at += 1 + size_at(records, at);
-        n += 1;
-    }
-    n
+    starts(records).count()
 }
 
 // Check 10, for readable records.
@@ -97,7 +88,7 @@ fn may_merge(records: &[u32], indices: &[u32], lengths: &[u32], extra: usize) ->
     given_right(groups_in(records), indices)
 }
 
-// The first of 1, 2, 3, 23, 4, 5 and 10 that applies, or 0.
+// The first of 1, 2, 3, 23, 4, 5 and 10 that applies.
 pub fn merge_refusal(
     height: u32,
     gates: &[u32],
@@ -111,7 +102,7 @@ pub fn merge_refusal(
     words: &[u32],
     counts: &[u32],
     work: &[u32],
-) -> Verdict
+) -> Result<(), Refusal>
     ensures { Says (merge_refusal height gates.now given.now records.now (group_list indices.now lengths.now stages.now) extra (areas plan.now words.now counts.now work.now)) gates.now result }
 {
     let sized = merge_sized(
@@ -126,15 +117,9 @@ pub fn merge_refusal(
         counts.len(),
         work.len(),
     );
-    let verdict = refusal(height, sized, gates, given, records);
-    if verdict.number != 0 {
-        return verdict;
-    }
+    refusal(height, sized, gates, given, records)?;
     if may_merge(records, indices, lengths, extra) {
-        return verdict;
+        return Ok(());
     }
-    Verdict {
-        number: WRONG_GROUPS,
-        pin: Pin(0),
-    }
+    Err(Refusal::WrongGroups)
 }

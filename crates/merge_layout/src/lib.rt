@@ -7,7 +7,7 @@ ghost use Rattle.merge_layout.specs.Layout.{OrderAt, Ordered, GatherAt, Gathered
 
 use columns::wide;
 use merge_slots::{
-    CELLS, GROWS, ORDER, STAGES, UNION, WORDS, copy, open_all, order_keys, sort, start_of,
+    CELLS, GROWS, ORDER, STAGES, UNION, WORDS, open_all, order_keys, sort, start_of,
 };
 
 #[derive(Clone, Copy)]
@@ -35,16 +35,12 @@ fn gather(indices: &[u32], lengths: &[u32], order: &[u32], to: &mut [u32], k: us
     ensures { Gathered indices.now lengths.now order.now k to.new }
 {
     let mut at = 0;
-    let mut i = 0;
-    while i < k {
+    for i in 0..k {
         let s = wide(order[i]);
         let start = start_of(lengths, s);
         let size = wide(lengths[s]);
-        let end = start + size;
-        let next = at + size;
-        copy(&mut to[at..next], &indices[start..end]);
-        at = next;
-        i += 1;
+        to[at..at + size].copy_from_slice(&indices[start..start + size]);
+        at += size;
     }
 }
 
@@ -53,11 +49,9 @@ fn clear_lists(own: &mut [u32], n: usize)
     requires { OwnAt n own.old }
     ensures { Cleared n n own.old own.new }
 {
-    let mut i = 0;
-    while i < n {
+    for i in 0..n {
         own[GROWS * n + i] = 0;
         own[UNION * n + i] = 0;
-        i += 1;
     }
 }
 
@@ -67,12 +61,10 @@ fn fill_lists(lengths: &[u32], own: &mut [u32], k: usize)
     ensures { Tabled lengths.now k own.old own.new }
 {
     let n = lengths.len();
-    let mut i = 0;
-    while i < k {
+    for i in 0..k {
         let s = wide(own[ORDER * n + i]);
         own[GROWS * n + i] = lengths[s];
         own[UNION * n + i] = own[STAGES * n + s];
-        i += 1;
     }
 }
 
@@ -91,10 +83,8 @@ fn total(own: &[u32], n: usize, f: usize, k: usize) -> usize
     ensures { result ≡ sums n f own.now k }
 {
     let mut sum = 0;
-    let mut i = 0;
-    while i < k {
+    for i in 0..k {
         sum += wide(own[f * n + wide(own[ORDER * n + i])]);
-        i += 1;
     }
     sum
 }
@@ -112,8 +102,8 @@ fn write_lists(lengths: &mut [u32], stages: &mut [u32], own: &mut [u32], k: usiz
     let stages_sum = total(own, n, STAGES, k);
     let words_sum = total(own, n, WORDS, k);
     let cells_sum = total(own, n, CELLS, k);
-    copy(lengths, &own[a..b]);
-    copy(stages, &own[b..c]);
+    lengths.copy_from_slice(&own[a..b]);
+    stages.copy_from_slice(&own[b..c]);
     Totals {
         partitions: k,
         stages: stages_sum,
@@ -135,14 +125,12 @@ fn arrange(
     ensures { Arranged spare base indices.old lengths.now stages.old work.old indices.new stages.new work.new result }
 {
     let n = lengths.len();
-    let end = base + 8 * n;
-    let k = final_order(lengths, &mut work[base..end]);
+    let k = final_order(lengths, &mut work[base..base + 8 * n]);
     let from = base + ORDER * n;
-    let to = from + n;
-    copy(stages, &work[from..to]);
+    stages.copy_from_slice(&work[from..from + n]);
     let last = spare + indices.len();
     gather(indices, lengths, stages, &mut work[spare..last], k);
-    copy(indices, &work[spare..last]);
+    indices.copy_from_slice(&work[spare..last]);
     k
 }
 

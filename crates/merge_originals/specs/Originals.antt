@@ -1,5 +1,5 @@
 -- The partitions as they are given, built and measured: what is found and left. Assumes nothing.
-use Rattle.std.specs.Prelude.{ℕ, ◌+◌, ◌*◌, ◌<◌, ◌≤◌, Bool, true, List, ◌≡◌, length, get_or}
+use Rattle.std.specs.Prelude.{ℕ, ◌+◌, ◌*◌, ◌<◌, ◌≤◌, Result, Ok, Err, IfOk, IfErr, Bool, true, List, ◌≡◌, length, get_or}
 use Rattle.rules.specs.Lists.{sum, In}
 use Rattle.rules.specs.Graph.{pin_count}
 use Rattle.rules.specs.Records.{groups_of}
@@ -9,7 +9,9 @@ use Rattle.rules.specs.Merge.{Common, Part, Parts, bad, good, built_of, size_for
 use Rattle.columns.specs.Fields.{RECORDS}
 use Rattle.checks.specs.Passed.{Passed}
 use Rattle.placer_start.specs.Opening.{Idle}
-use Rattle.placer.specs.declared.Answer.{Answer}
+use Rattle.refusals.specs.Numbers.{number_of, pin_of}
+use Rattle.placer.specs.declared.Built as placer
+use Rattle.placer.specs.declared.Refused.{Refused}
 use Rattle.placer.specs.Answers.{told}
 use Rattle.placer.specs.Build.{Blank}
 use Rattle.merge_unions.specs.Table.{Located}
@@ -17,8 +19,7 @@ use Rattle.merge_unions.specs.Unions.{Shares, Places}
 use Rattle.merge_slots.specs.Slots.{listed, held}
 use Rattle.merge_slots.specs.Stores.{Stored}
 use Rattle.merge_layout.specs.Layout.{owned}
-use Rattle.merge_originals.specs.declared.Originals.{Originals}
-use Rattle.merge_originals.specs.declared.Originals.TheVariants.{Refused, Built}
+use Rattle.merge_originals.specs.declared.RefusedPart.{RefusedPart}
 
 -- what a merge finds between its calls: the checks passed, a work area that a build may begin in, the table of record starts, and behind
 -- it the own numbers of n slots
@@ -69,14 +70,14 @@ pub record MeasureAt (K m table base n s : ℕ) (gates given records part pl ws 
   pub groups : Grouped m table records part
   pub inside : s < n
 
-pub record Measures (rule : WordRule) (K m table base n s : ℕ) (gates given records part pl ws cs w : List ℕ) (a : Answer) (pl' ws' cs' w' : List ℕ) : Type 0 where
+pub record Measures (rule : WordRule) (K m table base n s : ℕ) (gates given records part pl ws cs w : List ℕ) (a : Result placer.Built Refused) (pl' ws' cs' w' : List ℕ) : Type 0 where
   pub plan : pl' ≡ pl
   pub words : ws' ≡ ws
   pub counts : cs' ≡ cs
   pub changes : Changes m table base n w w'
-  pub few : a.stages ≤ m
+  pub few : IfOk a (λ b. b.stages ≤ m)
   pub reply : (J : Common) → Places rule K (length pl) gates given records J → told a ≡ rules.reply (built_of J part)
-  pub noted : a.number ≡ 0 → Noted m table base n s a.stages a.words a.cells gates given records part w w'
+  pub noted : IfOk a (λ b. Noted m table base n s b.stages b.words b.cells gates given records part w w')
 
 -- ---- every slot
 
@@ -91,16 +92,17 @@ unfoldable pub all_held : ℕ → (ls xs o : List ℕ) → List Part
 all_held n ls xs o = listed (held n ls xs o) (λ _. true) n 0
 
 -- an answer as the definition has it
-unfoldable pub parts_for : Originals → List Part → Parts
-parts_for (Refused i n k) ps = bad i n k
-parts_for (Built most) ps = good ps
+unfoldable pub parts_for : Result ℕ RefusedPart → List Part → Parts
+parts_for (Err x) ps = bad x.part (number_of x.refused.why) x.refused.stage
+parts_for (Ok most) ps = good ps
 
-pub record Given (rule : WordRule) (K m table base : ℕ) (gates given records xs ls pl ws cs w : List ℕ) (r : Originals) (pl' ws' cs' w' : List ℕ) : Type 0 where
+pub record Given (rule : WordRule) (K m table base : ℕ) (gates given records xs ls pl ws cs w : List ℕ) (r : Result ℕ RefusedPart) (pl' ws' cs' w' : List ℕ) : Type 0 where
   pub plan : pl' ≡ pl
   pub words : ws' ≡ ws
   pub counts : cs' ≡ cs
   pub changes : Changes m table base (length ls) w w'
   pub answer : (J : Common) → Places rule K (length pl) gates given records J
       → original J 0 (split_by ls xs) ≡ parts_for r (all_held (length ls) ls xs (owned base (length ls) w'))
-  pub most : (k : ℕ) → r ≡ Built k → most_stages (all_held (length ls) ls xs (owned base (length ls) w')) 0 ≡ k
-  pub few : (k : ℕ) → r ≡ Built k → k ≤ m
+  pub plain : (J : Common) → Places rule K (length pl) gates given records J → IfErr r (λ x. pin_of x.refused.why ≡ 0)
+  pub most : IfOk r (λ k. most_stages (all_held (length ls) ls xs (owned base (length ls) w')) 0 ≡ k)
+  pub few : IfOk r (λ k. k ≤ m)

@@ -1,7 +1,7 @@
 // The partitions as they are given. Each stands in a slot: it is built and measured before the first union is tried.
 #![tactic(auto)]
 
-ghost use Rattle.std.specs.Prelude.{◌≡◌, max};
+ghost use Rattle.std.specs.Prelude.{◌≡◌};
 ghost use Rattle.rules.specs.Traversal.{needed_runs};
 ghost use Rattle.merge_originals.specs.Originals.{NoteAt, Noted, MeasureAt, Measures, OriginalsAt, Given};
 
@@ -10,14 +10,13 @@ use columns::wide;
 use merge_slots::store_built;
 use merge_unions::build_union;
 use merge_unions::sizing::size_union;
-use placer::Answer;
+use placer::{Built, Refused};
 
+// A refused partition from 1, and what refuses it.
 #[derive(Clone, Copy)]
-pub enum Originals {
-    // The lowest refused partition from 1, its number and stage.
-    Refused(usize, u32, usize),
-    // The greatest stage count.
-    Built(usize),
+pub struct RefusedPart {
+    pub part: usize,
+    pub refused: Refused,
 }
 
 // The size of a built partition's traversal, its stages, words and filled cells become the own numbers of slot s.
@@ -60,11 +59,11 @@ pub fn measure(
     base: usize,
     n: usize,
     s: usize,
-) -> Answer
+) -> Result<Built, Refused>
     requires { MeasureAt height.0 m table base n s gates.now given.now records.now part.now plan.old words.old counts.old work.old }
     ensures { Measures needed_runs height.0 m table base n s gates.now given.now records.now part.now plan.old words.old counts.old work.old result plan.new words.new counts.new work.new }
 {
-    let a = build_union(
+    let built = build_union(
         height,
         gates,
         given,
@@ -77,26 +76,26 @@ pub fn measure(
         work,
         m,
         table,
-    );
-    if a.number != 0 {
-        return a;
-    }
+    )?;
     note(
-        gates, given, records, part, work, m, table, base, n, s, a.stages, a.words, a.cells,
+        gates,
+        given,
+        records,
+        part,
+        work,
+        m,
+        table,
+        base,
+        n,
+        s,
+        built.stages,
+        built.words,
+        built.cells,
     );
-    a
+    Ok(built)
 }
 
-fn greater(a: usize, b: usize) -> usize
-    ensures { result ≡ max a b }
-{
-    if a < b {
-        return b;
-    }
-    a
-}
-
-// Each slot in turn, up to the first that is refused.
+// Each slot in turn, up to the first that is refused. Returns the greatest stage count.
 pub fn build_originals(
     height: Height,
     gates: &[u32],
@@ -111,17 +110,16 @@ pub fn build_originals(
     m: usize,
     table: usize,
     base: usize,
-) -> Originals
+) -> Result<usize, RefusedPart>
     requires { OriginalsAt height.0 m table base gates.now given.now records.now indices.now lengths.now plan.old words.old counts.old work.old }
     ensures { Given needed_runs height.0 m table base gates.now given.now records.now indices.now lengths.now plan.old words.old counts.old work.old result plan.new words.new counts.new work.new }
 {
     let n = lengths.len();
     let mut most = 0;
     let mut at = 0;
-    let mut s = 0;
-    while s < n {
-        let next = at + wide(lengths[s]);
-        let a = measure(
+    for (s, length) in lengths.iter().enumerate() {
+        let next = at + wide(*length);
+        let measured = measure(
             height,
             gates,
             given,
@@ -137,12 +135,16 @@ pub fn build_originals(
             n,
             s,
         );
-        if a.number != 0 {
-            return Originals::Refused(s + 1, a.number, a.stage);
+        match measured {
+            Ok(built) => most = built.stages.max(most),
+            Err(refused) => {
+                return Err(RefusedPart {
+                    part: s + 1,
+                    refused,
+                });
+            }
         }
-        most = greater(a.stages, most);
         at = next;
-        s += 1;
     }
-    Originals::Built(most)
+    Ok(most)
 }

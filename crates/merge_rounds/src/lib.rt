@@ -48,15 +48,13 @@ fn round(
     let n = lengths.len();
     let end = base + 8 * n;
     let mut t = trials;
-    let mut left = ranks;
-    while left > 0 {
-        let j = best(&work[base..end], n, i + 1);
-        if j == n {
+    for _ in 0..ranks {
+        let Some(j) = best(&work[base..end], n, i + 1) else {
             return Outcome {
                 taken: false,
                 trials: t,
             };
-        }
+        };
         t += 1;
         if try_union(
             height, gates, given, records, indices, lengths, plan, words, counts, work, m, table,
@@ -67,7 +65,6 @@ fn round(
                 trials: t,
             };
         }
-        left -= 1;
     }
     Outcome {
         taken: false,
@@ -100,8 +97,7 @@ fn merge_into(
     ensures { Into needed_runs height.0 m table base i cap ranks fuel trials gates.now given.now records.now indices.old lengths.old plan.old work.old result indices.new lengths.new plan.new words.new counts.new work.new }
 {
     let mut t = trials;
-    let mut left = fuel;
-    while left > 0 {
+    for _ in 0..fuel {
         rank_all(
             gates, given, records, indices, lengths, work, m, table, base, i,
         );
@@ -113,7 +109,6 @@ fn merge_into(
         if !outcome.taken {
             return t;
         }
-        left -= 1;
     }
     t
 }
@@ -143,10 +138,7 @@ fn merge_slot(
     ensures { Stepped needed_runs height.0 m table base i cap ranks fuel trials gates.now given.now records.now indices.old lengths.old plan.old work.old result indices.new lengths.new plan.new words.new counts.new work.new }
 {
     if lengths[i] == 0 {
-        return Course {
-            fuel: fuel,
-            trials: trials,
-        };
+        return Course { fuel, trials };
     }
     let end = base + 8 * lengths.len();
     open_all(lengths, &mut work[base..end]);
@@ -184,15 +176,13 @@ pub fn merge_slots(
     let n = lengths.len();
     let mut trials = 0;
     let mut fuel = n;
-    let mut i = 0;
-    while i < n {
+    for i in 0..n {
         let left = merge_slot(
             height, gates, given, records, indices, lengths, plan, words, counts, work, m, table,
             base, i, cap, ranks, fuel, trials,
         );
         trials = left.trials;
         fuel = left.fuel;
-        i += 1;
     }
     trials
 }

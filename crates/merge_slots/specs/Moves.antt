@@ -1,5 +1,5 @@
 -- What the functions on slots find and leave. Assumes nothing.
-use Rattle.std.specs.Prelude.{ℕ, ◌+◌, ◌-◌, ◌*◌, ◌/◌, ◌<◌, ◌≤◌, max, Bool, true, false, List, [], ◌++◌, ◌≡◌, eqb, length, get_or, set, take, drop}
+use Rattle.std.specs.Prelude.{ℕ, ◌+◌, ◌-◌, ◌*◌, ◌/◌, ◌<◌, ◌≤◌, max, Option, Some, None, Bool, true, false, List, [], ◌++◌, ◌≡◌, length, get_or, set, take, drop}
 use Rattle.rules.specs.Lists.{Found, nothing, found, sum, every, laid_over}
 use Rattle.rules.specs.Merge.{split_by, begun}
 use Rattle.merge_slots.specs.Slots.{best, better, ahead, free, full}
@@ -68,26 +68,27 @@ pub record AheadAt (n b s : ℕ) (o : List ℕ) : Type 0 where
   pub first : b < n
   pub second : s < n
 
--- slot b, or none where that is n
-unfoldable pub seen : ℕ → ℕ → Found
-seen n b = elim (eqb b n) [ true ↦ nothing | false ↦ found b ]
+-- what is told of the best slot, as the rules have it
+unfoldable pub seen : Option ℕ → Found
+seen None = nothing
+seen (Some b) = found b
 
-pub record BetterAt (n b s : ℕ) (o : List ℕ) : Type 0 where
+pub record BetterAt (n : ℕ) (b : Option ℕ) (s : ℕ) (o : List ℕ) : Type 0 where
   pub own : OwnAt n o
-  pub behind : b ≤ n
+  pub behind : (t : ℕ) → b ≡ Some t → t < n
   pub inside : s < n
 
-pub record Better (n b s : ℕ) (o : List ℕ) (r : ℕ) : Type 0 where
-  pub upto : r ≤ n
-  pub is : seen n r ≡ elim (free n o s) [ true ↦ better (ahead n o) s (seen n b) | false ↦ seen n b ]
+pub record Better (n : ℕ) (b : Option ℕ) (s : ℕ) (o : List ℕ) (r : Option ℕ) : Type 0 where
+  pub inside : (t : ℕ) → r ≡ Some t → t < n
+  pub is : seen r ≡ elim (free n o s) [ true ↦ better (ahead n o) s (seen b) | false ↦ seen b ]
 
 pub record BestAt (n from : ℕ) (o : List ℕ) : Type 0 where
   pub own : OwnAt n o
   pub upto : from ≤ n
 
-pub record Picked (n from : ℕ) (o : List ℕ) (r : ℕ) : Type 0 where
-  pub upto : r ≤ n
-  pub is : best (ahead n o) (free n o) (n - from) from ≡ seen n r
+pub record Picked (n from : ℕ) (o : List ℕ) (r : Option ℕ) : Type 0 where
+  pub inside : (t : ℕ) → r ≡ Some t → t < n
+  pub is : best (ahead n o) (free n o) (n - from) from ≡ seen r
 
 -- ---- the begun blocks
 

@@ -1,5 +1,5 @@
 -- Rounds of merging by slots: keys, bars, what a round gives from here on, and how far the slots are merged. Assumes nothing.
-use Rattle.std.specs.Prelude.{ℕ, suc, ◌+◌, ◌-◌, ◌<◌, ◌≤◌, Bool, not, ◌&&◌, List, [], ◌∷◌, ◌≡◌, take}
+use Rattle.std.specs.Prelude.{ℕ, ◌+◌, ◌-◌, ◌<◌, ◌≤◌, Bool, not, ◌&&◌, List, [], ◌∷◌, ◌≡◌, take}
 use Rattle.rules.specs.Lists.{mem}
 use Rattle.rules.specs.Merge.{Common, Part, add_part, add_rank, rank_of, Round, attempt, Result, merging}
 use Rattle.merge_slots.specs.Slots.{own, gathered, listed}

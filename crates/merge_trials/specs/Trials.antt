@@ -1,10 +1,13 @@
 -- The trial of one union: what it finds and leaves. Assumes nothing.
-use Rattle.std.specs.Prelude.{ℕ, ◌+◌, ◌*◌, ◌<◌, ◌≤◌, Bool, true, false, List, ◌++◌, ◌≡◌, length, set}
+use Rattle.std.specs.Prelude.{ℕ, ◌+◌, ◌*◌, ◌<◌, ◌≤◌, Result, Ok, Option, Some, None, Bool, true, false, ◌&&◌, eqb, leb, List, ◌++◌, ◌≡◌, length, set}
 use Rattle.rules.specs.Lists.{sum}
 use Rattle.rules.specs.Traversal.{WordRule}
 use Rattle.rules.specs.Build.{reply}
 use Rattle.rules.specs.Merge.{Common, built_of, accepted}
 use Rattle.placer_start.specs.Opening.{Idle}
+use Rattle.placer.specs.declared.Built.{Built}
+use Rattle.placer.specs.declared.Refused.{Refused}
+use Rattle.placer.specs.Answers.{told}
 use Rattle.placer.specs.Build.{Blank}
 use Rattle.merge_unions.specs.Unions.{Places}
 use Rattle.merge_slots.specs.Moves.{Taken}
@@ -18,6 +21,11 @@ pub record BuildAt (K m table i j : ℕ) (gates given records xs ls pl ws cs w :
   pub blank : Blank K pl ws cs
   pub order : i < j
   pub second : j < length ls
+
+-- a union is accepted if it is built, with at most `cap` stages
+pub record Accepts (cap : ℕ) (a : Result Built Refused) (r : Option Built) : Type 0 where
+  pub none : r ≡ None → (eqb (told a).number 0 && leb (told a).stages cap) ≡ false
+  pub some : (b : Built) → r ≡ Some b → (a ≡ Ok b) × (b.stages ≤ cap)
 
 pub record JoinAt (m table base i j stages words cells : ℕ) (xs ls w : List ℕ) : Type 0 where
   pub idle : Idle m w

@@ -1,31 +1,29 @@
 // What merging into one slot does again and again: the later slots ranked for it, and the trial of one union.
 #![tactic(auto)]
 
-ghost use Rattle.std.specs.Prelude.{◌≡◌, ◌&&◌, ◌+◌, ◌*◌, ◌≤◌, eqb, leb, length};
+ghost use Rattle.std.specs.Prelude.{◌+◌, ◌*◌, ◌≤◌, length};
 ghost use Rattle.rules.specs.Inside.Some.{Some, Every};
 ghost use Rattle.rules.specs.Traversal.{needed_runs};
-ghost use Rattle.merge_unions.specs.Unions.{Built};
+ghost use Rattle.merge_unions.specs.Unions.{UnionBuilt};
 ghost use Rattle.merge_trials.specs.Ranks.{groups_at, Looked, RankAt, SlotRanked, LaterAt, Keyed, AllAt, AllRanked};
-ghost use Rattle.merge_trials.specs.Trials.{BuildAt, JoinAt, Joins, TryAt, Tried};
+ghost use Rattle.merge_trials.specs.Trials.{BuildAt, Accepts, JoinAt, Joins, TryAt, Tried};
 
 use cells::Height;
 use columns::{RECORDS, wide};
 use merge_slots::{BAR, key_slot, start_of, store_union, take_in};
 use merge_unions::build_union;
 use merge_unions::sizing::{Cone, close_cone, measure, open_cone};
-use placer::Answer;
+use placer::{Built, Refused};
 
 // Is a slot from `from` on open?
 fn any_open(work: &[u32], base: usize, n: usize, from: usize) -> bool
     requires { base + 8 * n ≤ length work.now }
     ensures { Looked base n from work.now result }
 {
-    let mut s = from;
-    while s < n {
+    for s in from..n {
         if work[base + (BAR * n + s)] == 0 {
             return true;
         }
-        s += 1;
     }
     false
 }
@@ -74,8 +72,7 @@ fn rank_later(
 {
     let n = lengths.len();
     let mut at = from;
-    let mut s = i + 1;
-    while s < n {
+    for s in i + 1..n {
         let next = at + wide(lengths[s]);
         rank_slot(
             gates,
@@ -91,7 +88,6 @@ fn rank_later(
             cone,
         );
         at = next;
-        s += 1;
     }
 }
 
@@ -160,9 +156,9 @@ fn build_pair(
     table: usize,
     i: usize,
     j: usize,
-) -> Answer
+) -> Result<Built, Refused>
     requires { BuildAt height.0 m table i j gates.now given.now records.now indices.now lengths.now plan.old words.old counts.old work.old }
-    ensures { Built needed_runs height.0 m table gates.now given.now records.now (groups_at lengths.now indices.now i) (groups_at lengths.now indices.now j) plan.old words.old counts.old work.old result plan.new words.new counts.new work.new }
+    ensures { UnionBuilt needed_runs height.0 m table gates.now given.now records.now (groups_at lengths.now indices.now i) (groups_at lengths.now indices.now j) plan.old words.old counts.old work.old result plan.new words.new counts.new work.new }
 {
     let a = start_of(lengths, i);
     let b = start_of(lengths, i + 1);
@@ -184,14 +180,20 @@ fn build_pair(
     )
 }
 
-// Is a union with such an answer accepted?
-fn accepts(number: u32, stages: usize, cap: usize) -> bool
-    ensures { result ≡ (eqb number 0 && leb stages cap) }
+// The union, if it is built with at most `cap` stages.
+fn accepted(built: Result<Built, Refused>, cap: usize) -> Option<Built>
+    ensures { Accepts cap built result }
 {
-    if number != 0 {
-        return false;
+    match built {
+        Ok(union) => {
+            if union.stages <= cap {
+                Some(union)
+            } else {
+                None
+            }
+        }
+        Err(_) => None,
     }
-    stages <= cap
 }
 
 // Slot i becomes its union with slot j, which is empty then.
@@ -240,12 +242,22 @@ pub fn try_union(
     requires { TryAt height.0 m table base i j cap gates.now given.now records.now indices.old lengths.old plan.old words.old counts.old work.old }
     ensures { Tried needed_runs height.0 m table base i j cap gates.now given.now records.now indices.old lengths.old plan.old work.old result indices.new lengths.new plan.new words.new counts.new work.new }
 {
-    let a = build_pair(
+    let built = build_pair(
         height, gates, given, records, indices, lengths, plan, words, counts, work, m, table, i, j,
     );
-    if accepts(a.number, a.stages, cap) {
+    if let Some(union) = accepted(built, cap) {
         join(
-            indices, lengths, work, m, table, base, i, j, a.stages, a.words, a.cells,
+            indices,
+            lengths,
+            work,
+            m,
+            table,
+            base,
+            i,
+            j,
+            union.stages,
+            union.words,
+            union.cells,
         );
         return true;
     }

@@ -1,5 +1,5 @@
 -- The reservation for named groups. Assumes nothing.
-use Rattle.std.specs.Prelude.{◌≡◌, true, false, List, ◌++◌, ℕ, ◌+◌, ◌*◌, ◌≤◌, length}
+use Rattle.std.specs.Prelude.{◌≡◌, true, false, Option, Some, None, List, ◌++◌, ℕ, ◌+◌, ◌*◌, ◌≤◌, length}
 use Rattle.rules.specs.Cells.{word_limit}
 use Rattle.rules.specs.Records.{Group, groups_of}
 use Rattle.rules.specs.Reservation.{activations, reservable}
@@ -8,8 +8,6 @@ use Rattle.columns.specs.Area.{Room}
 use Rattle.columns.specs.Lists.{Clear}
 use Rattle.placer_start.specs.declared.reservation.Count.{Count}
 use Rattle.placer_start.specs.Reservation.{Touched, Chains, Counts}
-use Rattle.merge_unions.specs.declared.reservation.Sum.{Sum}
-use Rattle.merge_unions.specs.declared.reservation.Sum.TheVariants.{Passed, Far}
 use Rattle.merge_unions.specs.Names.{picked, Names}
 
 -- xs are counted, with k indices, and pass no limit
@@ -26,10 +24,10 @@ pub record PartAt (m table limit k : ℕ) (count : Count) (xs : List Group) (rec
   pub few : k + length names ≤ 4294967295
   pub now : SoFar m limit k count xs w
 
-pub record PartCounted (m limit k : ℕ) (xs : List Group) (records names w w' : List ℕ) (r : Sum) : Type 0 where
+pub record PartCounted (m limit k : ℕ) (xs : List Group) (records names w w' : List ℕ) (r : Option Count) : Type 0 where
   pub touched : Touched m (k + length names) w w'
-  pub over : r ≡ Passed → (K : ℕ) → limit ≡ word_limit K → reservable K (xs ++ picked (groups_of records) names) ≡ false
-  pub on : (count : Count) → r ≡ Far count → SoFar m limit (k + length names) count (xs ++ picked (groups_of records) names) w'
+  pub over : r ≡ None → (K : ℕ) → limit ≡ word_limit K → reservable K (xs ++ picked (groups_of records) names) ≡ false
+  pub on : (count : Count) → r ≡ Some count → SoFar m limit (k + length names) count (xs ++ picked (groups_of records) names) w'
 
 pub record BothAt (m table : ℕ) (records first second w : List ℕ) : Type 0 where
   pub area : Room m w

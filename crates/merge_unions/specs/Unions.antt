@@ -1,5 +1,5 @@
 -- A union of two partitions: what its calls find, answer and leave. Assumes nothing.
-use Rattle.std.specs.Prelude.{◌≡◌, Bool, List, ◌++◌, ℕ, ◌+◌, ◌*◌, ◌<◌, ◌≤◌, length, get_or, replicate}
+use Rattle.std.specs.Prelude.{◌≡◌, Bool, Result, List, ◌++◌, ℕ, ◌+◌, ◌*◌, ◌<◌, ◌≤◌, length, get_or, replicate}
 use Rattle.rules.specs.Cells.{empty, rooms}
 use Rattle.rules.specs.Graph.{graph_of, pin_count}
 use Rattle.rules.specs.Records.{groups_of}
@@ -10,7 +10,8 @@ use Rattle.rules.specs.Lists.{In}
 use Rattle.columns.specs.Fields.{RECORDS}
 use Rattle.checks.specs.Passed.{Passed}
 use Rattle.placer_start.specs.Opening.{Idle, Opens}
-use Rattle.placer.specs.declared.Answer.{Answer}
+use Rattle.placer.specs.declared.Built as placer
+use Rattle.placer.specs.declared.Refused.{Refused}
 use Rattle.placer.specs.Answers.{told}
 use Rattle.placer.specs.Build.{Blank}
 use Rattle.placer.specs.Stages.{Kept}
@@ -67,7 +68,7 @@ pub record TryAt (K m table : ℕ) (gates given records first second pl ws cs w 
   pub blank : Blank K pl ws cs
 
 -- the areas keep their lengths
-pub record Tried (rule : WordRule) (K m table : ℕ) (gates given records first second pl ws cs w : List ℕ) (a : Answer) (pl' ws' cs' w' : List ℕ) : Type 0 where
+pub record Tried (rule : WordRule) (K m table : ℕ) (gates given records first second pl ws cs w : List ℕ) (a : Result placer.Built Refused) (pl' ws' cs' w' : List ℕ) : Type 0 where
   pub kept : Kept pl ws cs w pl' ws' cs' w'
   pub past : (j : ℕ) → table ≤ j → get_or w' j 0 ≡ get_or w j 0
   pub reply : told a ≡ rules.reply (rules.build rule K (graph_of gates) given (picked (groups_of records) (first ++ second)) (rooms K (length pl)))
@@ -79,7 +80,7 @@ pub record Places (rule : WordRule) (K size : ℕ) (gates given records : List �
   pub height : J.K ≡ K
   pub rooms_same : J.rooms ≡ rooms K size
 
-pub record Built (rule : WordRule) (K m table : ℕ) (gates given records first second pl ws cs w : List ℕ) (a : Answer) (pl' ws' cs' w' : List ℕ) : Type 0 where
+pub record UnionBuilt (rule : WordRule) (K m table : ℕ) (gates given records first second pl ws cs w : List ℕ) (a : Result placer.Built Refused) (pl' ws' cs' w' : List ℕ) : Type 0 where
   pub leaves : Leaves m table w w'
   pub plan : pl' ≡ replicate (length pl) empty
   pub words : ws' ≡ replicate (length ws) empty

@@ -8,18 +8,16 @@ ghost use Rattle.rules.specs.Records.{groups_of};
 ghost use Rattle.rules.specs.Traversal.{needed_runs};
 ghost use Rattle.placer_start.specs.Opening.{Begins};
 ghost use Rattle.merge_unions.specs.Names.{picked};
-ghost use Rattle.merge_unions.specs.Unions.{OpenAt, TryAt, Tried, Built};
+ghost use Rattle.merge_unions.specs.Unions.{OpenAt, TryAt, Tried, UnionBuilt};
 
 use cells::Height;
 use columns::{RECORDS, wide};
-use graph::Pin;
-use placer::Answer;
 use placer::areas::empty_all;
 use placer::stages::stages;
+use placer::{Built, Refused};
 use placer_start::Opening;
 use placer_start::given::mark_given;
-use placer_start::reservation::Reservation;
-use refusals::OVER_RESERVED;
+use refusals::Refusal;
 use reservation::reserve_both;
 use waiting::wait_both;
 
@@ -38,19 +36,14 @@ fn begin_both(
     m: usize,
     table: usize,
     limit: usize,
-) -> Opening
+) -> Option<Opening>
     requires { OpenAt m table given.now records.now first.now second.now work.old }
     ensures { Begins m limit table given.now (picked (groups_of records.now) (first.now ++ second.now)) work.old result work.new }
 {
-    let set_aside = reserve_both(records, first, second, work, m, table, limit);
-    match set_aside {
-        Reservation::Over => Opening::Over,
-        Reservation::Words(words) => {
-            mark_given(given, work, m);
-            let n = wait_both(records, first, second, work, m, table);
-            Opening::Ready(words, n)
-        }
-    }
+    let words = reserve_both(records, first, second, work, m, table, limit)?;
+    mark_given(given, work, m);
+    let waiting = wait_both(records, first, second, work, m, table);
+    Some(Opening { words, waiting })
 }
 
 // The reservation and the stages, in empty areas.
@@ -67,39 +60,29 @@ fn attempt(
     work: &mut [u32],
     m: usize,
     table: usize,
-) -> Answer
+) -> Result<Built, Refused>
     requires { TryAt height.0 m table gates.now given.now records.now first.now second.now plan.old words.old counts.old work.old }
     ensures { Tried needed_runs height.0 m table gates.now given.now records.now first.now second.now plan.old words.old counts.old work.old result plan.new words.new counts.new work.new }
 {
     let limit = words.len();
-    let opening = begin_both(given, records, first, second, work, m, table, limit);
-    match opening {
-        Opening::Over => Answer {
-            number: OVER_RESERVED,
-            stages: 0,
-            words: 0,
-            stage: 0,
-            pin: Pin(0),
-            cells: 0,
-        },
-        Opening::Ready(reserved, n) => {
-            let rooms = counts.len();
-            let room = limit - reserved;
-            let size = 16 * m + RECORDS;
-            stages(
-                gates,
-                plan,
-                words,
-                counts,
-                &mut work[0..size],
-                m,
-                height,
-                rooms,
-                n,
-                room,
-            )
-        }
-    }
+    let Some(opening) = begin_both(given, records, first, second, work, m, table, limit) else {
+        return Err(Refused::from(Refusal::OverReserved));
+    };
+    let rooms = counts.len();
+    let room = limit - opening.words;
+    let size = 16 * m + RECORDS;
+    stages(
+        gates,
+        plan,
+        words,
+        counts,
+        &mut work[0..size],
+        m,
+        height,
+        rooms,
+        opening.waiting,
+        room,
+    )
 }
 
 // The build of a union's groups. A merge keeps no plan, so every area is empty again.
@@ -116,14 +99,14 @@ pub fn build_union(
     work: &mut [u32],
     m: usize,
     table: usize,
-) -> Answer
+) -> Result<Built, Refused>
     requires { TryAt height.0 m table gates.now given.now records.now first.now second.now plan.old words.old counts.old work.old }
-    ensures { Built needed_runs height.0 m table gates.now given.now records.now first.now second.now plan.old words.old counts.old work.old result plan.new words.new counts.new work.new }
+    ensures { UnionBuilt needed_runs height.0 m table gates.now given.now records.now first.now second.now plan.old words.old counts.old work.old result plan.new words.new counts.new work.new }
 {
-    let a = attempt(
+    let built = attempt(
         height, gates, given, records, first, second, plan, words, counts, work, m, table,
     );
     let size = 16 * m + RECORDS;
     empty_all(plan, words, counts, &mut work[0..size]);
-    a
+    built
 }

@@ -26,11 +26,9 @@ fn clear_along(work: &mut [u32], m: usize, a: usize, n: usize, f: usize, g: usiz
     requires { AlongAt f g m a n work.old }
     ensures { Along g m (drop a (list f m n work.old)) work.old work.new }
 {
-    let mut i = a;
-    while i < n {
+    for i in a..n {
         let p = pin_at(work, m, i, f);
         set_field(work, m, p, g, 0);
-        i += 1;
     }
 }
 
@@ -39,10 +37,8 @@ fn unmark_given(given: &[u32], work: &mut [u32], m: usize)
     requires { UnmarkAt m given.now work.old }
     ensures { Along DONE m given.now work.old work.new }
 {
-    let mut i = 0;
-    while i < given.len() {
-        set_field(work, m, Pin(given[i]), DONE, 0);
-        i += 1;
+    for p in given {
+        set_field(work, m, Pin(*p), DONE, 0);
     }
 }
 

@@ -3,7 +3,7 @@ ghost use Rattle.std.specs.Prelude.{◌≡◌, ◌+◌, ◌<◌, length, get_or}
 ghost use Rattle.merge_unions.specs.Table.{LocateAt, Locates};
 
 use columns::wide;
-use records::size_at;
+use records::starts;
 
 // The start of each record, from `table` on. Returns how many groups there are.
 pub fn locate(records: &[u32], work: &mut [u32], table: usize) -> usize
@@ -11,10 +11,8 @@ pub fn locate(records: &[u32], work: &mut [u32], table: usize) -> usize
     ensures { Locates table records.now work.old work.new result }
 {
     let mut n = 0;
-    let mut at = 0;
-    while at < records.len() {
+    for at in starts(records) {
         work[table + n] = at as u32;
-        at += 1 + size_at(records, at);
         n += 1;
     }
     n

@@ -21,11 +21,9 @@ pub fn wait_part(
     ensures { PartWaits m n records.now names.now work.old work.new result }
 {
     let mut k = n;
-    let mut i = 0;
-    while i < names.len() {
-        let at = start_of(work, table, names[i]);
+    for name in names {
+        let at = start_of(work, table, *name);
         k = wait_record(records, work, m, k, at);
-        i += 1;
     }
     k
 }

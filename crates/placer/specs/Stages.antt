@@ -1,13 +1,11 @@
 -- The stages of a build, and what the lent areas hold between two of them. Assumes nothing.
-use Rattle.std.specs.Prelude.{◌≡◌, List, ℕ, suc, ◌+◌, ◌-◌, ◌*◌, ◌^◌, ◌<◌, ◌≤◌, length, get_or}
+use Rattle.std.specs.Prelude.{◌≡◌, Result, IfOk, IfErr, List, ℕ, suc, ◌+◌, ◌-◌, ◌*◌, ◌^◌, ◌<◌, ◌≤◌, length, get_or}
 use Rattle.rules.specs.Lists.{count, padded}
 use Rattle.rules.specs.Cells.{empty, filled, word_limit, row_at, stage_size}
 use Rattle.rules.specs.Graph.{Node, graph_of}
 use Rattle.rules.specs.Traversal.{WordRule, Setting, setting, needed_runs}
 use Rattle.rules.specs.Placing.{filled_plan}
-use Rattle.rules.specs.Ending as ending
 use Rattle.rules.specs.Ending.{one_stage}
-use Rattle.rules.specs.Capacity.{ones_then, needs_left}
 use Rattle.rules.specs.States.{state, after_from}
 use Rattle.rules.specs.Build as rules
 use Rattle.rules.specs.Inside.Walks.{rank, Ready}
@@ -17,7 +15,13 @@ use Rattle.columns.specs.Area.{Room}
 use Rattle.columns.specs.Lists.{Marks, Clear, Placed}
 use Rattle.stage_walk.specs.Stands.{Fresh}
 use Rattle.stage_notes.specs.Notes.{notes, stage_notes}
-use Rattle.placer.specs.declared.Answer.{Answer}
+use Rattle.refusals.specs.Numbers.{number_of}
+use Rattle.stage.specs.declared.finish.Outcome.{Outcome}
+use Rattle.stage.specs.declared.finish.Stopped.{Stopped}
+use Rattle.stage.specs.Stopped.{refusal_of}
+use Rattle.stage.specs.Finish.{Refuses}
+use Rattle.placer.specs.declared.Built.{Built}
+use Rattle.placer.specs.declared.Refused.{Refused}
 use Rattle.placer.specs.Answers.{told}
 
 -- what the stages start from: no value of the program
@@ -94,24 +98,18 @@ pub record OneAt (C : Course) (m K half : ℕ) (k n at room : ℕ) (gates pl ws 
   pub waits : 0 < n
   pub more : k < C.rooms
 
--- what a stage tells: the pins taken back are noted in the tail; refused, with 7 the words wanted, with 8 the level-1 cells filled and the needed
--- pins left where rule 9 starts
-pub record StageTold (X : Setting) (m room : ℕ) (w : List ℕ) (number written cells n : ℕ) (w' : List ℕ) : Type 0 where
+-- what a stage tells: the pins taken back are noted in the tail; or what stops it
+pub record StageTold (X : Setting) (m room : ℕ) (w : List ℕ) (r : Result Outcome Stopped) (w' : List ℕ) : Type 0 where
   pub noted : notes m w' ≡ stage_notes X (notes m w)
-  pub refused : 0 < number → one_stage X.rule X.K X.g X.done X.waiting room ≡ ending.refused number
-  pub seven : number ≡ 7 → written ≡ length (ending.written X (filled_plan X)).words
-  pub ones : number ≡ 8 → cells ≡ ones_then X (filled_plan X)
-  pub needs : number ≡ 8 → n ≡ needs_left X (filled_plan X)
-  pub few : 0 < number → written ≤ 128
-  pub small : 0 < number → cells + n ≤ 131072
+  pub refuses : IfErr r (Refuses X (filled_plan X) (one_stage X.rule X.K X.g X.done X.waiting room))
 
-pub record One (C : Course) (m k at : ℕ) (pl ws cs w : List ℕ) (number written cells n : ℕ) (pl' ws' cs' w' : List ℕ) : Type 0 where
+pub record One (C : Course) (m k at : ℕ) (pl ws cs w : List ℕ) (r : Result Outcome Stopped) (pl' ws' cs' w' : List ℕ) : Type 0 where
   pub kept : Kept pl ws cs w pl' ws' cs' w'
-  pub refused : 0 < number → answer C ≡ rules.refusal number (suc k)
-  pub on : number ≡ 0 → Underway C m (suc k) (at + written) n pl' ws' cs' w'
-  pub more : number ≡ 0 → count filled pl' ≡ count filled pl + cells
+  pub refused : IfErr r (λ e. answer C ≡ rules.refusal (number_of (refusal_of e)) (suc k))
+  pub on : IfOk r (λ o. Underway C m (suc k) (at + o.words) o.waiting pl' ws' cs' w')
+  pub more : IfOk r (λ o. count filled pl' ≡ count filled pl + o.cells)
   pub told : (done waiting : List ℕ) (room : ℕ) → after_from C.rule C.K C.g k C.given C.waiting C.room ≡ state done waiting room →
-      StageTold (setting C.rule C.K C.g done waiting) m room w number written cells n w'
+      StageTold (setting C.rule C.K C.g done waiting) m room w r w'
 
 -- ---- from stage k + 1 on
 
@@ -128,7 +126,7 @@ pub record Whole (C : Course) (ss : List rules.Stage) (pl ws cs : List ℕ) : Ty
   pub words : ws ≡ padded (word_limit C.K) empty (rules.words_of ss)
   pub counts : cs ≡ padded C.rooms 0 (rules.counts_of ss)
 
-pub record Ran (C : Course) (pl ws cs w : List ℕ) (a : Answer) (pl' ws' cs' w' : List ℕ) : Type 0 where
+pub record Ran (C : Course) (pl ws cs w : List ℕ) (a : Result Built Refused) (pl' ws' cs' w' : List ℕ) : Type 0 where
   pub kept : Kept pl ws cs w pl' ws' cs' w'
   pub reply : told a ≡ rules.reply (answer C)
-  pub whole : a.number ≡ 0 → Whole C (rules.stages_of (answer C)) pl' ws' cs'
+  pub whole : IfOk a (λ _. Whole C (rules.stages_of (answer C)) pl' ws' cs')

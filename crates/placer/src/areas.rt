@@ -1,25 +1,24 @@
 // The lent areas, each at its counted size: plan and words become empty marks, counts and work 0.
 ghost use Rattle.placer.specs.Build.{Emptied, Tidied};
 
-use columns::fill_part;
 use graph::EMPTY;
 
 pub fn empty_all(plan: &mut [u32], words: &mut [u32], counts: &mut [u32], work: &mut [u32])
     ensures { Emptied plan.old words.old counts.old work.old plan.new words.new counts.new work.new }
 {
-    fill_part(plan, EMPTY);
-    fill_part(words, EMPTY);
-    fill_part(counts, 0);
-    fill_part(work, 0);
+    plan.fill(EMPTY);
+    words.fill(EMPTY);
+    counts.fill(0);
+    work.fill(0);
 }
 
-// What an answer of this number leaves.
-pub fn tidy(number: u32, plan: &mut [u32], words: &mut [u32], counts: &mut [u32], work: &mut [u32])
-    ensures { Tidied number plan.old words.old counts.old work.old plan.new words.new counts.new work.new }
+// What a build leaves: a whole plan stays, a refused one goes.
+pub fn tidy(whole: bool, plan: &mut [u32], words: &mut [u32], counts: &mut [u32], work: &mut [u32])
+    ensures { Tidied whole plan.old words.old counts.old work.old plan.new words.new counts.new work.new }
 {
-    if number == 0 {
-        fill_part(work, 0);
-        return;
+    if whole {
+        work.fill(0);
+    } else {
+        empty_all(plan, words, counts, work);
     }
-    empty_all(plan, words, counts, work);
 }

@@ -13,24 +13,35 @@ use cells::Height;
 use checks::check;
 use coding::code_plan;
 use columns::RECORDS;
-use graph::{Pin, pin_count};
-use placer_start::{Opening, begin};
-use refusals::OVER_RESERVED;
+use graph::pin_count;
+use placer_start::begin;
+use refusals::Refusal;
 use stages::stages;
 
 pub mod areas;
 pub mod stages;
 
-// The scope document's number, the stages and words of a whole plan, the refused stage, with 23 the smallest pin on any loop, and the
-// cells that the pins of a whole plan fill.
+// A whole plan: its stages and words, and the cells that its pins fill.
 #[derive(Clone, Copy)]
-pub struct Answer {
-    pub number: u32,
+pub struct Built {
     pub stages: usize,
     pub words: usize,
-    pub stage: usize,
-    pub pin: Pin,
     pub cells: usize,
+}
+
+// Why a build is refused, and the refused stage from 1; 0 where it is refused before its first stage.
+#[derive(Clone, Copy)]
+pub struct Refused {
+    pub why: Refusal,
+    pub stage: usize,
+}
+
+impl From<Refusal> for Refused {
+    ghost from_gives = { λ why r. r ≡ record { why = why; stage = 0 } };
+
+    fn from(why: Refusal) -> Refused {
+        Refused { why, stage: 0 }
+    }
 }
 
 // The reservation and the stages, in empty areas.
@@ -43,28 +54,29 @@ fn attempt(
     words: &mut [u32],
     counts: &mut [u32],
     work: &mut [u32],
-) -> Answer
+) -> Result<Built, Refused>
     requires { TryAt height.0 gates.now given.now records.now plan.old words.old counts.old work.old }
     ensures { Tried (answer_of needed_runs height.0 gates.now given.now records.now (length plan.old)) plan.old words.old counts.old work.old result plan.new words.new counts.new work.new }
 {
     let m = pin_count(gates);
     let rooms = counts.len();
     let limit = words.len();
-    let opening = begin(given, records, work, m, limit);
-    match opening {
-        Opening::Over => Answer {
-            number: OVER_RESERVED,
-            stages: 0,
-            words: 0,
-            stage: 0,
-            pin: Pin(0),
-            cells: 0,
-        },
-        Opening::Ready(reserved, n) => {
-            let room = limit - reserved;
-            stages(gates, plan, words, counts, work, m, height, rooms, n, room)
-        }
-    }
+    let Some(opening) = begin(given, records, work, m, limit) else {
+        return Err(Refused::from(Refusal::OverReserved));
+    };
+    let room = limit - opening.words;
+    stages(
+        gates,
+        plan,
+        words,
+        counts,
+        work,
+        m,
+        height,
+        rooms,
+        opening.waiting,
+        room,
+    )
 }
 
 // The build of records that passed the checks, in areas of exactly their counted sizes: stages of pins.
@@ -77,17 +89,17 @@ fn lay(
     words: &mut [u32],
     counts: &mut [u32],
     work: &mut [u32],
-) -> Answer
+) -> Result<Built, Refused>
     requires { PlaceAt height.0 gates.now given.now records.now plan.old words.old counts.old work.old }
     ensures { Laid (answer_of needed_runs height.0 gates.now given.now records.now (length plan.old)) plan.old words.old counts.old work.old result plan.new words.new counts.new work.new }
 {
     empty_all(plan, words, counts, work);
-    let a = attempt(height, gates, given, records, plan, words, counts, work);
-    tidy(a.number, plan, words, counts, work);
-    a
+    let laid = attempt(height, gates, given, records, plan, words, counts, work);
+    tidy(laid.is_ok(), plan, words, counts, work);
+    laid
 }
 
-// The same as cells with their inversions. A refusal has no stages, so nothing is coded.
+// The same as cells with their inversions.
 fn place(
     height: Height,
     gates: &[u32],
@@ -97,13 +109,13 @@ fn place(
     words: &mut [u32],
     counts: &mut [u32],
     work: &mut [u32],
-) -> Answer
+) -> Result<Built, Refused>
     requires { PlaceAt height.0 gates.now given.now records.now plan.old words.old counts.old work.old }
     ensures { Placed (graph_of gates.now) (answer_of needed_runs height.0 gates.now given.now records.now (length plan.old)) height.0 plan.old words.old counts.old work.old result plan.new words.new counts.new work.new }
 {
-    let a = lay(height, gates, given, records, plan, words, counts, work);
-    code_plan(height, plan, gates, a.stages);
-    a
+    let built = lay(height, gates, given, records, plan, words, counts, work)?;
+    code_plan(height, plan, gates, built.stages);
+    Ok(built)
 }
 
 // Lays the gates under the records' endpoints into stages of a tree of this height. Plan, words and counts hold what
@@ -117,10 +129,10 @@ pub fn build(
     words: &mut [u32],
     counts: &mut [u32],
     work: &mut [u32],
-) -> Answer
+) -> Result<Built, Refused>
     ensures { outcome result plan.new words.new counts.new work.new ≡ placer needed_runs height gates.now given.now records.now (areas plan.old words.old counts.old work.old) }
 {
-    let verdict = check(
+    check(
         height,
         gates,
         given,
@@ -129,18 +141,7 @@ pub fn build(
         words.len(),
         counts.len(),
         work.len(),
-    );
-    if verdict.number != 0 {
-        let pin = verdict.pin;
-        return Answer {
-            number: verdict.number,
-            stages: 0,
-            words: 0,
-            stage: 0,
-            pin: pin,
-            cells: 0,
-        };
-    }
+    )?;
     let limit = Height(height).word_limit();
     let rooms = Height(height).rooms(plan.len());
     let need = 16 * pin_count(gates) + 8 * records.len() + RECORDS;

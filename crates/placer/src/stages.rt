@@ -4,11 +4,10 @@ ghost use Rattle.rules.specs.Cells.{row_at};
 ghost use Rattle.rules.specs.Inside.Some.{Some, Every};
 ghost use Rattle.placer.specs.Stages.{OneAt, One, StagesAt, Ran};
 
-use crate::Answer;
+use crate::{Built, Refused};
 use cells::Height;
-use graph::Pin;
-use refusals::NO_ROOM;
-use stage::{Outcome, build_one_stage};
+use refusals::Refusal;
+use stage::{Outcome, Stopped, build_one_stage};
 use stage_tally::{Tally, spend};
 
 // Stage k + 1, in its own part of the plan, for n waiting pins and the words that the tally leaves.
@@ -23,19 +22,16 @@ pub fn next_stage(
     k: usize,
     n: usize,
     tally: Tally,
-) -> Outcome
+) -> Result<Outcome, Stopped>
     requires { Counted tally × Some (λ C. OneAt C m height.0 (row_at height.0 1) k n tally.spent (room tally) gates.now plan.old words.old counts.old work.old) }
-    ensures { Every (λ C. OneAt C m height.0 (row_at height.0 1) k n tally.spent (room tally) gates.now plan.old words.old counts.old work.old) (λ C. One C m k tally.spent plan.old words.old counts.old work.old result.number result.words result.cells result.waiting plan.new words.new counts.new work.new) }
+    ensures { Every (λ C. OneAt C m height.0 (row_at height.0 1) k n tally.spent (room tally) gates.now plan.old words.old counts.old work.old) (λ C. One C m k tally.spent plan.old words.old counts.old work.old result plan.new words.new counts.new work.new) }
 {
     let size = 4 * height.level_one_size();
     let a = k * size;
     let e = a + size;
-    let s = build_one_stage(gates, &mut plan[a..e], work, words, m, height, n, tally);
-    if s.number != 0 {
-        return s;
-    }
+    let s = build_one_stage(gates, &mut plan[a..e], work, words, m, height, n, tally)?;
     counts[k] = s.words as u32;
-    s
+    Ok(s)
 }
 
 // The stages from the first on, for n waiting pins: one tally over them all, of which `room` words are not reserved.
@@ -50,7 +46,7 @@ pub fn stages(
     rooms: usize,
     n: usize,
     room: usize,
-) -> Answer
+) -> Result<Built, Refused>
     requires { Some (λ C. StagesAt C m height.0 (row_at height.0 1) rooms 0 0 n room gates.now plan.old words.old counts.old work.old) }
     ensures { Every (λ C. StagesAt C m height.0 (row_at height.0 1) rooms 0 0 n room gates.now plan.old words.old counts.old work.old) (λ C. Ran C plan.old words.old counts.old work.old result plan.new words.new counts.new work.new) }
 {
@@ -58,45 +54,35 @@ pub fn stages(
     let mut tally = Tally {
         spent: 0,
         reserved: limit - room,
-        limit: limit,
+        limit,
     };
     let mut k = 0;
     let mut left = n;
     let mut cells = 0;
     while left > 0 {
         if k == rooms {
-            return Answer {
-                number: NO_ROOM,
-                stages: 0,
-                words: 0,
+            return Err(Refused {
+                why: Refusal::NoRoom,
                 stage: k + 1,
-                pin: Pin(0),
-                cells: 0,
-            };
+            });
         }
-        let s = next_stage(gates, plan, words, counts, work, m, height, k, left, tally);
-        let number = s.number;
-        if number != 0 {
-            return Answer {
-                number: number,
-                stages: 0,
-                words: 0,
-                stage: k + 1,
-                pin: Pin(0),
-                cells: 0,
-            };
-        }
+        let s = match next_stage(gates, plan, words, counts, work, m, height, k, left, tally) {
+            Ok(s) => s,
+            Err(stopped) => {
+                return Err(Refused {
+                    why: Refusal::from(stopped),
+                    stage: k + 1,
+                });
+            }
+        };
         tally = spend(tally, s.words);
         left = s.waiting;
-        cells = cells + s.cells;
+        cells += s.cells;
         k += 1;
     }
-    Answer {
-        number: 0,
+    Ok(Built {
         stages: k,
         words: tally.spent,
-        stage: 0,
-        pin: Pin(0),
-        cells: cells,
-    }
+        cells,
+    })
 }

@@ -1,5 +1,5 @@
 -- What a build has before its first stage. Assumes nothing.
-use Rattle.std.specs.Prelude.{◌≡◌, List, [], ◌∷◌, ℕ, ◌+◌, ◌*◌, ◌<◌, ◌≤◌, length, get_or}
+use Rattle.std.specs.Prelude.{◌≡◌, Option, Some, None, List, [], ◌∷◌, ℕ, ◌+◌, ◌*◌, ◌<◌, ◌≤◌, length, get_or}
 use Rattle.rules.specs.Cells.{word_limit}
 use Rattle.rules.specs.Records.{Group, waiting_of}
 use Rattle.rules.specs.Lists.{In}
@@ -8,9 +8,6 @@ use Rattle.columns.specs.Area.{Room, Frame}
 use Rattle.columns.specs.Lists.{Marks, Clear, Placed}
 use Rattle.stage_walk.specs.Stands.{Fresh}
 use Rattle.placer_start.specs.declared.Opening.{Opening}
-use Rattle.placer_start.specs.declared.Opening.TheVariants.{Over, Ready}
-use Rattle.placer_start.specs.declared.reservation.Reservation.{Reservation}
-use Rattle.placer_start.specs.declared.reservation.Reservation.TheVariants as reservation
 use Rattle.placer_start.specs.Waiting.{Readable}
 use Rattle.placer_start.specs.Reservation.{reservation_of}
 
@@ -38,9 +35,9 @@ pub record Opens (m : ℕ) (given w : List ℕ) : Type 0 where
   pub idle : Idle m w
   pub given_named : (q : ℕ) → In q given → q < m
 
-unfoldable pub reservation_for : Opening → Reservation
-reservation_for Over = reservation.Over
-reservation_for (Ready words n) = reservation.Words words
+unfoldable pub reservation_for : Option Opening → Option ℕ
+reservation_for None = None
+reservation_for (Some o) = Some (o.words)
 
 -- what changes: these columns, and in the tail the numbers that serve the records
 abbrev pub opened : List ℕ
@@ -57,8 +54,8 @@ pub record First (m n : ℕ) (given : List ℕ) (gs : List Group) (w : List ℕ)
   pub zeros : (j : ℕ) → j < RECORDS → get_or w (16 * m + j) 0 ≡ 0
 
 -- nothing from `far` on changed
-pub record Begins (m limit far : ℕ) (given : List ℕ) (gs : List Group) (w : List ℕ) (r : Opening) (w' : List ℕ) : Type 0 where
+pub record Begins (m limit far : ℕ) (given : List ℕ) (gs : List Group) (w : List ℕ) (r : Option Opening) (w' : List ℕ) : Type 0 where
   pub frame : Frame opened m w w'
   pub past : (j : ℕ) → far ≤ j → get_or w' j 0 ≡ get_or w j 0
   pub answer : (K : ℕ) → limit ≡ word_limit K → reservation_for r ≡ reservation_of K gs
-  pub first : (words n : ℕ) → r ≡ Ready words n → First m n given gs w'
+  pub first : (o : Opening) → r ≡ Some o → First m o.waiting given gs w'

@@ -1,5 +1,5 @@
 -- The reservation, record after record, with a chain of distinct activations a pin. Assumes nothing.
-use Rattle.std.specs.Prelude.{◌≡◌, Bool, true, false, not, List, [], ◌∷◌, ◌++◌, ℕ, suc, ◌+◌, ◌*◌, ◌<◌, ◌≤◌, length, get_or, set, drop}
+use Rattle.std.specs.Prelude.{◌≡◌, Bool, true, false, not, Option, Some, None, List, [], ◌∷◌, ◌++◌, ℕ, suc, ◌+◌, ◌*◌, ◌<◌, ◌≤◌, length, get_or, set, drop}
 use Rattle.rules.specs.Lists.{mem, In}
 use Rattle.rules.specs.Cells.{word_limit}
 use Rattle.rules.specs.Records.{Group, group_at, whole_at, endpoints_of}
@@ -11,8 +11,6 @@ use Rattle.columns.specs.Lists.{Clear}
 use Rattle.placer_start.specs.declared.reservation.Added.{Added}
 use Rattle.placer_start.specs.declared.reservation.Added.TheVariants.{Memory, Code}
 use Rattle.placer_start.specs.declared.reservation.Count.{Count}
-use Rattle.placer_start.specs.declared.reservation.Reservation.{Reservation}
-use Rattle.placer_start.specs.declared.reservation.Reservation.TheVariants.{Over, Words}
 use Rattle.placer_start.specs.Waiting.{Readable}
 
 -- ---- what a record adds
@@ -126,9 +124,9 @@ pub record SetAside (count : Count) (r : ℕ) : Type 0 where
 pub record Judged (count : Count) (limit : ℕ) (r : Bool) : Type 0 where
   pub is : (K : ℕ) (xs : List Group) → limit ≡ word_limit K → Counts xs count → r ≡ not (reservable K xs)
 
--- what the rules say
-unfoldable pub reservation_of : ℕ → List Group → Reservation
-reservation_of K xs = elim (reservable K xs) [ true ↦ Words (reserved xs) | false ↦ Over ]
+-- what the rules say: the words set aside, or that they are over
+unfoldable pub reservation_of : ℕ → List Group → Option ℕ
+reservation_of K xs = elim (reservable K xs) [ true ↦ Some (reserved xs) | false ↦ None ]
 
 pub record ReserveAt (m : ℕ) (records w : List ℕ) : Type 0 where
   pub area : Room m w
@@ -137,6 +135,6 @@ pub record ReserveAt (m : ℕ) (records w : List ℕ) : Type 0 where
   pub clear : Clear RANKED m w
 
 -- some groups' words, with indices below e
-pub record Reserved (m limit e : ℕ) (gs : List Group) (w w' : List ℕ) (r : Reservation) : Type 0 where
+pub record Reserved (m limit e : ℕ) (gs : List Group) (w w' : List ℕ) (r : Option ℕ) : Type 0 where
   pub touched : Touched m e w w'
   pub answer : (K : ℕ) → limit ≡ word_limit K → r ≡ reservation_of K gs

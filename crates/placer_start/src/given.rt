@@ -8,9 +8,7 @@ pub fn mark_given(given: &[u32], work: &mut [u32], m: usize)
     requires { GivenAt m given.now work.old }
     ensures { Given m given.now work.old work.new }
 {
-    let mut i = 0;
-    while i < given.len() {
-        set_field(work, m, Pin(given[i]), DONE, 1);
-        i += 1;
+    for p in given {
+        set_field(work, m, Pin(*p), DONE, 1);
     }
 }

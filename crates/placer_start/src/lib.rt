@@ -7,32 +7,33 @@ ghost use Rattle.columns.specs.Fields.{RECORDS};
 ghost use Rattle.placer_start.specs.Opening.{BeginAt, Begins};
 
 use given::mark_given;
-use reservation::{Reservation, reserve};
+use reservation::reserve;
 use waiting::wait_all;
 
 pub mod given;
 pub mod reservation;
 pub mod waiting;
 
-// Refusal 6, or how many words are set aside and how many pins wait.
+// How many words are set aside, and how many pins wait.
 #[derive(Clone, Copy)]
-pub enum Opening {
-    Over,
-    Ready(usize, usize),
+pub struct Opening {
+    pub words: usize,
+    pub waiting: usize,
 }
 
-// The reservation first: where it is over, nothing else is needed.
-pub fn begin(given: &[u32], records: &[u32], work: &mut [u32], m: usize, limit: usize) -> Opening
+// The reservation first: where it is over, nothing else is needed. That is refusal 6.
+pub fn begin(
+    given: &[u32],
+    records: &[u32],
+    work: &mut [u32],
+    m: usize,
+    limit: usize,
+) -> Option<Opening>
     requires { BeginAt m given.now records.now work.old }
     ensures { Begins m limit (16 * m + RECORDS + 8 * length records.now) given.now (groups_of records.now) work.old result work.new }
 {
-    let set_aside = reserve(records, work, m, limit);
-    match set_aside {
-        Reservation::Over => Opening::Over,
-        Reservation::Words(words) => {
-            mark_given(given, work, m);
-            let n = wait_all(records, work, m);
-            Opening::Ready(words, n)
-        }
-    }
+    let words = reserve(records, work, m, limit)?;
+    mark_given(given, work, m);
+    let waiting = wait_all(records, work, m);
+    Some(Opening { words, waiting })
 }

@@ -9,7 +9,7 @@ ghost use Rattle.placer_start.specs.Reservation.{WholeAt, AddsGroup, ChainAt, Kn
 
 use columns::{RANKED, RECORDS, get, set_field, tail_get, tail_set, wide};
 use graph::{Literal, Pin, inversion_of, pin_of};
-use records::{Kind, kind_of, size_at};
+use records::{Kind, kind_of, starts};
 
 // What a record adds: a memory, or at a pin an activation's number.
 #[derive(Clone, Copy)]
@@ -19,17 +19,10 @@ pub enum Added {
 }
 
 // Memories, and duplicates: activations at a pin beyond its first.
-#[derive(Clone, Copy)]
+#[derive(Clone, Copy, Default)]
 pub struct Count {
     pub memories: usize,
     pub duplicates: usize,
-}
-
-// Refusal 6, or the words set aside.
-#[derive(Clone, Copy)]
-pub enum Reservation {
-    Over,
-    Words(usize),
 }
 
 // An output's activation: 2 + inversion.
@@ -57,12 +50,12 @@ pub fn adds(records: &[u32], at: usize) -> Added
     let kind = kind_of(records[at]);
     let first = records[at + 1];
     match kind {
-        Kind::Memory => Added::Memory,
-        Kind::Output => output(Literal(first)),
-        Kind::FlipFlop => flip_flop(Literal(first), Literal(records[at + 2])),
-        Kind::StagedPin => Added::Code(Pin(first), 2),
+        Some(Kind::Memory) => Added::Memory,
+        Some(Kind::Output) => output(Literal(first)),
+        Some(Kind::FlipFlop) => flip_flop(Literal(first), Literal(records[at + 2])),
+        Some(Kind::StagedPin) => Added::Code(Pin(first), 2),
         // A whole record has a known kind.
-        Kind::Unknown => Added::Memory,
+        None => Added::Memory,
     }
 }
 
@@ -102,10 +95,7 @@ fn add_code(work: &mut [u32], m: usize, k: usize, p: Pin, code: usize) -> usize
         return 0;
     }
     link(work, m, k, p, head, code);
-    if head == 0 {
-        return 0;
-    }
-    1
+    usize::from(head != 0)
 }
 
 // The record that stands at `at`, with index k.
@@ -120,21 +110,15 @@ pub fn add_record(
     requires { Some (λ xs. CountAt m at k count xs records.now work.old) }
     ensures { Every (λ xs. CountAt m at k count xs records.now work.old) (λ xs. Counted m at k xs records.now work.old work.new result) }
 {
-    let memories = count.memories;
-    let duplicates = count.duplicates;
-    let added = adds(records, at);
-    match added {
+    match adds(records, at) {
         Added::Memory => Count {
-            memories: memories + 1,
-            duplicates: duplicates,
+            memories: count.memories + 1,
+            ..count
         },
-        Added::Code(p, code) => {
-            let more = add_code(work, m, k, p, code);
-            Count {
-                memories: memories,
-                duplicates: duplicates + more,
-            }
-        }
+        Added::Code(p, code) => Count {
+            duplicates: count.duplicates + add_code(work, m, k, p, code),
+            ..count
+        },
     }
 }
 
@@ -143,9 +127,7 @@ pub fn set_aside(count: Count) -> usize
     requires { Few count }
     ensures { SetAside count result }
 {
-    let memories = count.memories;
-    let duplicates = count.duplicates;
-    memories + (duplicates + 31) / 32
+    count.memories + count.duplicates.div_ceil(32)
 }
 
 // Do so many pass a limit?
@@ -153,28 +135,20 @@ pub fn over(count: Count, limit: usize) -> bool
     requires { Few count }
     ensures { Judged count limit result }
 {
-    if limit <= set_aside(count) {
-        return true;
-    }
-    limit < 4 * count.memories + count.duplicates
+    limit <= set_aside(count) || limit < 4 * count.memories + count.duplicates
 }
 
-// The words set aside for all records, or refusal 6 as soon as it is sure.
-pub fn reserve(records: &[u32], work: &mut [u32], m: usize, limit: usize) -> Reservation
+// The words set aside for all records, or none as soon as they are sure to be over: refusal 6.
+pub fn reserve(records: &[u32], work: &mut [u32], m: usize, limit: usize) -> Option<usize>
     requires { ReserveAt m records.now work.old }
     ensures { Reserved m limit (length records.now) (groups_of records.now) work.old work.new result }
 {
-    let mut count = Count {
-        memories: 0,
-        duplicates: 0,
-    };
-    let mut at = 0;
-    while at < records.len() {
+    let mut count = Count::default();
+    for at in starts(records) {
         count = add_record(records, work, m, at, at, count);
         if over(count, limit) {
-            return Reservation::Over;
+            return None;
         }
-        at += 1 + size_at(records, at);
     }
-    Reservation::Words(set_aside(count))
+    Some(set_aside(count))
 }

@@ -5,7 +5,7 @@ ghost use Rattle.placer_start.specs.Waiting.{PinWaits, RecordAt, RecordWaits, Wa
 
 use columns::wait;
 use graph::Pin;
-use records::{endpoint, size_at};
+use records::{endpoint, size_at, starts};
 
 // Pin p behind the n waiting pins, unless it is pin 0 or waits. Returns how many wait.
 fn wait_pin(work: &mut [u32], m: usize, n: usize, p: Pin) -> usize
@@ -25,10 +25,8 @@ pub fn wait_record(records: &[u32], work: &mut [u32], m: usize, n: usize, at: us
 {
     let size = size_at(records, at);
     let mut k = n;
-    let mut i = 0;
-    while i < size {
+    for i in 0..size {
         k = wait_pin(work, m, k, endpoint(records, at, i));
-        i += 1;
     }
     k
 }
@@ -39,10 +37,8 @@ pub fn wait_all(records: &[u32], work: &mut [u32], m: usize) -> usize
     ensures { AllWait m (groups_of records.now) work.old work.new result }
 {
     let mut n = 0;
-    let mut at = 0;
-    while at < records.len() {
+    for at in starts(records) {
         n = wait_record(records, work, m, n, at);
-        at += 1 + size_at(records, at);
     }
     n
 }

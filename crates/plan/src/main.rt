@@ -61,11 +61,10 @@ fn print<R: Read>(rt: &(impl Print + Eprint), from: &mut R) -> io::Result<()> {
         eprintln!(rt; "plan: the file is longer than 8192 bytes")?;
     }
     let mut text: [u8; TEXT] = [0; TEXT];
-    let w = job_text(&bytes[..n], &mut text);
-    if w.number != 0 {
-        eprintln!(rt; "plan: the listing is longer than 98304 bytes")?;
+    match job_text(&bytes[..n], &mut text) {
+        Ok(length) => show(rt, &text, length),
+        Err(_) => eprintln!(rt; "plan: the listing is longer than 98304 bytes"),
     }
-    show(rt, &text, w.length)
 }
 
 // The first n bytes.

@@ -1,9 +1,10 @@
 -- The answer of the check. Assumes nothing.
-use Rattle.std.specs.Prelude.{ℕ, zero, suc, Bool, ◌&&◌, List, leb, length}
+use Rattle.std.specs.Prelude.{ℕ, zero, suc, Bool, ◌&&◌, Result, Ok, Err, List, leb, length}
 use Rattle.rules.specs.Cells.{rooms}
 use Rattle.rules.specs.Checks.{plan_sized, refusal_of, pin_shown}
 use Rattle.rules.specs.Faults.{Fault, faultless, fault_at, fault}
-use Rattle.plan_check.specs.declared.Answer.{Answer}
+use Rattle.refusals.specs.Numbers.{number_of, pin_of}
+use Rattle.plan_check.specs.declared.Refused.{Refused}
 
 -- a plan of whole stages that has so many, and as many counts; the word area may have any length
 unfoldable pub plan_fits : ℕ → (plan counts stages : ℕ) → Bool
@@ -29,5 +30,6 @@ plan_checker K gates given records plan words counts n =
     ]
 
 -- an answer as the rules have it
-unfoldable pub outcome : Answer → Checked
-outcome a = record { number = a.number; stage = a.stage; position = a.position; pin = a.pin.0 }
+unfoldable pub outcome : Result (Unit {0}) Refused → Checked
+outcome (Ok u) = record { number = 0; stage = 0; position = 0; pin = 0 }
+outcome (Err r) = record { number = number_of r.why; stage = r.stage; position = r.position; pin = pin_of r.why }

@@ -1,5 +1,5 @@
 // Stage after stage. `given` and `written` have a mark a pin, `looks` one for each pin that the stage before holds above level 0.
-ghost use Rattle.std.specs.Prelude.{◌≡◌, true, false, ◌+◌, ◌-◌, ◌^◌};
+ghost use Rattle.std.specs.Prelude.{◌+◌, ◌^◌};
 ghost use Rattle.rules.specs.Graph.{graph_of};
 ghost use Rattle.plan_check_stage.specs.Cells.{StageHere};
 ghost use Rattle.plan_check.specs.Stages.{StageSays, StepSays, TurnAt, Forgets, Held, FirstAt, FirstSays, LastAt, LastSays, MarkedAt, MarkedSays, PlanAt, PlanSays};
@@ -12,32 +12,11 @@ use plan_check_stage::ending::{end_right, mark_words};
 use plan_check_stage::marks::mark_cells;
 use plan_check_stage::right::first_wrong;
 
-// Where the first fault is, if there is one.
+// Where the first fault is.
 #[derive(Clone, Copy)]
 pub struct Place {
-    pub wrong: bool,
     pub stage: usize,
     pub position: usize,
-}
-
-fn nowhere() -> Place
-    ensures { result ≡ record { wrong = false; stage = 0; position = 0 } }
-{
-    Place {
-        wrong: false,
-        stage: 0,
-        position: 0,
-    }
-}
-
-fn somewhere(stage: usize, position: usize) -> Place
-    ensures { result ≡ record { wrong = true; stage = stage; position = position } }
-{
-    Place {
-        wrong: true,
-        stage: stage,
-        position: position,
-    }
 }
 
 // The fault of stage k, which may write `room` words more.
@@ -51,18 +30,21 @@ fn stage_place(
     words: &[u32],
     count: usize,
     room: usize,
-) -> Place
+) -> Result<(), Place>
     requires { StageHere height.0 cells.now }
     ensures { StageSays height.0 (graph_of gates.now) given.now looks.now k cells.now words.now count room result }
 {
-    let p = first_wrong(height, gates, given, looks, k == 1, cells);
-    if p != 0 {
-        return somewhere(k, p);
+    if let Some(position) = first_wrong(height, gates, given, looks, k == 1, cells) {
+        return Err(Place { stage: k, position });
     }
     if end_right(height, cells, words, count, room) {
-        return nowhere();
+        Ok(())
+    } else {
+        Err(Place {
+            stage: k,
+            position: 0,
+        })
     }
-    somewhere(k, 0)
 }
 
 // The same, with marks of the pins that its words hold, if it has none.
@@ -77,16 +59,13 @@ fn stage_step(
     count: usize,
     room: usize,
     written: &mut [u8],
-) -> Place
+) -> Result<(), Place>
     requires { StageHere height.0 cells.now }
     ensures { StepSays height.0 (graph_of gates.now) given.now looks.now k cells.now words.now count room written.old written.new result }
 {
-    let place = stage_place(height, gates, given, looks, k, cells, words, count, room);
-    if place.wrong {
-        return place;
-    }
+    stage_place(height, gates, given, looks, k, cells, words, count, room)?;
     mark_words(cells, words, count, written);
-    place
+    Ok(())
 }
 
 // The loads of the stage at `at` lose their marks.
@@ -126,19 +105,18 @@ fn first_place(
     room: usize,
     looks: &mut [u8],
     written: &mut [u8],
-) -> Place
+) -> Result<(), Place>
     requires { FirstAt height.0 gates.now plan.now counts.now stages looks.old written.old }
     ensures { FirstSays height.0 (graph_of gates.now) given.now plan.now words.now counts.now stages room written.new result }
 {
     let size = height.stage_size();
-    let mut k = 0;
     let mut at = 0;
     let mut from = 0;
     let mut left = room;
-    while k < stages {
+    for k in 0..stages {
         let count = wide(counts[k]);
         let end = at + size;
-        let place = stage_step(
+        stage_step(
             height,
             gates,
             given,
@@ -149,42 +127,27 @@ fn first_place(
             count,
             left,
             written,
-        );
-        if place.wrong {
-            return place;
-        }
+        )?;
         turn(height, plan, at, looks);
         at = end;
         from += count;
         left -= count;
-        k += 1;
     }
-    nowhere()
+    Ok(())
 }
 
 // Last of all: the reservation fits, and every endpoint is written.
-fn last_place(height: Height, records: &[u32], count: Count, written: &[u8]) -> Place
+fn last_place(height: Height, records: &[u32], count: Count, written: &[u8]) -> Result<(), Place>
     requires { LastAt height.0 records.now count }
     ensures { LastSays height.0 records.now written.now result }
 {
-    if over(count, height.word_limit()) {
-        return somewhere(0, 0);
+    if over(count, height.word_limit()) || !all_written(records, written) {
+        return Err(Place {
+            stage: 0,
+            position: 0,
+        });
     }
-    if all_written(records, written) {
-        return nowhere();
-    }
-    somewhere(0, 0)
-}
-
-// The words that may be written: none if as many or more are reserved.
-fn room_left(limit: usize, reserved: usize) -> usize
-    ensures { result ≡ limit - reserved }
-{
-    if limit <= reserved {
-        0
-    } else {
-        limit - reserved
-    }
+    Ok(())
 }
 
 // The same with the given pins' marks, in areas of zeros.
@@ -200,17 +163,14 @@ fn marked_place(
     count: Count,
     looks: &mut [u8],
     written: &mut [u8],
-) -> Place
+) -> Result<(), Place>
     requires { MarkedAt height.0 gates.now records.now plan.now counts.now stages count looks.old written.old }
     ensures { MarkedSays height.0 gates.now given.now records.now plan.now words.now counts.now stages result }
 {
-    let room = room_left(height.word_limit(), set_aside(count));
-    let place = first_place(
+    let room = height.word_limit().saturating_sub(set_aside(count));
+    first_place(
         height, gates, given, plan, words, counts, stages, room, looks, written,
-    );
-    if place.wrong {
-        return place;
-    }
+    )?;
     last_place(height, records, count, written)
 }
 
@@ -225,7 +185,7 @@ pub fn plan_place(
     counts: &[u32],
     stages: usize,
     count: Count,
-) -> Place
+) -> Result<(), Place>
     requires { PlanAt height.0 gates.now given.now records.now plan.now counts.now stages count }
     ensures { PlanSays height.0 gates.now given.now records.now plan.now words.now counts.now stages result }
 {

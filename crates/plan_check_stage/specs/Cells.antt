@@ -1,5 +1,5 @@
 -- What is asked and said of a stage's cells. The given pins are those that have marks. Assumes nothing.
-use Rattle.std.specs.Prelude.{ℕ, zero, suc, ◌+◌, ◌-◌, ◌*◌, ◌^◌, ◌≤◌, ◌<◌, ◌≡◌, Bool, true, false, List, length, get_or}
+use Rattle.std.specs.Prelude.{ℕ, ◌+◌, ◌-◌, ◌*◌, ◌^◌, ◌≤◌, ◌<◌, ◌≡◌, Bool, true, false, Option, Some, None, List, length, get_or}
 use Rattle.rules.specs.Lists.{Found, nothing, found, mem}
 use Rattle.rules.specs.Cells.{is_height, stage_size, word_limit}
 use Rattle.rules.specs.Graph.{Node, leaf}
@@ -47,10 +47,10 @@ pub record Loads (g : List Node) (marks looks : List ℕ) (first : Bool) (n : �
 pub record CellRight (K : ℕ) (g : List Node) (marks looks : List ℕ) (first : Bool) (cells : List ℕ) (p : ℕ) (r : Bool) : Type 0 where
   pub is : (given : List ℕ) → Gives given marks → r ≡ right_at K g given (may_of first g given looks) cells p
 
--- a position from 1 on, or 0 for none
-unfoldable pub place_of : ℕ → Found
-place_of zero = nothing
-place_of (suc p) = found (suc p)
+-- a position, if there is one
+unfoldable pub place_of : Option ℕ → Found
+place_of None = nothing
+place_of (Some p) = found p
 
-pub record FirstWrong (K : ℕ) (g : List Node) (marks looks : List ℕ) (first : Bool) (cells : List ℕ) (r : ℕ) : Type 0 where
+pub record FirstWrong (K : ℕ) (g : List Node) (marks looks : List ℕ) (first : Bool) (cells : List ℕ) (r : Option ℕ) : Type 0 where
   pub is : (given : List ℕ) → Gives given marks → first_not (right_at K g given (may_of first g given looks) cells) (stage_size K - 1) 1 ≡ place_of r

@@ -2,7 +2,6 @@
 use Rattle.std.specs.Prelude.{ℕ, ◌+◌, ◌*◌, ◌≤◌, ◌<◌, ◌≡◌, Bool, true, ◌||◌, List, map, length, get_or}
 use Rattle.rules.specs.Lists.{every, up_to}
 use Rattle.rules.specs.Cells.{empty, word_limit, word_fits, row, first_empty}
-use Rattle.rules.specs.Build.{Stage}
 use Rattle.rules.specs.Faults.{is_found, end_right, holds_in}
 use Rattle.plan_check_stage.specs.Marks.{marked}
 

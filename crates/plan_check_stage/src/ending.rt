@@ -1,7 +1,7 @@
 // The end of a stage: position 0, the empty cell of level 1, the words; and the pins that the words hold.
-ghost use Rattle.std.specs.Prelude.{◌≡◌};
-ghost use Rattle.rules.specs.Cells.{first_empty};
-ghost use Rattle.rules.specs.Faults.{is_found};
+ghost use Rattle.std.specs.Prelude.{◌≡◌, ltb, not};
+ghost use Rattle.std.specs.List.{list_any, list_all};
+ghost use Rattle.rules.specs.Cells.{filled};
 ghost use Rattle.plan_check_stage.specs.Cells.{High, StageHere};
 ghost use Rattle.plan_check_stage.specs.Ending.{HasFree, WordsRight, EndRight, WordsAt, WordsMark};
 
@@ -11,16 +11,9 @@ use cells::Height;
 use graph::wide;
 
 fn has_empty(cells: &[u32]) -> bool
-    ensures { result ≡ is_found (first_empty 0 cells.now) }
+    ensures { result ≡ list_any (λ c. not (filled c)) cells.now }
 {
-    let mut i = 0;
-    while i < cells.len() {
-        if Cell(cells[i]).is_empty() {
-            return true;
-        }
-        i += 1;
-    }
-    false
+    cells.iter().any(|c| Cell(*c).is_empty())
 }
 
 // Does level 1 keep an empty cell?
@@ -33,23 +26,21 @@ fn has_free(height: Height, cells: &[u32]) -> bool
     has_empty(&cells[from..to])
 }
 
+fn all_below(words: &[u32], limit: usize) -> bool
+    ensures { result ≡ list_all (λ x. ltb x limit) words.now }
+{
+    words.iter().all(|w| wide(*w) < limit)
+}
+
 // Are so many words there, and words of this height?
 fn words_right(height: Height, words: &[u32], count: usize) -> bool
     requires { High height.0 }
     ensures { WordsRight height.0 words.now count result }
 {
-    let limit = height.word_limit();
-    let mut i = 0;
-    while i < count {
-        if words.len() <= i {
-            return false;
-        }
-        if limit <= wide(words[i]) {
-            return false;
-        }
-        i += 1;
+    if words.len() < count {
+        return false;
     }
-    true
+    all_below(&words[..count], height.word_limit())
 }
 
 // What stands at position 0 of a stage that may still write `room` words.
@@ -74,11 +65,8 @@ pub fn mark_words(cells: &[u32], words: &[u32], count: usize, marks: &mut [u8])
     requires { WordsAt cells.now words.now count }
     ensures { WordsMark cells.now words.now count marks.old marks.new }
 {
-    let mut i = 0;
-    while i < count {
-        let at = 32 * wide(words[i]);
-        let end = at + 32;
-        mark_cells(&cells[at..end], marks, 1);
-        i += 1;
+    for word in &words[..count] {
+        let at = 32 * wide(*word);
+        mark_cells(&cells[at..at + 32], marks, 1);
     }
 }

@@ -11,20 +11,15 @@ pub fn has_mark(marks: &[u8], p: Pin) -> bool
     ensures { result ≡ marked marks.now p.0 }
 {
     let i = p.index();
-    if marks.len() <= i {
-        return false;
-    }
-    marks[i] != 0
+    i < marks.len() && marks[i] != 0
 }
 
 // The pins of some cells get mark v: 0 takes their marks away.
 pub fn mark_cells(cells: &[u32], marks: &mut [u8], v: u8)
     ensures { Marks (pins cells.now) v marks.old marks.new }
 {
-    let mut i = 0;
-    while i < cells.len() {
-        let p = Cell(cells[i]).pin().index();
-        i += 1;
+    for c in cells {
+        let p = Cell(*c).pin().index();
         if p < marks.len() {
             marks[p] = v;
         }

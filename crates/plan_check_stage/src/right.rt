@@ -25,10 +25,7 @@ fn splits(node: Node, cell: Cell, first: Pin, second: Pin) -> bool
             if cell.0 != right.0 {
                 return false;
             }
-            if first.0 != pin_of(a).0 {
-                return false;
-            }
-            second.0 == pin_of(b).0
+            first.0 == pin_of(a).0 && second.0 == pin_of(b).0
         }
     }
 }
@@ -42,32 +39,24 @@ fn right_above(gates: &[u32], given: &[u8], cell: Cell, first: Pin, second: Pin)
     if cell.0 == pin.0 {
         return first.0 == pin.0;
     }
-    if has_mark(given, pin) {
-        return false;
-    }
-    splits(node_at(gates, pin), cell, first, second)
+    !has_mark(given, pin) && splits(node_at(gates, pin), cell, first, second)
 }
 
 fn is_leaf(gates: &[u32], pin: Pin) -> bool
     ensures { Loadable (graph_of gates.now) pin.0 result }
 {
-    match node_at(gates, pin) {
-        Node::Leaf => true,
-        Node::Gate(_, _) => false,
-    }
+    matches!(node_at(gates, pin), Node::Leaf)
 }
 
 // May a pin be loaded, in stage 1 or in a later one?
 fn may_load(gates: &[u32], given: &[u8], looks: &[u8], first: bool, pin: Pin) -> bool
     ensures { Loads (graph_of gates.now) given.now looks.now first pin.0 result }
 {
-    if !first {
-        return has_mark(looks, pin);
+    if first {
+        has_mark(given, pin) || is_leaf(gates, pin)
+    } else {
+        has_mark(looks, pin)
     }
-    if has_mark(given, pin) {
-        return true;
-    }
-    is_leaf(gates, pin)
 }
 
 // Is the cell at position p right, if it is filled?
@@ -89,10 +78,7 @@ fn right_at(
     }
     let pin = cell.pin();
     let i = pin.index();
-    if i == 0 {
-        return false;
-    }
-    if pin_count(gates) <= i {
+    if i == 0 || pin_count(gates) <= i {
         return false;
     }
     if p < height.width() {
@@ -106,13 +92,10 @@ fn right_at(
             Cell(cells[y]).pin(),
         );
     }
-    if cell.0 != pin.0 {
-        return false;
-    }
-    may_load(gates, given, looks, first, pin)
+    cell.0 == pin.0 && may_load(gates, given, looks, first, pin)
 }
 
-// The first position of a stage whose cell is not right; 0 if there is none.
+// The first position of a stage whose cell is not right.
 pub fn first_wrong(
     height: Height,
     gates: &[u32],
@@ -120,16 +103,14 @@ pub fn first_wrong(
     looks: &[u8],
     first: bool,
     cells: &[u32],
-) -> usize
+) -> Option<usize>
     requires { StageHere height.0 cells.now }
     ensures { FirstWrong height.0 (graph_of gates.now) given.now looks.now first cells.now result }
 {
-    let mut p = 1;
-    while p < cells.len() {
+    for p in 1..cells.len() {
         if !right_at(height, gates, given, looks, first, cells, p) {
-            return p;
+            return Some(p);
         }
-        p += 1;
     }
-    0
+    None
 }

@@ -8,17 +8,17 @@ use native.Mathlib.Omega.{arith}
 use lib.Dec.{leb}
 use lib.ListN.{length, get_or, length-append}
 use borrow.Author.Tests.{leb-true, le-leb}
-use Rattle.rules.specs.Cells.{empty, filled, is_height, stage_size, rooms, word_limit}
-use Rattle.rules.specs.Graph.{graph_of, pin_count}
+use Rattle.rules.specs.Cells.{empty, filled, stage_size, rooms, word_limit}
+use Rattle.rules.specs.Graph.{graph_of}
 use Rattle.rules.specs.Records.{groups_of, Ends}
 use Rattle.rules.specs.Reservation.{reserved}
-use Rattle.rules.specs.Checks.{plan_sized, areas_sized, graph_right, loops_right, records_right, given_right, refusal_of}
+use Rattle.rules.specs.Checks.{plan_sized, areas_sized, refusal_of}
 use Rattle.rules.specs.Coded.{cell_pin, fold_cells}
 use Rattle.rules.specs.Fold.{as_number}
 use Rattle.rules.specs.Build as build
 use Rattle.rules.specs.Faults as rules
 use Rattle.rules.specs.Faults.{Fault, faultless, fault_at, first_may, fault_from, last_right, cut}
-use Rattle.rules.proofs.Lists.Members.{split, and_true}
+use Rattle.rules.proofs.Lists.Members.{and_true}
 use Rattle.coded.specs.Inputs.{Input, graph_value}
 use Rattle.coded.specs.Reading.{Read}
 use Rattle.coded.specs.Faults.{Faulty}
@@ -31,11 +31,11 @@ use Rattle.plan_check.specs.Answers.{plan_fits, Checked, judged, plan_checker, o
 use Rattle.theorems.proofs.Calls as theorems
 use Rattle.theorems.specs.Inputs as inputs
 use Rattle.theorems.proofs.Folding.{few, area_length}
-use Rattle.plan_checked.specs.Calls.{Check, refused, fault, input}
+use Rattle.plan_checked.specs.Calls.{Check, told, refused, fault, input}
 
 -- ---- the answer's number
 
-number_refused : (C : Check) (n : ℕ) → refused C ≡ suc n → C.answer.number ≡ suc n
+number_refused : (C : Check) (n : ℕ) → refused C ≡ suc n → (told C).number ≡ suc n
 unfolding outcome plan_checker
 number_refused C n e = ap (λ (o : Checked). o.number) (rw (e, plan_checker) at C.ensures)
 
@@ -43,28 +43,13 @@ judged_fault : (C : Check) → refused C ≡ 0 → outcome C.answer ≡ judged (
 unfolding plan_checker
 judged_fault C e = rw (e, plan_checker) at C.ensures
 
-refused_few : (K : ℕ) (s : Bool) (gates given records : List ℕ) → (refusal_of K s gates given records ≤ 5) ⊎ (refusal_of K s gates given records ≡ 23)
-unfolding refusal_of
-refused_few K s gates given records =
-    split (is_height K)
-    (λ h. split s
-    (λ a. split (graph_right gates)
-    (λ g. split (loops_right gates)
-    (λ l. split (records_right (pin_count gates) records)
-    (λ r. split (given_right (pin_count gates) given) (λ v. rw (h, a, g, l, r, v, refusal_of) (inl (omega arith))) (λ v. rw (h, a, g, l, r, v, refusal_of) (inl (omega arith))))
-    (λ r. rw (h, a, g, l, r, refusal_of) (inl (omega arith))))
-    (λ l. rw (h, a, g, l, refusal_of) (inr refl)))
-    (λ g. rw (h, a, g, refusal_of) (inl (omega arith))))
-    (λ a. rw (h, a, refusal_of) (inl (omega arith))))
-    (λ h. rw (h, refusal_of) (inl (omega arith)))
-
 -- a number that is no refusal's passed the checks
-passes : (C : Check) (n : ℕ) → C.answer.number ≡ n → (n ≡ 0) ⊎ (n ≡ 22) → refused C ≡ 0
+passes : (C : Check) (n : ℕ) → (told C).number ≡ n → (n ≡ 0) ⊎ (n ≡ 22) → refused C ≡ 0
 passes C n z k = go (refused C) refl
   where
     go : (m : ℕ) → refused C ≡ m → m ≡ 0
     go zero e = refl
-    go (suc m) e = absurd (elim (refused_few C.height (plan_fits C.height (length C.plan) (length C.counts) C.stages) C.gates C.given C.records) [
+    go (suc m) e = absurd (elim (theorems.checked_few C.height (plan_fits C.height (length C.plan) (length C.counts) C.stages) C.gates C.given C.records) [
       | inl a ↦ elim k [ inl d ↦ omega (arith, number_refused C m e) | inr d ↦ omega (arith, number_refused C m e) ]
       | inr a ↦ elim k [ inl d ↦ omega (arith, number_refused C m e) | inr d ↦ omega (arith, number_refused C m e) ]
     ])
@@ -72,14 +57,14 @@ passes C n z k = go (refused C) refl
 -- ---- an accepted plan
 
 -- An answer of 0 passed the checks, and the plan has no fault.
-pub accepted : (C : Check) → C.answer.number ≡ 0 → (refused C ≡ 0) × (fault C ≡ faultless)
+pub accepted : (C : Check) → (told C).number ≡ 0 → (refused C ≡ 0) × (fault C ≡ faultless)
 unfolding outcome judged
 accepted C z =
     let e = passes C 0 z (inl refl) in
     let E = judged_fault C e in
     (e, fault_cases (fault C) (λ a. a) (λ k p a. absurd (let d : 22 ≡ 0 = sym (ap (λ (o : Checked). o.number) (E ∙ ap judged a)) ∙ z in omega arith)))
 
-module _ (C : Check) (z : C.answer.number ≡ 0) where
+module _ (C : Check) (z : (told C).number ≡ 0) where
   abbrev I : Input
   I = input C (accepted C z).0
 
@@ -104,30 +89,33 @@ module _ (C : Check) (z : C.answer.number ≡ 0) where
 
 -- An answer of 22 is a fault of that stage at that position, the first in the order; or, where no stage has one, the reservation is over or an
 -- endpoint is not written.
-pub real : (C : Check) → C.answer.number ≡ 22 →
+pub real : (C : Check) → (told C).number ≡ 22 →
     Faulty C.height (graph_of C.gates) C.given (first_may (graph_of C.gates) C.given) (word_limit C.height - reserved (groups_of C.records)) 1
-    (cut C.stages C.height C.plan C.words C.counts) C.answer.stage C.answer.position
-    ⊎ ((fault_from C.height (graph_of C.gates) C.given (first_may (graph_of C.gates) C.given) (word_limit C.height - reserved (groups_of C.records)) 1 (cut C.stages C.height C.plan C.words C.counts) ≡ faultless)
-    × (last_right C.height (groups_of C.records) (cut C.stages C.height C.plan C.words C.counts) ≡ false) × (C.answer.stage ≡ 0) × (C.answer.position ≡ 0))
+    (cut C.stages C.height C.plan C.words C.counts) (told C).stage (told C).position
+    ⊎ ((fault_from C.height (graph_of C.gates) C.given (first_may (graph_of C.gates) C.given) (word_limit C.height - reserved (groups_of C.records)) 1
+    (cut C.stages C.height C.plan C.words C.counts) ≡ faultless)
+    × (last_right C.height (groups_of C.records) (cut C.stages C.height C.plan C.words C.counts) ≡ false) × ((told C).stage ≡ 0) × ((told C).position ≡ 0))
 unfolding outcome judged rules.fault
 real C z =
     let E = judged_fault C (passes C 22 z (inr refl)) in
-    fault_real C.height (graph_of C.gates) C.given (groups_of C.records) (cut C.stages C.height C.plan C.words C.counts) C.answer.stage C.answer.position
+    fault_real C.height (graph_of C.gates) C.given (groups_of C.records) (cut C.stages C.height C.plan C.words C.counts) (told C).stage (told C).position
     (fault_cases (fault C)
     (λ a. absurd (let d : 0 ≡ 22 = sym (ap (λ (o : Checked). o.number) (E ∙ ap judged a)) ∙ z in omega arith))
     (λ k p a.
-    let s : C.answer.stage ≡ k = ap (λ (o : Checked). o.stage) (E ∙ ap judged a) in
-    let t : C.answer.position ≡ p = ap (λ (o : Checked). o.position) (E ∙ ap judged a) in
+    let s : (told C).stage ≡ k = ap (λ (o : Checked). o.stage) (E ∙ ap judged a) in
+    let t : (told C).position ≡ p = ap (λ (o : Checked). o.position) (E ∙ ap judged a) in
     rw (s, t) a))
 
 -- ---- what the placer built
 
-same_fault : (K : ℕ) (gates given records : List ℕ) {p q w v c d : List ℕ} {n m : ℕ} → p ≡ q → w ≡ v → c ≡ d → n ≡ m → rules.fault K gates given records q v d m ≡ faultless → rules.fault K gates given records p w c n ≡ faultless
+same_fault : (K : ℕ) (gates given records : List ℕ) {p q w v c d : List ℕ} {n m : ℕ} → p ≡ q → w ≡ v → c ≡ d → n ≡ m →
+    rules.fault K gates given records q v d m ≡ faultless → rules.fault K gates given records p w c n ≡ faultless
 same_fault K gates given records ep ew ec en h = rw (ep, ew, ec, en) h
 
 module _ (B : theorems.Call) (W : theorems.Whole B) where
-  own_faultless : rules.fault B.height B.gates B.given B.records B.exit.plan B.exit.words B.exit.counts B.answer.stages ≡ faultless
-  own_faultless = same_fault B.height B.gates B.given B.records W.plan W.words W.counts W.stages (built_accepted B.rule (inputs.plain (theorems.input B W.passes)) (length B.entry.plan) W.ss W.built W.behind W.after)
+  own_faultless : rules.fault B.height B.gates B.given B.records B.exit.plan B.exit.words B.exit.counts (theorems.reply B).stages ≡ faultless
+  own_faultless = same_fault B.height B.gates B.given B.records W.plan W.words W.counts W.stages
+      (built_accepted B.rule (inputs.plain (theorems.input B W.passes)) (length B.entry.plan) W.ss W.built W.behind W.after)
 
   abbrev sized : Bool
   sized = build.sizes_right B.height B.gates B.records B.entry
@@ -151,19 +139,19 @@ module _ (B : theorems.Call) (W : theorems.Whole B) where
   counts_length [] = refl
   counts_length (s ∷ ss) = ap suc (counts_length ss)
 
-  own_sized : plan_fits B.height (length B.exit.plan) (length B.exit.counts) B.answer.stages ≡ true
+  own_sized : plan_fits B.height (length B.exit.plan) (length B.exit.counts) (theorems.reply B).stages ≡ true
   unfolding plan_fits
   own_sized =
       let f = few (theorems.input B W.passes) (length B.entry.plan) W.ss W.built in
       let c : length W.ss ≤ length B.exit.counts = omega (arith, ap length W.counts ∙ length-append (build.counts_of W.ss) W.after, counts_length W.ss) in
       rw (plan_length, entry_sized, W.stages, le-leb (length W.ss) (rooms B.height (length B.entry.plan)) f, le-leb (length W.ss) (length B.exit.counts) c)
 
-  own_passes : refusal_of B.height (plan_fits B.height (length B.exit.plan) (length B.exit.counts) B.answer.stages) B.gates B.given B.records ≡ 0
+  own_passes : refusal_of B.height (plan_fits B.height (length B.exit.plan) (length B.exit.counts) (theorems.reply B).stages) B.gates B.given B.records ≡ 0
   own_passes = ap (λ (b : Bool). refusal_of B.height b B.gates B.given B.records) (own_sized ∙ sym all.areas) ∙ W.passes
 
 -- What a build left with an answer of 0, under either word rule, is answered 0 at the same height, gates, given pins and records, with its stages.
-pub built_checks : (B : theorems.Call) → B.answer.number ≡ 0 → (C : Check) → C.height ≡ B.height → C.gates ≡ B.gates → C.given ≡ B.given → C.records ≡ B.records →
-    C.plan ≡ B.exit.plan → C.words ≡ B.exit.words → C.counts ≡ B.exit.counts → C.stages ≡ B.answer.stages → C.answer.number ≡ 0
+pub built_checks : (B : theorems.Call) → (theorems.reply B).number ≡ 0 → (C : Check) → C.height ≡ B.height → C.gates ≡ B.gates → C.given ≡ B.given → C.records ≡ B.records →
+    C.plan ≡ B.exit.plan → C.words ≡ B.exit.words → C.counts ≡ B.exit.counts → C.stages ≡ (theorems.reply B).stages → (told C).number ≡ 0
 unfolding outcome judged
 built_checks B z C eh eg ev er ep ew ec es =
     let W = theorems.whole B z in

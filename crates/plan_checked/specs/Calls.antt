@@ -1,10 +1,10 @@
 -- A call of the check of a plan. Assumes nothing.
-use Rattle.std.specs.Prelude.{ℕ, ◌≡◌, List, length}
+use Rattle.std.specs.Prelude.{ℕ, Result, ◌≡◌, List, length}
 use Rattle.rules.specs.Checks.{refusal_of}
 use Rattle.rules.specs.Faults as rules
 use Rattle.coded.specs.Inputs.{Input}
-use Rattle.plan_check.specs.declared.Answer.{Answer}
-use Rattle.plan_check.specs.Answers.{plan_fits, plan_checker, outcome}
+use Rattle.plan_check.specs.declared.Refused.{Refused}
+use Rattle.plan_check.specs.Answers.{Checked, plan_fits, plan_checker, outcome}
 
 -- by its contract
 pub record Check : Type 0 where
@@ -16,8 +16,12 @@ pub record Check : Type 0 where
   pub words : List ℕ
   pub counts : List ℕ
   pub stages : ℕ
-  pub answer : Answer
+  pub answer : Result (Unit {0}) Refused
   pub ensures : outcome answer ≡ plan_checker height gates given records plan words counts stages
+
+-- what it answers, as the rules have it
+abbrev pub told : Check → Checked
+told C = outcome C.answer
 
 -- the number of its first refusal by a check, or 0
 abbrev pub refused : Check → ℕ

@@ -5,15 +5,15 @@
 ghost use Rattle.std.specs.Prelude.{◌≡◌};
 ghost use Rattle.rules.specs.Traversal.{needed_runs};
 ghost use Rattle.rules.specs.Listing.{job_text, printed};
-ghost use Rattle.listing.specs.Listing.{outcome, written};
+ghost use Rattle.listing.specs.Listing.{told, written};
 ghost use Rattle.program.specs.Sizes.{job_of, Fits, AreasAt, BuildAt, ReadAt};
 
 use cells::Height;
 use graph::Pin;
 use job::read;
-use listing::{Written, answer_text, refused};
+use listing::{listing, refused};
 use placer::build;
-use refusals::NO_JOB;
+use refusals::Refusal;
 
 // A job built in these areas, with four rooms of its height, and its text.
 fn built_text(
@@ -26,15 +26,14 @@ fn built_text(
     counts: &mut [u32],
     work: &mut [u32],
     out: &mut [u8],
-) -> Written
+) -> Result<usize, Refusal>
     requires { BuildAt height gates.now records.now plan.old words.old counts.old work.old }
-    ensures { outcome result.number result.length out.new ≡ written (job_text needed_runs (job_of height gates.now given.now records.now)) out.old }
+    ensures { told result out.new ≡ written (job_text needed_runs (job_of height gates.now given.now records.now)) out.old }
 {
-    let a = build(height, gates, given, records, plan, words, counts, work);
-    let pin = a.pin;
-    answer_text(
-        height, a.number, a.stages, a.stage, pin, plan, words, counts, out,
-    )
+    match build(height, gates, given, records, plan, words, counts, work) {
+        Ok(built) => listing(height, built.stages, plan, words, counts, out),
+        Err(e) => refused(e.why.number(), e.stage, e.why.pin(), out),
+    }
 }
 
 // The same in areas for any job of the program's sizes.
@@ -48,9 +47,9 @@ fn text_in(
     counts: &mut [u32],
     work: &mut [u32],
     out: &mut [u8],
-) -> Written
+) -> Result<usize, Refusal>
     requires { AreasAt height gates.now records.now plan.old words.old counts.old work.old }
-    ensures { outcome result.number result.length out.new ≡ written (job_text needed_runs (job_of height gates.now given.now records.now)) out.old }
+    ensures { told result out.new ≡ written (job_text needed_runs (job_of height gates.now given.now records.now)) out.old }
 {
     let size = 4 * Height(height).stage_size();
     built_text(
@@ -67,9 +66,15 @@ fn text_in(
 }
 
 // The text of a job of the program's sizes.
-fn text_of(height: u32, gates: &[u32], given: &[u32], records: &[u32], out: &mut [u8]) -> Written
+fn text_of(
+    height: u32,
+    gates: &[u32],
+    given: &[u32],
+    records: &[u32],
+    out: &mut [u8],
+) -> Result<usize, Refusal>
     requires { Fits height gates.now records.now }
-    ensures { outcome result.number result.length out.new ≡ written (job_text needed_runs (job_of height gates.now given.now records.now)) out.old }
+    ensures { told result out.new ≡ written (job_text needed_runs (job_of height gates.now given.now records.now)) out.old }
 {
     let mut plan: [u32; 8192] = [0; 8192];
     let mut words: [u32; 32] = [0; 32];
@@ -95,23 +100,25 @@ fn read_text(
     given: &mut [u32],
     records: &mut [u32],
     out: &mut [u8],
-) -> Written
+) -> Result<usize, Refusal>
     requires { ReadAt gates.old given.old records.old }
-    ensures { outcome result.number result.length out.new ≡ written (printed needed_runs bytes.now) out.old }
+    ensures { told result out.new ≡ written (printed needed_runs bytes.now) out.old }
 {
-    let a = read(bytes, gates, given, records);
-    if a.number != 0 {
-        return refused(NO_JOB, 0, Pin(0), out);
+    match read(bytes, gates, given, records) {
+        Ok(job) => text_of(
+            job.height,
+            &gates[..job.gates],
+            &given[..job.given],
+            &records[..job.records],
+            out,
+        ),
+        Err(_) => refused(Refusal::NoJob.number(), 0, Pin(0), out),
     }
-    let g = a.gates;
-    let n = a.given;
-    let e = a.records;
-    text_of(a.height, &gates[0..g], &given[0..n], &records[0..e], out)
 }
 
-// What the program prints for a file's bytes, over the front of `out`; 2 and nothing changed where that is too short.
-pub fn job_text(bytes: &[u8], out: &mut [u8]) -> Written
-    ensures { outcome result.number result.length out.new ≡ written (printed needed_runs bytes.now) out.old }
+// What the program prints for a file's bytes, over the front of `out`. Answers its length; refused with 2, with nothing changed, where `out` is too short.
+pub fn job_text(bytes: &[u8], out: &mut [u8]) -> Result<usize, Refusal>
+    ensures { told result out.new ≡ written (printed needed_runs bytes.now) out.old }
 {
     let mut gates: [u32; 1002] = [0; 1002];
     let mut given: [u32; 4096] = [0; 4096];

@@ -1,18 +1,22 @@
 -- Endpoint records for any numbers: what the enum of kinds stands for, and what is read where no whole record stands. Assumes nothing.
-use Rattle.std.specs.Prelude.{ℕ, Bool, List, [], ◌∷◌, ltb, get_or, drop}
+use Rattle.std.specs.Prelude.{ℕ, Option, Some, None, Bool, List, [], ◌∷◌, ltb, get_or, drop}
 use Rattle.rules.specs.Lists.{every}
 use Rattle.rules.specs.Records.{size_of, group_at, whole_at, endpoints_of}
 use Rattle.cells.specs.Answers.{or_zero}
 use Rattle.records.specs.declared.Kind.{Kind}
-use Rattle.records.specs.declared.Kind.TheVariants.{Output, FlipFlop, Memory, StagedPin, Unknown}
+use Rattle.records.specs.declared.Kind.TheVariants.{Output, FlipFlop, Memory, StagedPin}
 
--- the kind's number; 0 for an unknown one
+-- the kind's number
 unfoldable pub number_of : Kind → ℕ
 number_of Output = 1
 number_of FlipFlop = 2
 number_of Memory = 3
 number_of StagedPin = 4
-number_of Unknown = 0
+
+-- the same, 0 for no kind
+unfoldable pub number_or_zero : Option Kind → ℕ
+number_or_zero None = 0
+number_or_zero (Some k) = number_of k
 
 -- a number that is the kind of a record, else 0
 unfoldable pub known : ℕ → ℕ

@@ -1,9 +1,11 @@
-// Endpoint records: a kind, then its numbers.
+// Endpoint records: a kind, then its numbers. A number that is no kind has none.
 #![tactic(auto)]
 
-ghost use Rattle.std.specs.Prelude.{◌≡◌};
+ghost use Rattle.std.specs.Prelude.{◌≡◌, ◌-◌, length};
+ghost use Rattle.std.specs.Iterator.{at_most};
 ghost use Rattle.rules.specs.Records.{size_of};
-ghost use Rattle.records.specs.Values.{number_of, known, named_by, size_at, endpoint_at};
+ghost use Rattle.records.specs.Values.{number_of, number_or_zero, known, named_by, size_at, endpoint_at};
+ghost use Rattle.records.specs.Walk.{Steps};
 
 use graph::{Literal, Pin, pin_of};
 
@@ -13,18 +15,17 @@ pub enum Kind {
     FlipFlop,
     Memory,
     StagedPin,
-    Unknown,
 }
 
-pub fn kind_of(number: u32) -> Kind
-    ensures { number_of result ≡ known number }
+pub fn kind_of(number: u32) -> Option<Kind>
+    ensures { number_or_zero result ≡ known number }
 {
     match number {
-        1 => Kind::Output,
-        2 => Kind::FlipFlop,
-        3 => Kind::Memory,
-        4 => Kind::StagedPin,
-        _ => Kind::Unknown,
+        1 => Some(Kind::Output),
+        2 => Some(Kind::FlipFlop),
+        3 => Some(Kind::Memory),
+        4 => Some(Kind::StagedPin),
+        _ => None,
     }
 }
 
@@ -37,7 +38,16 @@ pub fn size_of(kind: Kind) -> usize
         Kind::FlipFlop => 2,
         Kind::Memory => 91,
         Kind::StagedPin => 1,
-        Kind::Unknown => 0,
+    }
+}
+
+// The same of a kind's number, 0 if it is none.
+pub fn size_for(number: u32) -> usize
+    ensures { result ≡ size_of number }
+{
+    match kind_of(number) {
+        Some(kind) => size_of(kind),
+        None => 0,
     }
 }
 
@@ -47,10 +57,7 @@ pub fn named(kind: Kind, number: u32) -> Pin
 {
     match kind {
         Kind::StagedPin => Pin(number),
-        Kind::Unknown => Pin(number),
-        Kind::Output => pin_of(Literal(number)),
-        Kind::FlipFlop => pin_of(Literal(number)),
-        Kind::Memory => pin_of(Literal(number)),
+        Kind::Output | Kind::FlipFlop | Kind::Memory => pin_of(Literal(number)),
     }
 }
 
@@ -61,7 +68,7 @@ pub fn size_at(records: &[u32], at: usize) -> usize
     if records.len() <= at {
         return 0;
     }
-    let size = size_of(kind_of(records[at]));
+    let size = size_for(records[at]);
     if size < records.len() - at { size } else { 0 }
 }
 
@@ -72,5 +79,40 @@ pub fn endpoint(records: &[u32], at: usize, i: usize) -> Pin
     if size_at(records, at) <= i {
         return Pin(0);
     }
-    named(kind_of(records[at]), records[at + 1 + i])
+    match kind_of(records[at]) {
+        Some(kind) => named(kind, records[at + 1 + i]),
+        None => Pin(0),
+    }
+}
+
+// Where each whole record starts, as far as one stands behind the other.
+#[derive(Drop)]
+pub struct Walk<'a> {
+    records: &'a [u32],
+    at: usize,
+}
+
+pub fn starts(records: &[u32]) -> Walk<'_>
+    ensures records { result.records.now ≡ records.now }
+    ensures at { result.at ≡ 0 }
+{
+    Walk { records, at: 0 }
+}
+
+impl Iterator for Walk<'_> {
+    type Item = usize;
+
+    ghost next_gives = { Steps };
+
+    ghost remaining = { λ s. at_most (length s.records.now - s.at) };
+
+    fn next(&mut self) -> Option<usize> {
+        let at = self.at;
+        let size = size_at(self.records, at);
+        if size == 0 {
+            return None;
+        }
+        self.at = at + 1 + size;
+        Some(at)
+    }
 }

@@ -1,77 +1,106 @@
-// The refusals of the scope document and of the requests after it, by their numbers. 0 is no refusal.
+// The refusals of the scope document and of the requests after it.
 #![tactic(auto)]
 
-// A height outside 6..13.
-pub const NO_HEIGHT: u32 = 1;
+ghost use Rattle.std.specs.Prelude.{◌≡◌};
+ghost use Rattle.refusals.specs.Numbers.{number_of, pin_of};
 
-// A lent area has the wrong size.
-pub const WRONG_SIZE: u32 = 2;
+use graph::Pin;
 
-// The number of pins or a gate breaks the input rules.
-pub const WRONG_GRAPH: u32 = 3;
+// They stand in the order of their numbers.
+#[derive(Clone, Copy)]
+pub enum Refusal {
+    // 1: a height outside 6..13.
+    NoHeight,
+    // 2: a lent area has the wrong size.
+    WrongSize,
+    // 3: the number of pins or a gate breaks the input rules.
+    WrongGraph,
+    // 4: a record is unknown, cut, over size, or names a pin above N.
+    WrongRecord,
+    // 5: a given pin is above N.
+    WrongGiven,
+    // 6: the reservation is over.
+    OverReserved,
+    // 7: the written words exceed those that are not reserved.
+    OverWords,
+    // 8: level 1 has no cell for a needed pin, or none stays empty.
+    NoCell,
+    // 9: pins wait, and no room is left.
+    NoRoom,
+    // 10: a merge's partitions, group indices or allowed extra stages.
+    WrongGroups,
+    // 11: a file that is no job, or a job that no file holds.
+    NoJob,
+    // 12: an AIGER file that is malformed or cut.
+    Malformed,
+    // 13: a latch's reset value other than 0.
+    BadReset,
+    // 14: a job that no AIGER file holds.
+    NoFile,
+    // 15: a file that is no plan sheet, or a plan that no sheet holds.
+    NoSheet,
+    // 16: a plan sheet of an unknown number.
+    UnknownSheet,
+    // 17: the area for what comes out is too short.
+    TooShort,
+    // 18: a replay with a memory or a given pin.
+    NotPlain,
+    // 19: a driven pin that isn't a leaf, or is driven twice.
+    NotDriven,
+    // 20: driven pins, starting bits or recording are not of the length stated.
+    WrongLength,
+    // 21: the list for the lines of an explanation is too short.
+    ShortLines,
+    // 22: a plan made elsewhere has a fault.
+    WrongPlan,
+    // 23: a loop of gates, with the smallest pin on any.
+    Loop(Pin),
+    // 24: the list of changes is too short.
+    ShortList,
+    // 25: the old word rule, which nobody builds with now.
+    OldRule,
+}
 
-// A record is unknown, cut, over size, or names a pin above N.
-pub const WRONG_RECORD: u32 = 4;
+impl Refusal {
+    pub fn number(self) -> u32
+        ensures { result ≡ number_of self }
+    {
+        match self {
+            Refusal::NoHeight => 1,
+            Refusal::WrongSize => 2,
+            Refusal::WrongGraph => 3,
+            Refusal::WrongRecord => 4,
+            Refusal::WrongGiven => 5,
+            Refusal::OverReserved => 6,
+            Refusal::OverWords => 7,
+            Refusal::NoCell => 8,
+            Refusal::NoRoom => 9,
+            Refusal::WrongGroups => 10,
+            Refusal::NoJob => 11,
+            Refusal::Malformed => 12,
+            Refusal::BadReset => 13,
+            Refusal::NoFile => 14,
+            Refusal::NoSheet => 15,
+            Refusal::UnknownSheet => 16,
+            Refusal::TooShort => 17,
+            Refusal::NotPlain => 18,
+            Refusal::NotDriven => 19,
+            Refusal::WrongLength => 20,
+            Refusal::ShortLines => 21,
+            Refusal::WrongPlan => 22,
+            Refusal::Loop(_) => 23,
+            Refusal::ShortList => 24,
+            Refusal::OldRule => 25,
+        }
+    }
 
-// A given pin is above N.
-pub const WRONG_GIVEN: u32 = 5;
-
-// The reservation is over.
-pub const OVER_RESERVED: u32 = 6;
-
-// The written words exceed those that are not reserved.
-pub const OVER_WORDS: u32 = 7;
-
-// Level 1 has no cell for a needed pin, or none stays empty.
-pub const NO_CELL: u32 = 8;
-
-// Pins wait, and no room is left.
-pub const NO_ROOM: u32 = 9;
-
-// A merge's partitions, group indices or allowed extra stages.
-pub const WRONG_GROUPS: u32 = 10;
-
-// A file that is no job, or a job that no file holds.
-pub const NO_JOB: u32 = 11;
-
-// An AIGER file that is malformed or cut.
-pub const MALFORMED: u32 = 12;
-
-// A latch's reset value other than 0.
-pub const BAD_RESET: u32 = 13;
-
-// A job that no AIGER file holds.
-pub const NO_FILE: u32 = 14;
-
-// A file that is no plan sheet, or a plan that no sheet holds.
-pub const NO_SHEET: u32 = 15;
-
-// A plan sheet of an unknown number.
-pub const UNKNOWN_SHEET: u32 = 16;
-
-// The area for what comes out is too short.
-pub const TOO_SHORT: u32 = 17;
-
-// A replay with a memory or a given pin.
-pub const NOT_PLAIN: u32 = 18;
-
-// A driven pin that isn't a leaf, or is driven twice.
-pub const NOT_DRIVEN: u32 = 19;
-
-// Driven pins, starting bits or recording are not of the length stated.
-pub const WRONG_LENGTH: u32 = 20;
-
-// The list for the lines of an explanation is too short.
-pub const SHORT_LINES: u32 = 21;
-
-// A plan made elsewhere has a fault.
-pub const WRONG_PLAN: u32 = 22;
-
-// A loop of gates.
-pub const LOOP: u32 = 23;
-
-// The list of changes is too short.
-pub const SHORT_LIST: u32 = 24;
-
-// The old word rule, which nobody builds with now.
-pub const OLD_RULE: u32 = 25;
+    // The smallest pin on any loop of gates, else pin 0.
+    pub fn pin(self) -> Pin
+        ensures { result.0 ≡ pin_of self }
+    {
+        match self {
+            Refusal::Loop(pin) => pin,
+            _ => Pin(0),
+        }
+    }
+}

@@ -3,7 +3,6 @@ ghost use Rattle.std.specs.Prelude.{◌≡◌, length, replicate};
 ghost use Rattle.replay.specs.Answers.{FinishIn, Finished};
 
 use cells::Height;
-use columns::fill_part;
 use replay_plan::bytes::clear_bytes;
 use replay_plan::runs::run_plan;
 
@@ -12,13 +11,13 @@ fn clear_lists(tape: &mut [u32], slots: &mut [u32], bits: &mut [u8])
     ensures slots { slots.new ≡ replicate (length slots.old) 0 }
     ensures bits { bits.new ≡ replicate (length bits.old) 0 }
 {
-    fill_part(tape, 0);
-    fill_part(slots, 0);
+    tape.fill(0);
+    slots.fill(0);
     clear_bytes(bits);
 }
 
 pub fn finish(
-    number: u32,
+    whole: bool,
     height: Height,
     gates: &[u32],
     records: &[u32],
@@ -37,10 +36,10 @@ pub fn finish(
     out: &mut [u8],
     end: &mut [u8],
 )
-    requires { FinishIn number height.0 gates.now records.now driven.now starting.now lines recording.now plan.now words.now counts.now total work.old tape.old slots.old bits.old out.old end.old }
-    ensures { Finished number gates.now records.now driven.now starting.now lines recording.now work.old tape.old slots.old bits.old out.old end.old work.new tape.new slots.new bits.new out.new end.new }
+    requires { FinishIn whole height.0 gates.now records.now driven.now starting.now lines recording.now plan.now words.now counts.now total work.old tape.old slots.old bits.old out.old end.old }
+    ensures { Finished whole gates.now records.now driven.now starting.now lines recording.now work.old tape.old slots.old bits.old out.old end.old work.new tape.new slots.new bits.new out.new end.new }
 {
-    if number != 0 {
+    if !whole {
         clear_lists(tape, slots, bits);
         return;
     }
@@ -48,6 +47,6 @@ pub fn finish(
         height, gates, records, driven, starting, lines, recording, plan, words, counts, total,
         work, tape, slots, bits, out, end,
     );
-    fill_part(work, 0);
+    work.fill(0);
     clear_lists(tape, slots, bits);
 }

@@ -49,7 +49,7 @@ pub fn replay_sized(
 ) -> bool
     ensures { result ≡ (is_height height && replay_sized height gates.now records.now plan words counts work tape slots bits) }
 {
-    if !areas_sized(
+    areas_sized(
         height,
         gates.len(),
         records.len(),
@@ -57,8 +57,5 @@ pub fn replay_sized(
         words,
         counts,
         work,
-    ) {
-        return false;
-    }
-    lists_sized(gates, records, plan, tape, slots, bits)
+    ) && lists_sized(gates, records, plan, tape, slots, bits)
 }

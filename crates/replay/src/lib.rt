@@ -7,27 +7,30 @@ pub mod lent;
 ghost use Rattle.std.specs.Prelude.{◌≡◌};
 ghost use Rattle.rules.specs.Traversal.{needed_runs};
 ghost use Rattle.replay_form.specs.Calls.{replay};
+ghost use Rattle.placer.specs.Answers.{told};
 ghost use Rattle.replay.specs.Answers.{job, lent, outcome, BuiltIn};
 
 use cells::Height;
 use checks::refusal;
 use columns::RECORDS;
 use finish::finish;
-use graph::{Pin, pin_count};
+use graph::pin_count;
 use lent::replay_sized;
-use placer::{Answer, build};
+use placer::{Built, Refused, build};
 use replay_checks::later_refusal;
 
-fn refused(number: u32, pin: Pin) -> Answer
-    ensures { result ≡ record { number = number; stages = 0; words = 0; stage = 0; pin = pin; cells = 0 } }
+// What a build has laid; nothing where it is refused.
+fn laid(built: Result<Built, Refused>) -> Built
+    ensures stages { result.stages ≡ (told built).stages }
+    ensures words { result.words ≡ (told built).words }
 {
-    Answer {
-        number: number,
-        stages: 0,
-        words: 0,
-        stage: 0,
-        pin: pin,
-        cells: 0,
+    match built {
+        Ok(built) => built,
+        Err(_) => Built {
+            stages: 0,
+            words: 0,
+            cells: 0,
+        },
     }
 }
 
@@ -50,14 +53,13 @@ fn build_and_run(
     tape: &mut [u32],
     slots: &mut [u32],
     bits: &mut [u8],
-) -> Answer
+) -> Result<Built, Refused>
     requires { BuiltIn height gates.now given.now records.now driven.now starting.now lines recording.now plan.old words.old counts.old work.old tape.old slots.old bits.old out.old end.old }
     ensures { outcome result plan.new words.new counts.new work.new tape.new slots.new bits.new out.new end.new ≡ replay needed_runs (job height gates.now given.now records.now driven.now starting.now lines recording.now) (lent plan.old words.old counts.old work.old tape.old slots.old bits.old out.old end.old) }
 {
-    let a = build(height, gates, given, records, plan, words, counts, work);
-    let number = a.number;
-    let stages = a.stages;
-    let total = a.words;
+    let built = build(height, gates, given, records, plan, words, counts, work);
+    let plan_laid = laid(built);
+    let stages = plan_laid.stages;
     let used = stages * Height(height).stage_size();
     let pins = pin_count(gates);
     let size = plan.len();
@@ -66,7 +68,7 @@ fn build_and_run(
     let last = pins + size / 2;
     let flops = starting.len();
     finish(
-        number,
+        built.is_ok(),
         Height(height),
         gates,
         records,
@@ -77,7 +79,7 @@ fn build_and_run(
         &plan[0..used],
         words,
         &counts[0..stages],
-        total,
+        plan_laid.words,
         &mut work[0..need],
         &mut tape[0..size],
         &mut slots[0..held],
@@ -85,7 +87,7 @@ fn build_and_run(
         out,
         &mut end[0..flops],
     );
-    a
+    built
 }
 
 // Builds the plan of a graph's records, and runs it over the lines of a recording: the bits of each clock go to `out`, one clock after the
@@ -109,7 +111,7 @@ pub fn replay(
     tape: &mut [u32],
     slots: &mut [u32],
     bits: &mut [u8],
-) -> Answer
+) -> Result<Built, Refused>
     ensures { outcome result plan.new words.new counts.new work.new tape.new slots.new bits.new out.new end.new ≡ replay needed_runs (job height gates.now given.now records.now driven.now starting.now lines recording.now) (lent plan.old words.old counts.old work.old tape.old slots.old bits.old out.old end.old) }
 {
     let sized = replay_sized(
@@ -124,12 +126,8 @@ pub fn replay(
         slots.len(),
         bits.len(),
     );
-    let verdict = refusal(height, sized, gates, given, records);
-    if verdict.number != 0 {
-        let pin = verdict.pin;
-        return refused(verdict.number, pin);
-    }
-    let later = later_refusal(
+    refusal(height, sized, gates, given, records)?;
+    later_refusal(
         gates,
         given,
         records,
@@ -139,10 +137,7 @@ pub fn replay(
         recording.len(),
         out.len(),
         end.len(),
-    );
-    if later != 0 {
-        return refused(later, Pin(0));
-    }
+    )?;
     build_and_run(
         height, gates, given, records, driven, starting, lines, recording, out, end, plan, words,
         counts, work, tape, slots, bits,

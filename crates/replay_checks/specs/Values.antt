@@ -1,5 +1,5 @@
 -- What the checks of a replay ask, count and say. Assumes nothing.
-use Rattle.std.specs.Prelude.{ℕ, ◌≤◌, ◌<◌, ◌≡◌, Bool, true, false, List, eqb, length, get_or}
+use Rattle.std.specs.Prelude.{ℕ, ◌≤◌, ◌≡◌, Bool, true, false, List, eqb, length, get_or}
 use Rattle.rules.specs.Graph.{Node, graph_of, pin_count}
 use Rattle.rules.specs.Records.{Group, groups, read, groups_of}
 use Rattle.rules.specs.Reservation.{memories}

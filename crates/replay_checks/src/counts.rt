@@ -3,7 +3,7 @@ ghost use Rattle.std.specs.Prelude.{◌≡◌, ◌+◌, ◌<◌};
 ghost use Rattle.rules.specs.Records.{groups_of};
 ghost use Rattle.replay_checks.specs.Values.{Readable, Counted, one_if};
 
-use records::size_at;
+use records::{size_at, starts};
 
 #[derive(Clone, Copy)]
 pub struct Counts {
@@ -24,21 +24,18 @@ pub fn count(records: &[u32]) -> Counts
     requires { Readable records.now }
     ensures { Counted (groups_of records.now) result }
 {
-    let mut at = 0;
     let mut memories = 0;
     let mut flips = 0;
     let mut bits = 0;
-    while at < records.len() {
+    for at in starts(records) {
         let kind = records[at];
-        let size = size_at(records, at);
         memories = more_if(memories, kind, 3);
         flips = more_if(flips, kind, 2);
-        bits += size;
-        at += 1 + size;
+        bits += size_at(records, at);
     }
     Counts {
-        memories: memories,
-        flips: flips,
-        bits: bits,
+        memories,
+        flips,
+        bits,
     }
 }

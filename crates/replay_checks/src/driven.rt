@@ -12,14 +12,9 @@ pub fn mark_leaves(gates: &[u32], driven: &[u32], marks: &mut [u8]) -> bool
     ensures { LeavesMarked (graph_of gates.now) driven.now marks.old marks.new result }
 {
     let pins = pin_count(gates);
-    let mut i = driven.len();
-    while 0 < i {
-        i -= 1;
+    for i in (0..driven.len()).rev() {
         let p = wide(driven[i]);
-        if pins <= p {
-            return false;
-        }
-        if !line_leaf(gates, marks, p) {
+        if pins <= p || !line_leaf(gates, marks, p) {
             return false;
         }
         marks[p] = 1;

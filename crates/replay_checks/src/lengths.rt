@@ -1,10 +1,11 @@
 // Checks 20 and 17, by lengths. A product is never made: what it is compared with is divided.
 ghost use Rattle.std.specs.Prelude.{◌≡◌, ◌*◌, leb, eqb};
 ghost use Rattle.replay_form.specs.Calls.{lengths_right, out_right};
+ghost use Rattle.refusals.specs.Numbers.{number_said, pin_said};
 ghost use Rattle.replay_checks.specs.Values.{measured};
 
 use crate::counts::Counts;
-use refusals::{TOO_SHORT, WRONG_LENGTH};
+use refusals::Refusal;
 
 // Is a length n times `each`?
 pub fn is_product(length: usize, n: usize, each: usize) -> bool
@@ -13,20 +14,14 @@ pub fn is_product(length: usize, n: usize, each: usize) -> bool
     if each == 0 {
         return length == 0;
     }
-    if length % each != 0 {
-        return false;
-    }
-    length / each == n
+    length % each == 0 && length / each == n
 }
 
 // Is n times `each` within a length?
 pub fn has_product(length: usize, n: usize, each: usize) -> bool
     ensures { result ≡ leb (n * each) length }
 {
-    if each == 0 {
-        return true;
-    }
-    n <= length / each
+    each == 0 || n <= length / each
 }
 
 fn lengths_right(
@@ -39,25 +34,16 @@ fn lengths_right(
 ) -> bool
     ensures { result ≡ lengths_right flips leaves driven starting lines recording }
 {
-    if driven != flips {
-        return false;
-    }
-    if starting != flips {
-        return false;
-    }
-    is_product(recording, lines, leaves)
+    driven == flips && starting == flips && is_product(recording, lines, leaves)
 }
 
 fn out_right(flips: usize, bits: usize, lines: usize, out: usize, end: usize) -> bool
     ensures { result ≡ out_right flips bits lines out end }
 {
-    if !has_product(out, lines, bits) {
-        return false;
-    }
-    flips <= end
+    has_product(out, lines, bits) && flips <= end
 }
 
-// The first of 20 and 17 that applies, or 0.
+// The first of 20 and 17 that applies.
 pub fn measure(
     counts: Counts,
     leaves: usize,
@@ -67,16 +53,17 @@ pub fn measure(
     recording: usize,
     out: usize,
     end: usize,
-) -> u32
-    ensures { result ≡ measured counts.flips counts.bits leaves driven starting lines recording out end }
+) -> Result<(), Refusal>
+    ensures number { number_said result ≡ measured counts.flips counts.bits leaves driven starting lines recording out end }
+    ensures pin { pin_said result ≡ 0 }
 {
     let flips = counts.flips;
     let bits = counts.bits;
     if !lengths_right(flips, leaves, driven, starting, lines, recording) {
-        return WRONG_LENGTH;
+        return Err(Refusal::WrongLength);
     }
     if !out_right(flips, bits, lines, out, end) {
-        return TOO_SHORT;
+        return Err(Refusal::TooShort);
     }
-    0
+    Ok(())
 }

@@ -7,12 +7,13 @@ pub mod lengths;
 
 ghost use Rattle.std.specs.Prelude.{◌≡◌};
 ghost use Rattle.replay_form.specs.Calls.{later_refusal};
+ghost use Rattle.refusals.specs.Numbers.{number_said, pin_said};
 ghost use Rattle.replay_checks.specs.Values.{Checked, Readable, numbered};
 
 use counts::{Counts, count};
 use driven::mark_leaves;
 use lengths::measure;
-use refusals::{NOT_DRIVEN, NOT_PLAIN};
+use refusals::Refusal;
 use replay_run::leaves::put_leaves;
 
 // 19, and then 20 and 17 by what is counted.
@@ -25,13 +26,14 @@ fn driven_refusal(
     recording: usize,
     out: usize,
     end: usize,
-) -> u32
+) -> Result<(), Refusal>
     requires { Checked gates.now }
-    ensures { result ≡ numbered gates.now driven.now counts.flips counts.bits starting lines recording out end }
+    ensures number { number_said result ≡ numbered gates.now driven.now counts.flips counts.bits starting lines recording out end }
+    ensures pin { pin_said result ≡ 0 }
 {
     let mut marks: [u8; 65536] = [0; 65536];
     if !mark_leaves(gates, driven, &mut marks) {
-        return NOT_DRIVEN;
+        return Err(Refusal::NotDriven);
     }
     let mut leaves: [u32; 65536] = [0; 65536];
     let each = put_leaves(gates, &marks, &mut leaves);
@@ -47,7 +49,7 @@ fn driven_refusal(
     )
 }
 
-// The first of 18, 19, 20 and 17 that applies, or 0; starting bits, recording, out and end by their lengths.
+// The first of 18, 19, 20 and 17 that applies; starting bits, recording, out and end by their lengths.
 pub fn later_refusal(
     gates: &[u32],
     given: &[u32],
@@ -58,17 +60,18 @@ pub fn later_refusal(
     recording: usize,
     out: usize,
     end: usize,
-) -> u32
+) -> Result<(), Refusal>
     requires checked { Checked gates.now }
     requires readable { Readable records.now }
-    ensures { result ≡ later_refusal gates.now given.now records.now driven.now starting lines recording out end }
+    ensures number { number_said result ≡ later_refusal gates.now given.now records.now driven.now starting lines recording out end }
+    ensures pin { pin_said result ≡ 0 }
 {
     if 0 < given.len() {
-        return NOT_PLAIN;
+        return Err(Refusal::NotPlain);
     }
     let counts = count(records);
     if 0 < counts.memories {
-        return NOT_PLAIN;
+        return Err(Refusal::NotPlain);
     }
     driven_refusal(gates, driven, counts, starting, lines, recording, out, end)
 }

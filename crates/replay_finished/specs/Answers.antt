@@ -1,7 +1,7 @@
 -- A call of `replay_plan`, its answer and its lent areas. Assumes nothing.
-use Rattle.std.specs.Prelude.{ℕ, ◌≡◌, List}
+use Rattle.std.specs.Prelude.{ℕ, ◌≡◌, List, Result}
 use Rattle.rules.specs.Faults.{faultless, fault}
-use Rattle.plan_check.specs.declared.Answer.{Answer}
+use Rattle.plan_check.specs.declared.Refused.{Refused}
 use Rattle.plan_check.specs.Answers as check
 use Rattle.replay.specs.Answers.{job}
 use Rattle.replay_finished.specs.Calls.{Plan, Lent, Outcome, finished_refusal}
@@ -15,7 +15,7 @@ unfoldable pub lent : (work tape slots bits out end : List ℕ) → Lent
 lent work tape slots bits out end = record { work = work; tape = tape; slots = slots; bits = bits; out = out; end = end }
 
 -- answer and areas together, as the definitions have them
-unfoldable pub outcome : Answer → (work tape slots bits out end : List ℕ) → Outcome
+unfoldable pub outcome : Result (Unit {0}) Refused → (work tape slots bits out end : List ℕ) → Outcome
 outcome a work tape slots bits out end = record { reply = check.outcome a; lent = lent work tape slots bits out end }
 
 -- a job that no check refuses, and a plan without a fault

@@ -10,22 +10,10 @@ ghost use Rattle.replay_finished.specs.Calls.{finished_replay};
 ghost use Rattle.replay_finished.specs.Answers.{handed, lent, outcome};
 
 use checks::refusal;
-use graph::Pin;
-use plan_check::{Answer, check_plan};
+use plan_check::{Refused, check_plan};
 use replay_checks::later_refusal;
 use run::run_accepted;
 use sized::finished_sized;
-
-fn refused(number: u32, pin: Pin) -> Answer
-    ensures { result ≡ record { number = number; stage = 0; position = 0; pin = pin } }
-{
-    Answer {
-        number: number,
-        stage: 0,
-        position: 0,
-        pin: pin,
-    }
-}
 
 // As `replay::replay`, but over a plan that is handed in, with its words and counts: so many of its stages. A plan that the check of plans refuses
 // is not run. Work, tape, slots and bits are scratch.
@@ -48,7 +36,7 @@ pub fn replay_plan(
     tape: &mut [u32],
     slots: &mut [u32],
     bits: &mut [u8],
-) -> Answer
+) -> Result<(), Refused>
     ensures { outcome result work.new tape.new slots.new bits.new out.new end.new ≡ finished_replay (job height gates.now given.now records.now driven.now starting.now lines recording.now) (handed plan.now words.now counts.now stages) (lent work.old tape.old slots.old bits.old out.old end.old) }
 {
     let sized = finished_sized(
@@ -63,12 +51,8 @@ pub fn replay_plan(
         slots.len(),
         bits.len(),
     );
-    let verdict = refusal(height, sized, gates, given, records);
-    if verdict.number != 0 {
-        let pin = verdict.pin;
-        return refused(verdict.number, pin);
-    }
-    let later = later_refusal(
+    refusal(height, sized, gates, given, records)?;
+    later_refusal(
         gates,
         given,
         records,
@@ -78,17 +62,11 @@ pub fn replay_plan(
         recording.len(),
         out.len(),
         end.len(),
-    );
-    if later != 0 {
-        return refused(later, Pin(0));
-    }
-    let a = check_plan(height, gates, given, records, plan, words, counts, stages);
-    if a.number != 0 {
-        return a;
-    }
+    )?;
+    check_plan(height, gates, given, records, plan, words, counts, stages)?;
     run_accepted(
         height, gates, given, records, driven, starting, lines, recording, out, end, plan, words,
         counts, stages, work, tape, slots, bits,
     );
-    a
+    Ok(())
 }

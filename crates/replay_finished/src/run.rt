@@ -15,10 +15,8 @@ fn total(counts: &[u32]) -> usize
     ensures { result ≡ sum counts.now }
 {
     let mut words = 0;
-    let mut i = 0;
-    while i < counts.len() {
-        words += wide(counts[i]);
-        i += 1;
+    for count in counts {
+        words += wide(*count);
     }
     words
 }
@@ -54,7 +52,7 @@ pub fn run_accepted(
     let last = pins + used / 2;
     let flops = starting.len();
     finish(
-        0,
+        true,
         Height(height),
         gates,
         records,

@@ -47,8 +47,5 @@ pub fn finished_sized(
         return false;
     }
     let used = stages * Height(height).stage_size();
-    if !slots_fit(gates, records, used, work) {
-        return false;
-    }
-    lists_sized(gates, records, used, tape, slots, bits)
+    slots_fit(gates, records, used, work) && lists_sized(gates, records, used, tape, slots, bits)
 }

@@ -2,7 +2,6 @@
 ghost use Rattle.replay_plan.specs.Tape.{TapeIn, TapeOut, ListsIn, ListsOut};
 
 use cells::Height;
-use columns::fill_part;
 use graph::pin_count;
 use replay_run::flips::put_flips;
 use replay_run::leaves::{mark_driven, put_leaves};
@@ -26,7 +25,7 @@ pub fn make_tape(
     ensures { TapeOut height.0 pins plan.now words.now counts.now slots.old looks.old tape.old slots.new looks.new tape.new result }
 {
     let entries = make_plan(height, plan, slots, looks, tape, pins);
-    fill_part(looks, 0);
+    looks.fill(0);
     let size = height.stage_size();
     read_plan(size, plan, slots, words, counts, total, looks);
     entries
@@ -59,8 +58,8 @@ pub fn make_lists(
     let leaves = put_leaves(gates, bits, work);
     let flips = put_flips(records, &mut work[pins..]);
     Lists {
-        places: places,
-        leaves: leaves,
-        flips: flips,
+        places,
+        leaves,
+        flips,
     }
 }

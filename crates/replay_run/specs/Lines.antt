@@ -1,5 +1,5 @@
 -- Lines of a recording over slots, a clock each. Assumes nothing.
-use Rattle.std.specs.Prelude.{ℕ, zero, suc, ◌+◌, ◌*◌, ◌≤◌, ◌<◌, ◌≡◌, List, [], ◌∷◌, ◌++◌, length, get_or, take, drop}
+use Rattle.std.specs.Prelude.{ℕ, zero, suc, ◌+◌, ◌*◌, ◌≤◌, ◌<◌, ◌≡◌, List, [], length, get_or, take, drop}
 use Rattle.rules.specs.Graph.{pin_of}
 use Rattle.rules.specs.Lists.{laid_over}
 use Rattle.replay_form.specs.Clocks.{Ran, and_then}

@@ -1,5 +1,5 @@
 -- The places that the records hand out, from their numbers. Assumes nothing.
-use Rattle.std.specs.Prelude.{ℕ, ◌+◌, ◌≤◌, ◌<◌, ◌≡◌, true, false, List, [], ◌∷◌, ◌++◌, eqb, length, get_or, take, drop}
+use Rattle.std.specs.Prelude.{ℕ, ◌+◌, ◌≤◌, ◌<◌, ◌≡◌, true, false, List, ◌++◌, eqb, length, get_or, take, drop}
 use Rattle.rules.specs.Graph.{inversion_of}
 use Rattle.rules.specs.Records.{groups, read, group_at, whole_at, groups_of}
 use Rattle.rules.specs.Records.{Ends}

@@ -1,15 +1,9 @@
 -- The slots that pins are read from, by the words of a plan. Assumes nothing.
-use Rattle.std.specs.Prelude.{ℕ, ◌+◌, ◌*◌, ◌≤◌, ◌<◌, ◌≡◌, ◌⊎◌, List, [], ◌∷◌, length, get_or, take, drop}
+use Rattle.std.specs.Prelude.{ℕ, ◌+◌, ◌*◌, ◌≤◌, ◌<◌, ◌≡◌, List, [], ◌∷◌, length, get_or, take, drop}
 use Rattle.rules.specs.Lists.{Found, nothing, found, sum}
 use Rattle.rules.specs.Fold.{first_at}
 use Rattle.rules.specs.Coded.{pins}
 use Rattle.replay_form.specs.Plans.{in_words}
-
--- the smaller of two
-pub record Least (a b r : ℕ) : Type 0 where
-  pub first : r ≤ a
-  pub second : r ≤ b
-  pub one : (a ≤ r) ⊎ (b ≤ r)
 
 -- the slot at a place, or else what stood
 unfoldable pub slot_or : List ℕ → ℕ → Found → ℕ

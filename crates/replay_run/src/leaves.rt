@@ -1,8 +1,9 @@
 // The leaves of a line: those that are not driven, in pin order. `marks` has a number for each pin, not 0 where it is driven.
-ghost use Rattle.std.specs.Prelude.{◌≡◌, ◌<◌, length, set};
+ghost use Rattle.std.specs.Prelude.{◌≡◌, ◌<◌, length};
 ghost use Rattle.rules.specs.Graph.{graph_of, pin_count};
 ghost use Rattle.replay_run.specs.Leaves.{line_leaf, LeafPut, LeavesIn, LeavesPut, Marked};
 
+use crate::slots::put_inside;
 use graph::{Node, Pin, node_at, pin_count, wide};
 
 // Does a line have a bit for pin p?
@@ -12,17 +13,10 @@ pub fn line_leaf(gates: &[u32], marks: &[u8], p: usize) -> bool
     requires p_bound_2 { p < 65536 }
     ensures { result ≡ line_leaf (graph_of gates.now) marks.now p }
 {
-    if p == 0 {
+    if p == 0 || marks[p] != 0 {
         return false;
     }
-    if marks[p] != 0 {
-        return false;
-    }
-    let node = node_at(gates, Pin(p as u32));
-    match node {
-        Node::Leaf => true,
-        Node::Gate(_, _) => false,
-    }
+    matches!(node_at(gates, Pin(p as u32)), Node::Leaf)
 }
 
 // Pin p as the n-th leaf, if it is one. Returns how many there are.
@@ -45,32 +39,19 @@ pub fn put_leaves(gates: &[u32], marks: &[u8], leaves: &mut [u32]) -> usize
     ensures { LeavesPut gates.now marks.now leaves.old leaves.new result }
 {
     let pins = pin_count(gates);
-    let mut p = 0;
     let mut n = 0;
-    while p < pins {
+    for p in 0..pins {
         let leaf = line_leaf(gates, marks, p);
         n = put_leaf(leaf, leaves, n, p);
-        p += 1;
     }
     n
-}
-
-// Number n, if there is one, becomes 1.
-fn put_mark(marks: &mut [u8], n: usize)
-    ensures { marks.new ≡ set marks.old n 1 }
-{
-    if n < marks.len() {
-        marks[n] = 1;
-    }
 }
 
 // Driven pins become 1.
 pub fn mark_driven(driven: &[u32], marks: &mut [u8])
     ensures { Marked driven.now marks.old marks.new }
 {
-    let mut i = driven.len();
-    while 0 < i {
-        i -= 1;
-        put_mark(marks, wide(driven[i]));
+    for i in (0..driven.len()).rev() {
+        put_inside(marks, wide(driven[i]), 1);
     }
 }

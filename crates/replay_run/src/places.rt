@@ -2,7 +2,7 @@
 ghost use Rattle.replay_run.specs.Places.{Inverts, RecordIn, RecordPut, PlacesIn, PlacesPut};
 
 use graph::wide;
-use records::{endpoint, size_at};
+use records::{endpoint, size_at, starts};
 
 // The inversion of a number behind a kind. A staged pin has none.
 fn inversion(kind: u32, number: u32) -> u32
@@ -16,12 +16,10 @@ fn put_record(records: &[u32], reads: &[u32], at: usize, size: usize, places: &m
     requires { RecordIn records.now reads.now at size places.old j }
     ensures { RecordPut records.now reads.now at size j places.old places.new }
 {
-    let mut i = 0;
-    while i < size {
+    for i in 0..size {
         let p = wide(endpoint(records, at, i).0);
         let v = inversion(records[at], records[at + 1 + i]);
         places[j + i] = 2 * reads[p] + v;
-        i += 1;
     }
 }
 
@@ -30,13 +28,11 @@ pub fn put_places(records: &[u32], reads: &[u32], places: &mut [u32]) -> usize
     requires { PlacesIn records.now reads.now places.old }
     ensures { PlacesPut records.now reads.now places.old places.new result }
 {
-    let mut at = 0;
     let mut j = 0;
-    while at < records.len() {
+    for at in starts(records) {
         let size = size_at(records, at);
         put_record(records, reads, at, size, places, j);
         j += size;
-        at += 1 + size;
     }
     j
 }

@@ -1,5 +1,5 @@
 -- One clock over slots: bits at pins, bits handed out, the next bits. Assumes nothing.
-use Rattle.std.specs.Prelude.{ℕ, zero, suc, ◌+◌, ◌≤◌, ◌<◌, ◌≡◌, true, false, List, [], ◌∷◌, ◌++◌, map, eqb, length, get_or, set, take, drop}
+use Rattle.std.specs.Prelude.{ℕ, ◌+◌, ◌≤◌, ◌<◌, ◌≡◌, true, false, List, [], ◌∷◌, ◌++◌, map, eqb, length, get_or, set, take, drop}
 use Rattle.rules.specs.Graph.{pin_of, inversion_of, literal_of, literal_bit}
 use Rattle.rules.specs.Records.{Group, output, flip_flop, memory, staged_pin}
 use Rattle.rules.specs.Fold.{as_number}

@@ -4,14 +4,14 @@ ghost use Rattle.replay_form.specs.Clocks.{is_one};
 ghost use Rattle.rules.specs.Fold.{as_number};
 ghost use Rattle.replay_tape.specs.Clocks.{PinsAt, put_bits, PlacesAt, handed, pick, FlipsAt, datas, ClockIn, ClockOut};
 
-use crate::running::{number, run_tape};
+use crate::running::run_tape;
 use graph::wide;
 
 // 1 for what is not 0.
-fn bit(x: u8) -> u8
+pub fn bit(x: u8) -> u8
     ensures { result ≡ as_number (is_one x) }
 {
-    if x == 0 { 0 } else { 1 }
+    u8::from(x != 0)
 }
 
 // Each pin's bit; the first counts where a pin stands twice.
@@ -19,9 +19,7 @@ pub fn put_bits(pins: &[u32], values: &[u8], bits: &mut [u8])
     requires { PinsAt pins.now values.now bits.old }
     ensures { bits.new ≡ put_bits pins.now values.now bits.old }
 {
-    let mut i = pins.len();
-    while 0 < i {
-        i -= 1;
+    for i in (0..pins.len()).rev() {
         let p = wide(pins[i]);
         bits[p] = bit(values[i]);
     }
@@ -32,11 +30,9 @@ pub fn hand_out(places: &[u32], bits: &[u8], out: &mut [u8])
     requires { PlacesAt places.now bits.now out.old }
     ensures { out.new ≡ handed places.now bits.now }
 {
-    let mut i = 0;
-    while i < places.len() {
+    for i in 0..places.len() {
         let a = wide(places[i]);
-        out[i] = ((a + number(bits[a / 2])) % 2) as u8;
-        i += 1;
+        out[i] = ((a + bits[a / 2] as usize) % 2) as u8;
     }
 }
 
@@ -51,11 +47,9 @@ pub fn take_data(flips: &[u32], out: &[u8], state: &mut [u8])
     requires { FlipsAt flips.now out.now state.old }
     ensures { state.new ≡ datas flips.now out.now state.old }
 {
-    let mut i = 0;
-    while i < flips.len() {
+    for i in 0..flips.len() {
         let j = wide(flips[i]);
         state[i] = picked(out[j], out[j + 1], state[i]);
-        i += 1;
     }
 }
 

@@ -7,7 +7,6 @@ ghost use Rattle.replay_tape.specs.Plans.{FirstSlots, OneIn, NextIn, Next, Step,
 
 use crate::stages::make_stage;
 use cells::Height;
-use columns::fill_part;
 use fold_stage::loads::{forget, remember};
 
 // Stage 1 finds each pin in the pin's own slot.
@@ -15,10 +14,8 @@ fn first_slots(looks: &mut [u32])
     requires { length looks.old ≤ 65536 }
     ensures { FirstSlots looks.old looks.new }
 {
-    let mut p = 0;
-    while p < looks.len() {
+    for p in 0..looks.len() {
         looks[p] = p as u32;
-        p += 1;
     }
 }
 
@@ -36,7 +33,7 @@ fn make_first(
 {
     first_slots(looks);
     let count = make_stage(height, cells, looks, slots, tape, pins, 0);
-    fill_part(looks, 0);
+    looks.fill(0);
     remember(height, cells, slots, looks);
     count
 }
@@ -114,10 +111,8 @@ pub fn make_plan(
         tape,
         pins,
     );
-    let mut at = size;
-    while at < plan.len() {
+    for at in (size..plan.len()).step_by(size) {
         count = make_at(height, plan, slots, looks, tape, pins, at, count);
-        at += size;
     }
     count
 }

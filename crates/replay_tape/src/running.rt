@@ -6,25 +6,16 @@ ghost use Rattle.replay_tape.specs.Running.{entries_of, RunAt};
 
 use graph::wide;
 
-// A bit as a number.
-pub fn number(x: u8) -> usize
-    ensures { result ≡ x }
-{
-    x as usize
-}
-
 // What a clock costs: an entry's bit is both its literals' AND, half their sum.
 pub fn run_tape(tape: &[u32], bits: &mut [u8], pins: usize, entries: usize)
     requires { RunAt pins entries tape.now bits.old }
     ensures { bits.new ≡ laid_over (run_tape (entries_of entries tape.now) (take pins bits.old)) bits.old }
 {
-    let mut k = 0;
-    while k < entries {
+    for k in 0..entries {
         let a = wide(tape[2 * k]);
         let b = wide(tape[2 * k + 1]);
-        let x = (a + number(bits[a / 2])) % 2;
-        let y = (b + number(bits[b / 2])) % 2;
+        let x = (a + bits[a / 2] as usize) % 2;
+        let y = (b + bits[b / 2] as usize) % 2;
         bits[pins + k] = ((x + y) / 2) as u8;
-        k += 1;
     }
 }

@@ -18,10 +18,7 @@ pub fn loaded(looks: &[u32], p: Pin) -> u32
     ensures { result ≡ load_in looks.now p.0 }
 {
     let i = p.index();
-    if looks.len() <= i {
-        return 0;
-    }
-    looks[i]
+    if i < looks.len() { looks[i] } else { 0 }
 }
 
 // An entry over two slots, inverted as a cell says.
@@ -49,10 +46,7 @@ pub fn source_above(cells: &[u32], slots: &[u32], p: usize) -> Source
         return Source::Old(slots[a]);
     }
     let b = second_lower(p as u32);
-    if Cell(cells[a]).is_empty() {
-        return Source::Old(0);
-    }
-    if Cell(cells[b]).is_empty() {
+    if Cell(cells[a]).is_empty() || Cell(cells[b]).is_empty() {
         return Source::Old(0);
     }
     and_source(held, slots[a], slots[b])

@@ -11,10 +11,8 @@ fn load_cells(height: Height, cells: &[u32], looks: &[u32], slots: &mut [u32])
     requires { UpAt height.0 cells.now slots.old }
     ensures { RowLoaded height.0 cells.now looks.now slots.old slots.new }
 {
-    let mut q = height.width();
-    while q < cells.len() {
+    for q in height.width()..cells.len() {
         slots[q] = loaded(looks, Cell(cells[q]).pin());
-        q += 1;
     }
 }
 
@@ -31,9 +29,7 @@ fn and_cells(
     ensures { Ands height.0 pins cells.now entries slots.old tape.old slots.new tape.new result }
 {
     let mut count = entries;
-    let mut p = height.width();
-    while 1 < p {
-        p -= 1;
+    for p in (1..height.width()).rev() {
         let source = source_above(cells, slots, p);
         count = put(slots, tape, p, pins, count, source);
     }

@@ -1,7 +1,7 @@
 -- Each pin's activations in a chain, the newest first. Assumes nothing.
 use Rattle.std.specs.Prelude.{ℕ, suc, ◌+◌, ◌*◌, ◌≤◌, ◌<◌, ◌≡◌, true, false, List, [], ◌∷◌, eqb, length, get_or, set, drop}
 use Rattle.rules.specs.Lists.{In}
-use Rattle.rules.specs.Records.{Group, group_at, groups_of, whole_at, endpoints_of}
+use Rattle.rules.specs.Records.{group_at, groups_of, whole_at, endpoints_of}
 use Rattle.rules.specs.Reservation.{Activation, activations, memories}
 use Rattle.placer_start.specs.Waiting.{Readable}
 

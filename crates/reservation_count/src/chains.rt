@@ -4,7 +4,7 @@ ghost use Rattle.placer_start.specs.Reservation.{WholeAt};
 ghost use Rattle.reservation_count.specs.Chains.{code_at, LinkAt, Linked, ChainsAt, Chained};
 
 use placer_start::reservation::{Added, adds};
-use records::size_at;
+use records::starts;
 
 // The activation of the whole record at an index; 0 for a memory, which has none.
 pub fn code_at(records: &[u32], at: usize) -> usize
@@ -39,10 +39,8 @@ pub fn chain_all(records: &[u32], heads: &mut [u32], links: &mut [u32]) -> usize
     ensures { Chained records.now heads.old links.old heads.new links.new result }
 {
     let mut memories = 0;
-    let mut at = 0;
-    while at < records.len() {
+    for at in starts(records) {
         memories += chain_record(records, heads, links, at);
-        at += 1 + size_at(records, at);
     }
     memories
 }

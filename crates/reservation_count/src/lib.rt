@@ -9,7 +9,6 @@ pub mod walks;
 ghost use Rattle.reservation_count.specs.Counts.{CountAt, Counted};
 
 use chains::chain_all;
-use columns::fill_part;
 use placer_start::reservation::Count;
 use walks::sum_all;
 
@@ -23,15 +22,15 @@ pub fn count_records(
     requires { CountAt records.now heads.old links.old stamps.old }
     ensures { Counted records.now heads.old links.old stamps.old heads.new links.new stamps.new result }
 {
-    fill_part(heads, 0);
-    fill_part(stamps, 0);
+    heads.fill(0);
+    stamps.fill(0);
     let memories = chain_all(records, heads, links);
     let duplicates = sum_all(records, heads, links, stamps);
-    fill_part(heads, 0);
-    fill_part(links, 0);
-    fill_part(stamps, 0);
+    heads.fill(0);
+    links.fill(0);
+    stamps.fill(0);
     Count {
-        memories: memories,
-        duplicates: duplicates,
+        memories,
+        duplicates,
     }
 }

@@ -1,5 +1,5 @@
 // The distinct activations of each chain. One of the four residues of 4 at a time has a stamp for each quotient, so that a stamp a pin is enough.
-ghost use Rattle.std.specs.Prelude.{◌≡◌, pred};
+ghost use Rattle.std.specs.Prelude.{◌≡◌};
 ghost use Rattle.rules.specs.Inside.Some.{Some, Every};
 ghost use Rattle.reservation_count.specs.Walks.{StampAt, Stamped, WalkAt, Walked, AllAt, AllWalked, SumAt, Summed};
 
@@ -13,7 +13,7 @@ fn stamp(stamps: &mut [u32], k: usize, id: u32) -> usize
 {
     let old = stamps[k];
     stamps[k] = id;
-    if old == id { 0 } else { 1 }
+    usize::from(old != id)
 }
 
 // The distinct activations with residue r in the chain from `head`. No stamp is `id` yet.
@@ -39,17 +39,11 @@ fn walk_all(records: &[u32], links: &[u32], stamps: &mut [u32], head: usize, bas
     requires { Some (λ cs. AllAt records.now links.now stamps.old head base cs) }
     ensures { Every (λ cs. AllAt records.now links.now stamps.old head base cs) (λ cs. AllWalked head base cs stamps.old stamps.new result) }
 {
-    let a = walk(records, links, stamps, head, 0, base + 1);
-    let b = walk(records, links, stamps, head, 1, base + 2);
-    let c = walk(records, links, stamps, head, 2, base + 3);
-    let d = walk(records, links, stamps, head, 3, base + 4);
-    a + b + c + d
-}
-
-fn beyond_first(n: usize) -> usize
-    ensures { result ≡ pred n }
-{
-    if n == 0 { 0 } else { n - 1 }
+    let mut n = 0;
+    for r in 0..4 {
+        n += walk(records, links, stamps, head, r, base + 1 + r as u32);
+    }
+    n
 }
 
 // Activations beyond the first, over all pins.
@@ -58,10 +52,9 @@ pub fn sum_all(records: &[u32], heads: &[u32], links: &[u32], stamps: &mut [u32]
     ensures { Summed records.now stamps.old stamps.new result }
 {
     let mut d = 0;
-    let mut p = 0;
-    while p < heads.len() {
-        d += beyond_first(walk_all(records, links, stamps, wide(heads[p]), 4 * (p as u32)));
-        p += 1;
+    for (p, h) in heads.iter().enumerate() {
+        let n = walk_all(records, links, stamps, wide(*h), 4 * p as u32);
+        d += n.saturating_sub(1);
     }
     d
 }

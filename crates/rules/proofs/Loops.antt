@@ -1,8 +1,8 @@
 -- Loops: a graph whose operands are its pins has none exactly where some rank falls along operands; one such rank is the number of pins under a pin. Assumes nothing.
 use Prim.Native.Nat.{ℕ, zero, suc, ◌+◌, ◌≤◌, ◌<◌}
-use mathlib.Core.Path.{◌≡◌, refl, sym, ◌∙◌, ap}
+use mathlib.Core.Path.{◌≡◌, refl}
 use mathlib.Core.Logic.{◌⊎◌, inl, inr, ◌≢◌}
-use mathlib.Core.Bool.{Bool, true, false}
+use mathlib.Core.Bool.{true, false}
 use mathlib.Core.List.{List, [], ◌∷◌, ◌++◌}
 use native.Mathlib.Omega.{arith}
 use lib.Dec.{eqb, ltb}
@@ -11,7 +11,7 @@ use borrow.Author.Tests.{ltb-true, ltb-false}
 use Rattle.rules.specs.Lists.{mem, insert, insert_all, distinct, gather, up_to, Found, nothing, found, In, Out, Sub, Once, nobody, one}
 use Rattle.rules.specs.Graph.{Node, below}
 use Rattle.rules.specs.Loops.{grown, closure, under, on_loop, loop_from, loop_pin, is_nothing, loopless, From, start, step, Loop}
-use Rattle.rules.proofs.Lists.Members.{split, true_false, eqb_true, eqb_false, in_here, in_there, in_cons, in_nil, in_insert_all, in_insert_all_old, insert_all_in, in_distinct, distinct_in, in_gather, gather_in}
+use Rattle.rules.proofs.Lists.Members.{split, true_false, eqb_true, eqb_false, in_here, in_there, in_cons, in_nil, in_insert_all_old, insert_all_in, in_distinct, distinct_in, in_gather, gather_in}
 use Rattle.rules.proofs.Lists.Lengths.{length-up_to}
 use Rattle.rules.specs.Inside.Walks.{Ranked, rank}
 use Rattle.rules.proofs.Walk.Traverse.{from_mono, from_rank}

@@ -1,5 +1,5 @@
 -- Cells with their inversions: a cell's parts, a stage's plan of pins as cells, and the fold of cells, which needs no graph. Assumes nothing.
-use Rattle.std.specs.Prelude.{ℕ, zero, suc, ◌+◌, ◌*◌, ◌/◌, ◌%◌, Bool, true, false, ◌&&◌, List, [], ◌∷◌, ◌++◌, map, leb, ltb, eqb, length, get_or, take, drop, replicate}
+use Rattle.std.specs.Prelude.{ℕ, zero, suc, ◌+◌, ◌*◌, ◌/◌, ◌%◌, Bool, true, false, ◌&&◌, List, [], ◌++◌, map, leb, ltb, eqb, length, get_or, take, drop, replicate}
 use Rattle.rules.specs.Lists.{nothing, found, up_to, laid_over}
 use Rattle.rules.specs.Cells.{empty, filled, is_height, width, stage_size, rooms, level_of, row_start, first_lower}
 use Rattle.rules.specs.Graph.{Node, leaf, gate, inversion_of, own_bit, literal_bit}

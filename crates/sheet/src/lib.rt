@@ -1,5 +1,5 @@
 // Plan sheets on disk, out of and into a build's areas: what a user calls.
 #![tactic(auto)]
 
-pub use sheet_read::{Answer, read};
-pub use sheet_write::{Written, write};
+pub use sheet_read::{Contents, read};
+pub use sheet_write::write;

@@ -3,3 +3,4 @@ pub mod Sheets
 pub mod Lifting
 pub mod Calls
 pub mod Opened
+pub mod Kinds

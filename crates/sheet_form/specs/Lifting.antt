@@ -6,7 +6,7 @@ use Rattle.rules.specs.Graph.{Node, leaf, graph_of}
 use Rattle.rules.specs.Fold.{is_leaf}
 use Rattle.rules.specs.Build.{Stage, coded_stages}
 use Rattle.sheet_form.specs.Forms.{sheet_one, sheet_two}
-use Rattle.sheet_form.specs.Sheets.{Sheet, Sheet?, refused, sheet, read_sheet}
+use Rattle.sheet_form.specs.Sheets.{Sheet?, refused, sheet, read_sheet}
 
 -- the pin at position p of a stage of pins is in the graph, and is no leaf that would AND: above level 0, its first lower cell not holding it
 unfoldable pub lifts_at : ℕ → List Node → List ℕ → ℕ → Bool

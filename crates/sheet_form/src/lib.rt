@@ -1,18 +1,33 @@
-// The numbers of plan sheets, and which cells a sheet holds. specs/ says what a sheet is and what the calls do, proofs/ what follows from it.
+// The kinds of plan sheets, and which cells a sheet holds. specs/ says what a sheet is and what the calls do, proofs/ what follows from it.
 #![tactic(auto)]
 
 ghost use Rattle.std.specs.Prelude.{◌≡◌, true};
 ghost use Rattle.rules.specs.Cells.{is_height};
 ghost use Rattle.sheet_form.specs.Forms.{form_fits};
+ghost use Rattle.sheet_form.specs.Kinds.{number_for};
 
 use cell::Cell;
 use cells::Height;
 
-// Pins alone: read with the graph, no longer written.
-pub const SHEET_ONE: u32 = 1;
+// What a sheet's cells say, by the sheet number in its first byte.
+#[derive(Clone, Copy)]
+pub enum SheetKind {
+    // 1: pins alone; read with the graph, no longer written.
+    Pins,
+    // 2: cells with their inversions.
+    Cells,
+}
 
-// Cells with their inversions.
-pub const SHEET_TWO: u32 = 2;
+impl SheetKind {
+    pub fn number(self) -> u32
+        ensures { result ≡ number_for self }
+    {
+        match self {
+            SheetKind::Pins => 1,
+            SheetKind::Cells => 2,
+        }
+    }
+}
 
 // Does sheet 2 hold the cell at position p? At level 0 there is no AND.
 pub fn cell_fits(height: Height, p: usize, cell: Cell) -> bool
@@ -22,8 +37,5 @@ pub fn cell_fits(height: Height, p: usize, cell: Cell) -> bool
     if !cell.is_cell() {
         return false;
     }
-    if !cell.ands() {
-        return true;
-    }
-    p < height.width()
+    !cell.ands() || p < height.width()
 }

@@ -1,9 +1,10 @@
 -- One stage's cells, read into an area of its size. Assumes nothing.
-use Rattle.std.specs.Prelude.{◌≡◌, true, false, List, ◌∷◌, ℕ, ◌-◌, ◌*◌, ◌^◌, ◌<◌, ◌≤◌, eqb, length, get_or, drop}
+use Rattle.std.specs.Prelude.{◌≡◌, Option, Some, None, ◌+◌, true, false, List, ◌∷◌, ℕ, ◌-◌, ◌*◌, ◌^◌, ◌<◌, ◌≤◌, eqb, length, get_or, drop}
 use Rattle.rules.specs.Cells.{empty, is_height, stage_size, first_lower}
 use Rattle.rules.specs.Graph.{Node}
 use Rattle.rules.specs.Coded.{coded}
 use Rattle.rules.specs.Job.{Read, cut, got, next}
+use Rattle.sheet_plan.specs.declared.reading.Found.{Found}
 use Rattle.bits.specs.Fields.{bits_in}
 use Rattle.sheet_form.specs.Forms.{form}
 use Rattle.sheet_form.specs.Sheets.{read_cells}
@@ -20,6 +21,20 @@ turned number K g pl ds = elim (eqb number 1) [ false ↦ got pl ds | true ↦ e
 -- a stage's cells with their inversions
 unfoldable pub plan_with : (number K : ℕ) → List Node → List ℕ → Read (List ℕ)
 plan_with number K g bs = next (plan_read number K bs) (turned number K g)
+
+-- the bit behind what was read, past the end where nothing was
+abbrev pub end_of : (xs : List ℕ) → Option ℕ → ℕ
+end_of xs None = 8 * length xs + 1
+end_of xs (Some at) = at
+
+abbrev pub at_of : (xs : List ℕ) → Option Found → ℕ
+at_of xs None = 8 * length xs + 1
+at_of xs (Some f) = f.at
+
+-- and the cell
+abbrev pub cell_of : Option Found → ℕ
+cell_of None = empty
+cell_of (Some f) = f.cell
 
 -- a cell may be read at a bit
 pub record CellAt (K at : ℕ) (xs : List ℕ) : Type 0 where

@@ -4,42 +4,49 @@
 mod lifts;
 mod reading;
 
+ghost use Rattle.std.specs.Prelude.{◌*◌, ◌≤◌, IfSome, length};
 ghost use Rattle.rules.specs.Graph.{graph_of};
-ghost use Rattle.sheet_plan.specs.Plans.{plan_with, PlanAt, CellsTook};
+ghost use Rattle.sheet_form.specs.Kinds.{number_for};
+ghost use Rattle.sheet_plan.specs.Plans.{plan_with, end_of, PlanAt, CellsTook};
 
 use cells::Height;
 use coding::code_stage;
 use graph::EMPTY;
 use lifts::stage_lifts;
 use reading::read_cells;
-use sheet_form::SHEET_ONE;
+use sheet_form::SheetKind;
 
-// The sheet number, 1 or 2, and the height.
+// The kind of sheet, and the height.
 #[derive(Clone, Copy)]
 pub struct Kind {
-    pub number: u32,
+    pub sheet: SheetKind,
     pub height: u32,
 }
 
-// A stage's cells into an area of its size; the answer is the bit behind them, past the end where 15 refuses them. Sheet 1 holds pins alone: a cell is
+// A stage's cells into an area of its size; the answer is the bit behind them, and none where 15 refuses them. Sheet 1 holds pins alone: a cell is
 // coded by its first lower cell, which stands further on, so the whole stage is read first.
-pub fn read_plan(bytes: &[u8], at: usize, kind: Kind, gates: &[u32], cells: &mut [u32]) -> usize
+pub fn read_plan(
+    bytes: &[u8],
+    at: usize,
+    kind: Kind,
+    gates: &[u32],
+    cells: &mut [u32],
+) -> Option<usize>
     requires { PlanAt kind.height at bytes.now cells.old }
-    ensures { CellsTook (plan_with kind.number kind.height (graph_of gates.now)) bytes.now at result cells.old cells.new }
+    ensures took { CellsTook (plan_with (number_for kind.sheet) kind.height (graph_of gates.now)) bytes.now at (end_of bytes.now result) cells.old cells.new }
+    ensures inside { IfSome result (λ to. to ≤ 8 * length bytes.now) }
 {
-    let end = 8 * bytes.len();
     cells[0] = EMPTY;
-    let to = read_cells(bytes, at, kind, cells);
-    if end < to {
-        return to;
+    let to = read_cells(bytes, at, kind, cells)?;
+    match kind.sheet {
+        SheetKind::Cells => Some(to),
+        SheetKind::Pins => {
+            let height = Height(kind.height);
+            if !stage_lifts(height, cells, gates) {
+                return None;
+            }
+            code_stage(height, cells, gates);
+            Some(to)
+        }
     }
-    if !(kind.number == SHEET_ONE) {
-        return to;
-    }
-    let height = Height(kind.height);
-    if !stage_lifts(height, cells, gates) {
-        return end + 1;
-    }
-    code_stage(height, cells, gates);
-    to
 }

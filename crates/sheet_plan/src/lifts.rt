@@ -46,12 +46,10 @@ pub fn stage_lifts(height: Height, cells: &[u32], gates: &[u32]) -> bool
     requires { StageAt height.0 cells.now }
     ensures { result ≡ stage_lifts height.0 (graph_of gates.now) cells.now }
 {
-    let mut p = 0;
-    while p < cells.len() {
+    for p in 0..cells.len() {
         if !lifts_at(height, cells, gates, p as u32) {
             return false;
         }
-        p += 1;
     }
     true
 }

@@ -1,15 +1,16 @@
-// The cells as they stand on the sheet. An answer past the end met what 15 refuses, and the reading stops there.
-ghost use Rattle.std.specs.Prelude.{◌≡◌, ◌+◌, ◌*◌, length};
+// The cells as they stand on the sheet. The reading stops where it meets what 15 refuses.
+ghost use Rattle.std.specs.Prelude.{◌≡◌, ◌*◌, ◌≤◌, IfSome, length};
 ghost use Rattle.sheet_form.specs.Forms.{behind_pin, form, form_read};
+ghost use Rattle.sheet_form.specs.Kinds.{number_for};
 ghost use Rattle.sheet_form.specs.Sheets.{read_cell};
-ghost use Rattle.sheet_plan.specs.Plans.{plan_read, CellAt, CellTook, CellsAt, CellsTook};
+ghost use Rattle.sheet_plan.specs.Plans.{plan_read, end_of, at_of, cell_of, CellAt, CellTook, CellsAt, CellsTook};
 
 use crate::Kind;
 use bits::field;
 use cell::Cell;
 use cells::Height;
 use graph::{EMPTY, Pin};
-use sheet_form::cell_fits;
+use sheet_form::{SheetKind, cell_fits};
 
 // The bit behind a cell, and the cell.
 #[derive(Clone, Copy)]
@@ -19,77 +20,66 @@ pub struct Found {
 }
 
 // How many bits stand behind a pin.
-fn behind_pin(number: u32) -> usize
-    ensures { result ≡ behind_pin number }
+fn behind_pin(sheet: SheetKind) -> usize
+    ensures { result ≡ behind_pin (number_for sheet) }
 {
-    if number == 1 { 0 } else { 3 }
+    match sheet {
+        SheetKind::Pins => 0,
+        SheetKind::Cells => 3,
+    }
 }
 
 // A pin, and what its cell does.
-fn read_filled(bytes: &[u8], at: usize, kind: Kind, p: usize) -> Found
+fn read_filled(bytes: &[u8], at: usize, kind: Kind, p: usize) -> Option<Found>
     requires { CellAt kind.height at bytes.now }
-    ensures { CellTook (form_read kind.number kind.height p) bytes.now at result.at result.cell }
+    ensures took { CellTook (form_read (number_for kind.sheet) kind.height p) bytes.now at (at_of bytes.now result) (cell_of result) }
+    ensures inside { IfSome result (λ f. f.at ≤ 8 * length bytes.now) }
 {
-    let end = 8 * bytes.len();
-    let w = behind_pin(kind.number);
-    if end - at < 16 + w {
-        return Found {
-            at: end + 1,
-            cell: EMPTY,
-        };
+    let w = behind_pin(kind.sheet);
+    if 8 * bytes.len() - at < 16 + w {
+        return None;
     }
     let pin = field(bytes, at, 16);
     let does = field(bytes, at + 16, w);
     let cell = Cell::of_parts(Pin(pin), does);
     if !cell_fits(Height(kind.height), p, cell) {
-        return Found {
-            at: end + 1,
-            cell: EMPTY,
-        };
+        return None;
     }
-    Found {
+    Some(Found {
         at: at + 16 + w,
         cell: cell.0,
-    }
+    })
 }
 
 // The cell at position p, or the empty mark.
-fn read_cell(bytes: &[u8], at: usize, kind: Kind, p: usize) -> Found
+fn read_cell(bytes: &[u8], at: usize, kind: Kind, p: usize) -> Option<Found>
     requires { CellAt kind.height at bytes.now }
-    ensures { CellTook (read_cell (form kind.number) kind.height p) bytes.now at result.at result.cell }
+    ensures took { CellTook (read_cell (form (number_for kind.sheet)) kind.height p) bytes.now at (at_of bytes.now result) (cell_of result) }
+    ensures inside { IfSome result (λ f. f.at ≤ 8 * length bytes.now) }
 {
-    let end = 8 * bytes.len();
-    if end <= at {
-        return Found {
-            at: end + 1,
-            cell: EMPTY,
-        };
+    if 8 * bytes.len() <= at {
+        return None;
     }
     if field(bytes, at, 1) == 1 {
         return read_filled(bytes, at + 1, kind, p);
     }
-    Found {
+    Some(Found {
         at: at + 1,
         cell: EMPTY,
-    }
+    })
 }
 
 // The cells from position 1 on, behind position 0, which is empty.
-pub fn read_cells(bytes: &[u8], from: usize, kind: Kind, cells: &mut [u32]) -> usize
+pub fn read_cells(bytes: &[u8], from: usize, kind: Kind, cells: &mut [u32]) -> Option<usize>
     requires { CellsAt kind.height from bytes.now cells.old }
-    ensures { CellsTook (plan_read kind.number kind.height) bytes.now from result cells.old cells.new }
+    ensures took { CellsTook (plan_read (number_for kind.sheet) kind.height) bytes.now from (end_of bytes.now result) cells.old cells.new }
+    ensures inside { IfSome result (λ to. to ≤ 8 * length bytes.now) }
 {
-    let end = 8 * bytes.len();
     let mut at = from;
-    let mut p = 1;
-    while p < cells.len() {
-        let found = read_cell(bytes, at, kind, p);
-        if end < found.at {
-            return found.at;
-        }
+    for p in 1..cells.len() {
+        let found = read_cell(bytes, at, kind, p)?;
         cells[p] = found.cell;
         at = found.at;
-        p += 1;
     }
-    at
+    Some(at)
 }

@@ -1,5 +1,6 @@
 -- What a step of the walk reads: a word. Assumes nothing.
-use Rattle.std.specs.Prelude.{◌≡◌, true, false, List, [], ◌∷◌, ℕ, ◌+◌, ◌*◌, ◌^◌, ◌≤◌, length}
+use Rattle.std.specs.Prelude.{◌≡◌, Option, Some, None, true, false, List, [], ◌∷◌, ℕ, ◌+◌, ◌*◌, ◌^◌, ◌≤◌, length}
+use Rattle.sheet_read.specs.declared.steps.Step.{Step}
 use Rattle.rules.specs.Lists.{every}
 use Rattle.rules.specs.Cells.{is_height, word_fits}
 use Rattle.rules.specs.Job.{Read, cut, got, next, field, fields}
@@ -18,3 +19,8 @@ pub record WordsAt (K at s : ℕ) (xs : List ℕ) : Type 0 where
   pub small : length xs ≤ 2 ^ 40
   pub inside : at ≤ 8 * length xs
   pub room : s ≤ 2 ^ 50 + 2 * at
+
+-- a step by what it reads up to a bit, and how many numbers are stored then; past the end nothing was read
+abbrev pub TookAs : (ℕ → ℕ → Type 0) → List ℕ → Option Step → Type 0
+TookAs P xs None = P (8 * length xs + 1) 0
+TookAs P xs (Some r) = P r.at r.count × (r.at ≤ 8 * length xs)

@@ -1,5 +1,5 @@
 -- The walk through a whole sheet. Assumes nothing.
-use Rattle.std.specs.Prelude.{◌≡◌, Bool, true, false, ◌&&◌, List, ℕ, ◌*◌, ◌^◌, ◌<◌, ◌≤◌, ltb, eqb, length, get_or, drop}
+use Rattle.std.specs.Prelude.{◌≡◌, Option, Some, None, MatchOption, Result, Ok, Err, ◌+◌, true, false, ◌&&◌, List, ℕ, ◌*◌, ◌^◌, ◌<◌, ◌≤◌, ltb, eqb, length, get_or, drop}
 use Rattle.std.proofs.lemmas.List.Edits.{sets}
 use Rattle.rules.specs.Cells.{is_height, stage_size}
 use Rattle.rules.specs.Build.{Stage, cells_of, words_of, counts_of}
@@ -7,6 +7,11 @@ use Rattle.rules.specs.Graph.{Node, graph_of}
 use Rattle.rules.specs.Job.{Read, cut, got, next, field}
 use Rattle.bits.specs.Fields.{bits_in}
 use Rattle.sheet_form.specs.Sheets.{Sheet, read_height, refused, sheet}
+use Rattle.sheet_form.specs.Calls.{Areas, Reply, Loaded}
+use Rattle.refusals.specs.declared.Refusal.{Refusal}
+use Rattle.refusals.specs.Numbers.{number_of}
+use Rattle.sheet_read.specs.declared.walk.Contents.{Contents}
+use Rattle.sheet_read.specs.declared.walk.Extent.{Extent}
 use Rattle.sheet_form.specs.Lifting.{read_either}
 use Rattle.sheet_read.specs.Stages.{stages_with, Kept, StagesAre}
 
@@ -73,12 +78,10 @@ pub record Walked (number : ℕ) (gates xs p w c p' w' c' : List ℕ) (at K n to
   pub measured : Measured number gates xs at K n total
   pub stored : (h : at ≤ 8 * length xs) → Stored (measured.read h).ss p w c p' w' c'
 
--- the areas as they were
-pub record Judgement (number : ℕ) (gates xs p w c p' w' c' : List ℕ) (at K n total : ℕ) : Type 0 where
-  pub measured : Measured number gates xs at K n total
-  pub plan : p' ≡ p
-  pub words : w' ≡ w
-  pub counts : c' ≡ c
+-- past the end nothing was read
+abbrev pub WalkedAs : (ℕ → ℕ → ℕ → ℕ → Type 0) → List ℕ → Option Extent → Type 0
+WalkedAs P xs None = P (8 * length xs + 1) 0 0 0
+WalkedAs P xs (Some e) = P e.at e.contents.height e.contents.stages e.contents.words × (e.at ≤ 8 * length xs)
 
 -- the first byte names a sheet number that can be read
 pub record Begins (number : ℕ) (gates xs : List ℕ) : Type 0 where
@@ -100,10 +103,15 @@ pub record Known (number : ℕ) (gates xs : List ℕ) (K n total : ℕ) : Type 0
   pub size : length (cells_of ss) ≡ n * stage_size K
   pub count : length (counts_of ss) ≡ n
 
--- 15 or a sheet, the areas as they were
-pub record JudgedAs (number : ℕ) (gates xs p w c p' w' c' : List ℕ) (is : Bool) (K n total : ℕ) : Type 0 where
-  pub plan : p' ≡ p
-  pub words : w' ≡ w
-  pub counts : c' ≡ c
-  pub no : is ≡ false → read_either gates xs ≡ refused 15
-  pub yes : is ≡ true → Known number gates xs K n total
+-- 15 or a sheet
+abbrev pub JudgedAs : (number : ℕ) (gates xs : List ℕ) → Option Contents → Type 0
+JudgedAs number gates xs r = MatchOption r (read_either gates xs ≡ refused 15) (λ s. Known number gates xs s.height s.stages s.words)
+
+-- the answer
+abbrev pub reply : Result Contents Refusal → Reply
+reply (Ok s) = record { number = 0; height = s.height; stages = s.stages; words = s.words }
+reply (Err why) = record { number = number_of why; height = 0; stages = 0; words = 0 }
+
+-- with the areas at exit
+abbrev pub told : Result Contents Refusal → Areas → Loaded
+told r a = record { reply = reply r; areas = a }

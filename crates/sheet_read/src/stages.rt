@@ -2,6 +2,8 @@
 ghost use Rattle.std.specs.Prelude.{◌≡◌, ◌+◌, ◌^◌, ◌≤◌, length};
 ghost use Rattle.std.proofs.lemmas.List.Edits.{sets};
 ghost use Rattle.sheet_read.specs.Stages.{CountedAt, CountedTook, StageAt, StageTook, StagesAt, StagesTook};
+ghost use Rattle.sheet_form.specs.Kinds.{number_for};
+ghost use Rattle.sheet_read.specs.Steps.{TookAs};
 
 use crate::steps::{Step, read_words, store};
 use bits::field;
@@ -23,17 +25,13 @@ fn read_counted(
     height: u32,
     words: &mut [u32],
     counts: &mut [u32],
-) -> Step
+) -> Option<Step>
     requires { CountedAt height place.at place.words bytes.now }
-    ensures { CountedTook height place.stage bytes.now place.at place.words words.old counts.old words.new counts.new result.at result.count }
+    ensures { TookAs (CountedTook height place.stage bytes.now place.at place.words words.old counts.old words.new counts.new) bytes.now result }
 {
-    let end = 8 * bytes.len();
     let at = place.at;
-    if end - at < 16 {
-        return Step {
-            at: end + 1,
-            count: place.words,
-        };
+    if 8 * bytes.len() - at < 16 {
+        return None;
     }
     let n = field(bytes, at, 16);
     store(counts, place.stage, n);
@@ -45,10 +43,8 @@ fn lay(plan: &mut [u32], at: usize, cells: &[u32])
     requires { at + length cells.now ≤ 2 ^ 40 }
     ensures { plan.new ≡ sets plan.old at cells.now }
 {
-    let mut i = 0;
-    while i < cells.len() {
+    for i in 0..cells.len() {
         store(plan, at + i, cells[i]);
-        i += 1;
     }
 }
 
@@ -62,21 +58,14 @@ fn read_stage(
     plan: &mut [u32],
     words: &mut [u32],
     counts: &mut [u32],
-) -> Step
+) -> Option<Step>
     requires { StageAt kind.height place.stage place.at place.words bytes.now cells.old }
-    ensures { StageTook kind.number kind.height gates.now place.stage bytes.now place.at place.words cells.old plan.old words.old counts.old cells.new plan.new words.new counts.new result.at result.count }
+    ensures { TookAs (StageTook (number_for kind.sheet) kind.height gates.now place.stage bytes.now place.at place.words cells.old plan.old words.old counts.old cells.new plan.new words.new counts.new) bytes.now result }
 {
-    let end = 8 * bytes.len();
-    let a = read_counted(bytes, place, kind.height, words, counts);
-    if end < a.at {
-        return a;
-    }
-    let at = read_plan(bytes, a.at, kind, gates, cells);
+    let a = read_counted(bytes, place, kind.height, words, counts)?;
+    let at = read_plan(bytes, a.at, kind, gates, cells)?;
     lay(plan, place.stage * cells.len(), cells);
-    Step {
-        at: at,
-        count: a.count,
-    }
+    Some(Step { at, count: a.count })
 }
 
 // The bit behind n stages, and their words.
@@ -89,30 +78,21 @@ pub fn read_stages(
     plan: &mut [u32],
     words: &mut [u32],
     counts: &mut [u32],
-) -> Step
+) -> Option<Step>
     requires { StagesAt kind.height n bytes.now cells.old }
-    ensures { StagesTook kind.number kind.height gates.now n bytes.now cells.old plan.old words.old counts.old cells.new plan.new words.new counts.new result.at result.count }
+    ensures { TookAs (StagesTook (number_for kind.sheet) kind.height gates.now n bytes.now cells.old plan.old words.old counts.old cells.new plan.new words.new counts.new) bytes.now result }
 {
-    let end = 8 * bytes.len();
     let mut at = 28;
     let mut total = 0;
-    let mut i = 0;
-    while i < n {
+    for i in 0..n {
         let place = Place {
-            at: at,
+            at,
             stage: i,
             words: total,
         };
-        let step = read_stage(bytes, place, kind, gates, cells, plan, words, counts);
-        if end < step.at {
-            return step;
-        }
+        let step = read_stage(bytes, place, kind, gates, cells, plan, words, counts)?;
         at = step.at;
         total = step.count;
-        i += 1;
     }
-    Step {
-        at: at,
-        count: total,
-    }
+    Some(Step { at, count: total })
 }

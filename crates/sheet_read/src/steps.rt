@@ -1,8 +1,8 @@
-// The walk through words. A number is stored where the area reaches so far, so that an area of length 0 only measures. A step that ends past
-// the end met what 15 refuses, and the walk stops there.
+// The walk through words. A number is stored where the area reaches so far, so that an area of length 0 only measures. The walk stops where
+// it meets what 15 refuses.
 ghost use Rattle.std.specs.Prelude.{◌≡◌, set};
 ghost use Rattle.job.specs.Steps.{Took};
-ghost use Rattle.sheet_read.specs.Steps.{one_word, words_read, WordsAt};
+ghost use Rattle.sheet_read.specs.Steps.{one_word, words_read, WordsAt, TookAs};
 
 use bits::field;
 use cells::{Height, wide};
@@ -17,36 +17,28 @@ pub struct Step {
 pub fn store(area: &mut [u32], i: usize, x: u32)
     ensures { area.new ≡ set area.old i x }
 {
-    if area.len() <= i {
-        return;
+    if i < area.len() {
+        area[i] = x;
     }
-    area[i] = x;
 }
 
 // A word below W.
-fn read_word(bytes: &[u8], at: usize, height: u32, area: &mut [u32], s: usize) -> Step
+fn read_word(bytes: &[u8], at: usize, height: u32, area: &mut [u32], s: usize) -> Option<Step>
     requires { WordsAt height at s bytes.now }
-    ensures { Took (one_word height) bytes.now at s area.old area.new result.at result.count }
+    ensures { TookAs (Took (one_word height) bytes.now at s area.old area.new) bytes.now result }
 {
-    let end = 8 * bytes.len();
-    if end - at < 8 {
-        return Step {
-            at: end + 1,
-            count: s,
-        };
+    if 8 * bytes.len() - at < 8 {
+        return None;
     }
     let word = field(bytes, at, 8);
     if Height(height).word_limit() <= wide(word) {
-        return Step {
-            at: end + 1,
-            count: s,
-        };
+        return None;
     }
     store(area, s, word);
-    Step {
+    Some(Step {
         at: at + 8,
         count: s + 1,
-    }
+    })
 }
 
 pub fn read_words(
@@ -56,25 +48,16 @@ pub fn read_words(
     n: usize,
     area: &mut [u32],
     s: usize,
-) -> Step
+) -> Option<Step>
     requires { WordsAt height from s bytes.now }
-    ensures { Took (words_read height n) bytes.now from s area.old area.new result.at result.count }
+    ensures { TookAs (Took (words_read height n) bytes.now from s area.old area.new) bytes.now result }
 {
-    let end = 8 * bytes.len();
     let mut at = from;
     let mut count = s;
-    let mut i = 0;
-    while i < n {
-        let step = read_word(bytes, at, height, area, count);
-        if end < step.at {
-            return step;
-        }
+    for i in 0..n {
+        let step = read_word(bytes, at, height, area, count)?;
         at = step.at;
         count = step.count;
-        i += 1;
     }
-    Step {
-        at: at,
-        count: count,
-    }
+    Some(Step { at, count })
 }

@@ -1,22 +1,31 @@
 // The walk through a whole sheet whose number is known.
-ghost use Rattle.std.specs.Prelude.{◌≡◌, false, drop};
+ghost use Rattle.std.specs.Prelude.{◌≡◌, drop};
 ghost use Rattle.rules.specs.Job.{is_padding};
 ghost use Rattle.bits.specs.Fields.{bits_in};
-ghost use Rattle.sheet_read.specs.Walk.{WalkAt, WalkTook, SheetAt, PaddingAt, Walked, Judgement, Begins, JudgedAs};
+ghost use Rattle.sheet_read.specs.Walk.{WalkAt, WalkTook, SheetAt, PaddingAt, Walked, WalkedAs, Begins, JudgedAs};
+ghost use Rattle.sheet_form.specs.Kinds.{number_for};
+ghost use Rattle.sheet_read.specs.Steps.{TookAs};
 
 use crate::stages::read_stages;
 use crate::steps::Step;
 use bits::field;
 use cells::{Height, is_height, wide};
+use sheet_form::SheetKind;
 use sheet_plan::Kind;
 
-// The bit behind the stages, past the end where 15 refuses them; the height, how many stages and words.
+// What a sheet has: the height, the stages and the words.
 #[derive(Clone, Copy)]
-pub struct Extent {
-    pub at: usize,
+pub struct Contents {
     pub height: u32,
     pub stages: usize,
     pub words: usize,
+}
+
+// The bit behind the stages, and what they are.
+#[derive(Clone, Copy)]
+pub struct Extent {
+    pub at: usize,
+    pub contents: Contents,
 }
 
 // The stages, by way of a local area for a stage's cells.
@@ -28,9 +37,9 @@ fn walk_stages(
     plan: &mut [u32],
     words: &mut [u32],
     counts: &mut [u32],
-) -> Step
+) -> Option<Step>
     requires { WalkAt kind.height n bytes.now }
-    ensures { WalkTook kind.number kind.height gates.now n bytes.now plan.old words.old counts.old plan.new words.new counts.new result.at result.count }
+    ensures { TookAs (WalkTook (number_for kind.sheet) kind.height gates.now n bytes.now plan.old words.old counts.old plan.new words.new counts.new) bytes.now result }
 {
     let mut cells: [u32; 16384] = [0; 16384];
     let size = Height(kind.height).stage_size();
@@ -48,45 +57,33 @@ fn walk_stages(
 
 pub fn walk(
     bytes: &[u8],
-    number: u32,
+    sheet: SheetKind,
     gates: &[u32],
     plan: &mut [u32],
     words: &mut [u32],
     counts: &mut [u32],
-) -> Extent
+) -> Option<Extent>
     requires { SheetAt bytes.now }
-    ensures { Walked number gates.now bytes.now plan.old words.old counts.old plan.new words.new counts.new result.at result.height result.stages result.words }
+    ensures { WalkedAs (Walked (number_for sheet) gates.now bytes.now plan.old words.old counts.old plan.new words.new counts.new) bytes.now result }
 {
-    let end = 8 * bytes.len();
-    if end < 28 {
-        return Extent {
-            at: end + 1,
-            height: 0,
-            stages: 0,
-            words: 0,
-        };
+    if 8 * bytes.len() < 28 {
+        return None;
     }
     let height = field(bytes, 8, 4);
     if !is_height(height) {
-        return Extent {
-            at: end + 1,
-            height: 0,
-            stages: 0,
-            words: 0,
-        };
+        return None;
     }
     let n = wide(field(bytes, 12, 16));
-    let kind = Kind {
-        number: number,
-        height: height,
-    };
-    let r = walk_stages(bytes, n, kind, gates, plan, words, counts);
-    Extent {
+    let kind = Kind { sheet, height };
+    let r = walk_stages(bytes, n, kind, gates, plan, words, counts)?;
+    Some(Extent {
         at: r.at,
-        height: height,
-        stages: n,
-        words: r.count,
-    }
+        contents: Contents {
+            height,
+            stages: n,
+            words: r.count,
+        },
+    })
 }
 
 // Is nothing left from a bit on but zero bits up to a byte?
@@ -101,74 +98,20 @@ fn is_padding(bytes: &[u8], at: usize) -> bool
     field(bytes, at, left) == 0
 }
 
-// The walk in empty areas.
-fn measure(
-    bytes: &[u8],
-    number: u32,
-    gates: &[u32],
-    plan: &mut [u32],
-    words: &mut [u32],
-    counts: &mut [u32],
-) -> Extent
-    requires { SheetAt bytes.now }
-    ensures { Judgement number gates.now bytes.now plan.old words.old counts.old plan.new words.new counts.new result.at result.height result.stages result.words }
-{
-    walk(
-        bytes,
-        number,
-        gates,
-        &mut plan[0..0],
-        &mut words[0..0],
-        &mut counts[0..0],
-    )
-}
-
-// What a sheet has; `is` is false where 15 refuses the bytes.
-#[derive(Clone, Copy)]
-pub struct Judged {
-    pub is: bool,
-    pub height: u32,
-    pub stages: usize,
-    pub words: usize,
-}
-
-fn none() -> Judged
-    ensures { result.is ≡ false }
-{
-    Judged {
-        is: false,
-        height: 0,
-        stages: 0,
-        words: 0,
-    }
-}
-
-// No sheet has more than 2^40 bytes.
-pub fn judge(
-    bytes: &[u8],
-    number: u32,
-    gates: &[u32],
-    plan: &mut [u32],
-    words: &mut [u32],
-    counts: &mut [u32],
-) -> Judged
-    requires { Begins number gates.now bytes.now }
-    ensures { JudgedAs number gates.now bytes.now plan.old words.old counts.old plan.new words.new counts.new result.is result.height result.stages result.words }
+// What a sheet has, found by a walk that stores nothing; none where 15 refuses the bytes. No sheet has more than 2^40 bytes.
+pub fn judge(bytes: &[u8], sheet: SheetKind, gates: &[u32]) -> Option<Contents>
+    requires { Begins (number_for sheet) gates.now bytes.now }
+    ensures { JudgedAs (number_for sheet) gates.now bytes.now result }
 {
     if 1099511627776 < bytes.len() {
-        return none();
+        return None;
     }
-    let m = measure(bytes, number, gates, plan, words, counts);
-    if 8 * bytes.len() < m.at {
-        return none();
-    }
+    let mut plan: [u32; 0] = [];
+    let mut words: [u32; 0] = [];
+    let mut counts: [u32; 0] = [];
+    let m = walk(bytes, sheet, gates, &mut plan, &mut words, &mut counts)?;
     if !is_padding(bytes, m.at) {
-        return none();
+        return None;
     }
-    Judged {
-        is: true,
-        height: m.height,
-        stages: m.stages,
-        words: m.words,
-    }
+    Some(m.contents)
 }

@@ -6,21 +6,15 @@ mod sections;
 
 ghost use Rattle.std.specs.Prelude.{◌≡◌};
 ghost use Rattle.sheet_form.specs.Forms.{sheet_two};
-ghost use Rattle.sheet_form.specs.Calls.{areas, written, writer};
+ghost use Rattle.sheet_form.specs.Calls.{areas, writer};
+ghost use Rattle.sheet_write.specs.Fits.{wrote};
 
 use fits::measure;
-use refusals::{NO_SHEET, TOO_SHORT};
+use refusals::Refusal;
 use sections::put_sheet;
 
-// The number of document 02, and how many bytes the sheet has; 0 on refusal.
-#[derive(Clone, Copy)]
-pub struct Written {
-    pub number: u32,
-    pub length: usize,
-}
-
-// The sheet of the stages that a build left, to the front of the bytes. Refusals: 15 where no sheet holds them, 17 where the bytes are too few; they
-// change nothing, so the sheet is measured first.
+// The sheet of the stages that a build left, to the front of the bytes, and how many bytes it has. Refusals: 15 where no sheet holds them, 17 where the
+// bytes are too few; they change nothing, so the sheet is measured first.
 pub fn write(
     height: u32,
     stages: usize,
@@ -28,26 +22,16 @@ pub fn write(
     words: &[u32],
     counts: &[u32],
     bytes: &mut [u8],
-) -> Written
-    ensures { written result.number result.length bytes.new ≡ writer sheet_two height stages (areas plan.now words.now counts.now) bytes.old }
+) -> Result<usize, Refusal>
+    ensures { wrote result bytes.new ≡ writer sheet_two height stages (areas plan.now words.now counts.now) bytes.old }
 {
-    let bits = measure(height, stages, plan, words, counts);
-    if bits == 0 {
-        return Written {
-            number: NO_SHEET,
-            length: 0,
-        };
-    }
+    let Some(bits) = measure(height, stages, plan, words, counts) else {
+        return Err(Refusal::NoSheet);
+    };
     let length = (bits + 7) / 8;
     if bytes.len() < length {
-        return Written {
-            number: TOO_SHORT,
-            length: 0,
-        };
+        return Err(Refusal::TooShort);
     }
     put_sheet(height, stages, plan, words, counts, bytes);
-    Written {
-        number: 0,
-        length: length,
-    }
+    Ok(length)
 }

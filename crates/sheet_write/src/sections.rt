@@ -10,7 +10,7 @@ ghost use Rattle.sheet_write.specs.Sections.{file_bits, CellPut, CellsTo, CellsP
 use bits::put;
 use cell::Cell;
 use cells::{Height, wide};
-use sheet_form::SHEET_TWO;
+use sheet_form::SheetKind;
 
 // A one, the pin and what the cell does; a zero for an empty cell.
 fn put_cell(bytes: &mut [u8], at: usize, cell: Cell) -> usize
@@ -31,10 +31,8 @@ fn put_cells(bytes: &mut [u8], from: usize, cells: &[u32]) -> usize
     ensures { CellsPut cells.now bytes.old bytes.new from result }
 {
     let mut at = from;
-    let mut i = 1;
-    while i < cells.len() {
+    for i in 1..cells.len() {
         at = put_cell(bytes, at, Cell(cells[i]));
-        i += 1;
     }
     at
 }
@@ -44,10 +42,8 @@ fn put_words(bytes: &mut [u8], from: usize, words: &[u32]) -> usize
     ensures { Put (gather (bits_of 8) words.now) bytes.old bytes.new from result }
 {
     let mut at = from;
-    let mut i = 0;
-    while i < words.len() {
-        at = put(bytes, at, 8, words[i]);
-        i += 1;
+    for w in words {
+        at = put(bytes, at, 8, *w);
     }
     at
 }
@@ -76,8 +72,7 @@ fn put_stages(
     let size = Height(height).stage_size();
     let mut at = 28;
     let mut from = 0;
-    let mut i = 0;
-    while i < stages {
+    for i in 0..stages {
         let count = wide(counts[i]);
         at = put_stage(
             bytes,
@@ -86,7 +81,6 @@ fn put_stages(
             &words[from..from + count],
         );
         from += count;
-        i += 1;
     }
     at
 }
@@ -103,7 +97,7 @@ pub fn put_sheet(
     requires { Fitting height stages (areas plan.now words.now counts.now) }
     ensures { Put (file_bits height stages (areas plan.now words.now counts.now)) bytes.old bytes.new 0 result }
 {
-    let p = put(bytes, 0, 8, SHEET_TWO);
+    let p = put(bytes, 0, 8, SheetKind::Cells.number());
     let q = put(bytes, p, 4, height);
     put(bytes, q, 16, stages as u32);
     let r = put_stages(bytes, height, stages, plan, words, counts);

@@ -10,45 +10,44 @@ use Rattle.rules.specs.Checks.{plan_sized, areas_sized}
 use Rattle.rules.proofs.Lists.Members.{split, and_true}
 use Rattle.cells.specs.Answers.{or_zero}
 use Rattle.cells.proofs.Heights.{or_zero_true}
-use Rattle.sizes.specs.declared.Left.{Left}
-use Rattle.sizes.specs.declared.Left.TheVariants.{Room, Short}
-use Rattle.sizes.specs.Values.{less, fits}
+use Rattle.std.specs.Prelude.{Option, Some, None}
+use Rattle.std.specs.Option.{is_some}
+use Rattle.sizes.specs.Values.{less}
 use Rattle.rules.proofs.Bools.{and_right, and_assoc}
 
-less_there : (n k : ℕ) → k ≤ n → less (Room n) k ≡ Room (n - k)
+less_there : (n k : ℕ) → k ≤ n → less (Some n) k ≡ Some (n - k)
 unfolding less
 less_there n k h = rw (le-leb k n h, less)
 
-less_short : (n k : ℕ) → n < k → less (Room n) k ≡ Short
+less_short : (n k : ℕ) → n < k → less (Some n) k ≡ None
 unfolding less
 less_short n k h = rw (lt-leb k n h, less)
 
 -- k eights can be taken where an eighth of the area is at least k
-pub eights_there : (n k : ℕ) → k ≤ n / 8 → Room (n - 8 * k) ≡ less (Room n) (8 * k)
+pub eights_there : (n k : ℕ) → k ≤ n / 8 → Some (n - 8 * k) ≡ less (Some n) (8 * k)
 eights_there n k h = sym (less_there n (8 * k) (omega arith))
 
 -- k eights can't be taken from less
-pub eights_short : (n k : ℕ) → n / 8 < k → Short ≡ less (Room n) (8 * k)
+pub eights_short : (n k : ℕ) → n / 8 < k → None ≡ less (Some n) (8 * k)
 eights_short n k h = sym (less_short n (8 * k) (omega arith))
 
 -- an area that was too short stays so
-pub short_less : (k : ℕ) → Short ≡ less Short k
+pub short_less : (k : ℕ) → None ≡ less None k
 unfolding less
 short_less k = refl
 
 -- one taking after another
-pub less_less : (l : Left) (a b : ℕ) → less (less l a) b ≡ less l (a + b)
-less_less Short a b = rw (← short_less a, ← short_less b, ← short_less (a + b))
-less_less (Room n) a b = split (leb a n)
+pub less_less : (l : Option ℕ) (a b : ℕ) → less (less l a) b ≡ less l (a + b)
+less_less None a b = rw (← short_less a, ← short_less b, ← short_less (a + b))
+less_less (Some n) a b = split (leb a n)
     (λ t. let h = leb-true a n t in rw (less_there n a h) (split (leb b (n - a))
     (λ u. let k = leb-true b (n - a) u in let e : n - a - b ≡ n - (a + b) = omega arith in rw (less_there (n - a) b k, less_there n (a + b) (omega arith), e))
     (λ u. let k = leb-false b (n - a) u in rw (less_short (n - a) b k, less_short n (a + b) (omega arith)))))
     (λ t. let h = leb-false a n t in rw (less_short n a h, ← short_less b, less_short n (a + b) (omega arith)))
 
 -- taking so many fits exactly where the area has so many
-pub less_fits : (n k : ℕ) → fits (less (Room n) k) ≡ leb k n
-unfolding fits
-less_fits n k = split (leb k n) (λ t. rw (less_there n k (leb-true k n t), t)) (λ t. rw (less_short n k (leb-false k n t), t))
+pub less_is_some : (n k : ℕ) → is_some (less (Some n) k) ≡ leb k n
+less_is_some n k = split (leb k n) (λ t. rw (less_there n k (leb-true k n t), t)) (λ t. rw (less_short n k (leb-false k n t), t))
 
 -- the areas of a merge take more of the work area, and of nothing else
 pub work_apart : (K need plan words counts work : ℕ) → areas_sized K need plan words counts work ≡ areas_sized K 0 plan words counts 0 && leb need work
@@ -56,10 +55,10 @@ unfolding areas_sized
 work_apart K need plan words counts work = rw (and_right (plan_sized K plan && leb (word_limit K) words && leb (rooms K plan) counts))
 
 -- what a build needs, eight by eight
-pub work_taken : (pins records work : ℕ) → less (less (less (less (Room work) (8 * pins)) (8 * pins)) (8 * records)) (8 * 64) ≡ less (Room work) (16 * pins + 8 * records + 512)
+pub work_taken : (pins records work : ℕ) → less (less (less (less (Some work) (8 * pins)) (8 * pins)) (8 * records)) (8 * 64) ≡ less (Some work) (16 * pins + 8 * records + 512)
 work_taken pins records work =
     let e : 8 * pins + 8 * pins + 8 * records + 512 ≡ 16 * pins + 8 * records + 512 = omega arith in
-    rw (less_less (Room work) (8 * pins) (8 * pins), less_less (Room work) (8 * pins + 8 * pins) (8 * records), less_less (Room work) (8 * pins + 8 * pins + 8 * records) 512, e)
+    rw (less_less (Some work) (8 * pins) (8 * pins), less_less (Some work) (8 * pins + 8 * pins) (8 * records), less_less (Some work) (8 * pins + 8 * pins + 8 * records) 512, e)
 
 -- a bad height fails, whatever else is tested
 pub no_height : (K : ℕ) (b : Bool) → is_height K ≡ false → false ≡ is_height K && b
@@ -109,5 +108,5 @@ module _ (K need plan words counts work : ℕ) where
   others_wrong e = rw (work_apart K need plan words counts work, ← and_assoc (is_height K) (areas_sized K 0 plan words counts 0) (leb need work), e)
 
   -- where the others are right the work area decides
-  pub work_tested : is_height K && areas_sized K 0 plan words counts 0 ≡ true → (b : Bool) → b ≡ fits (less (Room work) need) → b ≡ is_height K && areas_sized K need plan words counts work
-  work_tested e b d = rw (work_apart K need plan words counts work, ← and_assoc (is_height K) (areas_sized K 0 plan words counts 0) (leb need work), e, d) (less_fits work need)
+  pub work_tested : is_height K && areas_sized K 0 plan words counts 0 ≡ true → (b : Bool) → b ≡ is_some (less (Some work) need) → b ≡ is_height K && areas_sized K need plan words counts work
+  work_tested e b d = rw (work_apart K need plan words counts work, ← and_assoc (is_height K) (areas_sized K 0 plan words counts 0) (leb need work), e, d) (less_is_some work need)

@@ -1,51 +1,31 @@
 // The sizes of lent areas, compared as true numbers: what an area needs is taken off step by step, so that no product wraps.
 #![tactic(auto)]
 
-ghost use Rattle.std.specs.Prelude.{◌≡◌, ◌&&◌, ◌+◌, ◌*◌, ◌/◌};
+ghost use Rattle.std.specs.Prelude.{◌≡◌, ◌&&◌, ◌+◌, ◌*◌, ◌/◌, Some};
 ghost use Rattle.rules.specs.Cells.{is_height};
 ghost use Rattle.rules.specs.Checks.{plan_sized, areas_sized};
-ghost use Rattle.sizes.specs.Values.{less, fits};
+ghost use Rattle.sizes.specs.Values.{less};
 
 use cells::{Height, is_height};
 
-// What is left of an area.
-#[derive(Clone, Copy)]
-pub enum Left {
-    Room(usize),
-    Short,
-}
-
-// Takes 8 numbers for each of `count`.
-pub fn take_eights(left: Left, count: usize) -> Left
+// Takes 8 numbers for each of `count` off what is left of an area: none where it is too short.
+pub fn take_eights(left: Option<usize>, count: usize) -> Option<usize>
     ensures { result ≡ less left (8 * count) }
 {
-    match left {
-        Left::Short => Left::Short,
-        Left::Room(n) => {
-            if count <= n / 8 {
-                Left::Room(n - 8 * count)
-            } else {
-                Left::Short
-            }
-        }
-    }
-}
-
-pub fn has_room(left: Left) -> bool
-    ensures { result ≡ fits left }
-{
-    match left {
-        Left::Short => false,
-        Left::Room(_) => true,
+    let n = left?;
+    if count <= n / 8 {
+        Some(n - 8 * count)
+    } else {
+        None
     }
 }
 
 // What is left of a work area behind what a build needs, by the lengths of gates, records and area.
-pub fn work_left(gates: usize, records: usize, work: usize) -> Left
-    ensures { result ≡ less (Left.Room work) (16 * (gates / 2) + 8 * records + 512) }
+pub fn work_left(gates: usize, records: usize, work: usize) -> Option<usize>
+    ensures { result ≡ less (Some work) (16 * (gates / 2) + 8 * records + 512) }
 {
     let pins = gates / 2;
-    let first = take_eights(Left::Room(work), pins);
+    let first = take_eights(Some(work), pins);
     let second = take_eights(first, pins);
     let third = take_eights(second, records);
     take_eights(third, 64)
@@ -89,5 +69,5 @@ pub fn areas_sized(
     if !lent_sized(height, plan, words, counts) {
         return false;
     }
-    has_room(work_left(gates, records, work))
+    work_left(gates, records, work).is_some()
 }

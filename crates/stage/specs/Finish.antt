@@ -1,11 +1,11 @@
 -- Rules 8 to 11 after the loop: what they find and leave. pl is the stage, w the work area. Assumes nothing.
-use Rattle.std.specs.Prelude.{◌≡◌, List, [], ◌∷◌, ◌++◌, ℕ, ◌+◌, ◌*◌, ◌^◌, ◌<◌, ◌≤◌, length, get_or}
+use Rattle.std.specs.Prelude.{Result, IfOk, IfErr, ◌≡◌, List, [], ◌∷◌, ◌++◌, ℕ, ◌+◌, ◌*◌, ◌^◌, ◌<◌, ◌≤◌, length, get_or}
 use Rattle.rules.specs.Lists.{found, count, laid_at, In}
 use Rattle.rules.specs.Cells.{filled, row_at, row, first_empty}
 use Rattle.rules.specs.Traversal.{Setting, level_at, needed_runs}
 use Rattle.rules.specs.Placing.{tree, needed_of}
 use Rattle.rules.specs.Ending.{plan, Stage?, refused, stage, close, in_need, last_stage, written, rest, finish}
-use Rattle.rules.specs.Capacity.{crowd, ones_then, needs_left}
+use Rattle.rules.specs.Capacity.{crowd}
 use Rattle.rules.specs.Inside.Plans.{Fair}
 use Rattle.columns.specs.Fields.{ORDER, DONE, LEVEL, WAITING, CELLS, REVERSE, NEEDED, LISTED, STACK, PHASE, PLACE, MARK, SPARE, TAIL}
 use Rattle.columns.specs.Area.{Room, Frame}
@@ -15,7 +15,10 @@ use Rattle.stage_tree.specs.Bits.{Standing}
 use Rattle.stage_runs.specs.declared.Spent.{Spent}
 use Rattle.stage_ending.specs.declared.last.Kept.{Kept}
 use Rattle.stage_ending.specs.Close.{Gone}
+use Rattle.refusals.specs.Numbers.{number_of}
 use Rattle.stage.specs.declared.finish.Outcome.{Outcome}
+use Rattle.stage.specs.declared.finish.Stopped.{Stopped}
+use Rattle.stage.specs.Stopped.{refusal_of, Tells}
 
 -- the plan of rules 2 to 7 stands; o pins are listed, n wait, q are needed
 pub record FinishAt (C : Context) (m K half o n q : ℕ) (at room : ℕ) (gates pl w words : List ℕ) : Type 0 where
@@ -59,22 +62,17 @@ pub record Whole (C : Context) (m at room : ℕ) (s : Stage?) (words : List ℕ)
 abbrev pub touched : List ℕ
 touched = DONE ∷ LEVEL ∷ WAITING ∷ CELLS ∷ REVERSE ∷ LISTED ∷ STACK ∷ PHASE ∷ PLACE ∷ MARK ∷ SPARE ∷ TAIL ∷ []
 
--- what refuses the stage s, pl being the plan of rules 2 to 7. 7: the words wanted. 8: the level-1 cells filled and the needed pins left where
--- rule 9 starts
-pub record Refuses (X : Setting) (pl : List ℕ) (s : Stage?) (e : Outcome) : Type 0 where
-  pub is : s ≡ refused e.number
-  pub seven : e.number ≡ 7 → e.words ≡ length (written X pl).words
-  pub ones : e.number ≡ 8 → e.cells ≡ ones_then X pl
-  pub needs : e.number ≡ 8 → e.waiting ≡ needs_left X pl
-  pub few : e.words ≤ 128
-  pub small : e.cells + e.waiting ≤ 131072
+-- what refuses the stage s, pl being the plan of rules 2 to 7
+pub record Refuses (X : Setting) (pl : List ℕ) (s : Stage?) (e : Stopped) : Type 0 where
+  pub is : s ≡ refused (number_of (refusal_of e))
+  pub tells : Tells X pl e
 
 -- the stage of rules 2 to 7's plan pl₀, and what the walks wrote at its pins is gone; or what refuses it
-pub record Finished (C : Context) (m at room : ℕ) (pl₀ pl w words : List ℕ) (e : Outcome) (pl' w' words' : List ℕ) : Type 0 where
+pub record Finished (C : Context) (m at room : ℕ) (pl₀ pl w words : List ℕ) (e : Result Outcome Stopped) (pl' w' words' : List ℕ) : Type 0 where
   pub changed : Changed touched 259 m at room pl w words pl' w' words'
-  pub refuses : 0 < e.number → Refuses C.X pl₀ (finish C.X room pl₀) e
-  pub whole : e.number ≡ 0 → Whole C m at room (finish C.X room pl₀) words e pl' w' words'
-  pub gone : e.number ≡ 0 → Gone m C.X.order w w'
+  pub refuses : IfErr e (Refuses C.X pl₀ (finish C.X room pl₀))
+  pub whole : IfOk e (λ o. Whole C m at room (finish C.X room pl₀) words o pl' w' words')
+  pub gone : IfOk e (λ o. Gone m C.X.order w w')
 
 -- ---- between the rules: pl is the plan before rule 8, pl' the one that stands
 
@@ -132,6 +130,6 @@ pub record Lasting (C : Context) (pl : List ℕ) (m at room : ℕ) (s : Spent) (
   pub past : (j : ℕ) → 256 ≤ j → get_or w' (16 * m + j) 0 ≡ get_or w (16 * m + j) 0
 
 -- after rule 11, or a refusal
-pub record Ends (C : Context) (pl : List ℕ) (m at room : ℕ) (s : Spent) (pl' w words : List ℕ) (e : Outcome) (pl'' w' words' : List ℕ) : Type 0 where
+pub record Ends (C : Context) (pl : List ℕ) (m at room : ℕ) (s : Spent) (pl' w words : List ℕ) (e : Result Outcome Stopped) (pl'' w' words' : List ℕ) : Type 0 where
   pub finished : Finished C m at room pl pl' w words e pl'' w' words'
-  pub longer : e.number ≡ 0 → s.words ≤ e.words
+  pub longer : IfOk e (λ o. s.words ≤ o.words)

@@ -1,2 +1,3 @@
 pub mod Finish
 pub mod Stage
+pub mod Stopped

@@ -14,7 +14,7 @@ use stage_tally::Tally;
 
 mod finish;
 
-pub use finish::Outcome;
+pub use finish::{Outcome, Stopped};
 
 // Builds a stage for n waiting pins in `stage`, which is empty; its words go behind those spent, as many as the tally leaves. m = N + 1.
 pub fn build_one_stage(
@@ -26,7 +26,7 @@ pub fn build_one_stage(
     height: Height,
     n: usize,
     tally: Tally,
-) -> Outcome
+) -> Result<Outcome, Stopped>
     requires { Counted tally × Some (λ C. StageAt C m height.0 (row_at height.0 1) n tally.spent (room tally) gates.now stage.old work.old words.old) }
     ensures { Every (λ C. StageAt C m height.0 (row_at height.0 1) n tally.spent (room tally) gates.now stage.old work.old words.old) (λ C. Staged C m tally.spent (room tally) stage.old work.old words.old result stage.new work.new words.new) }
 {

@@ -25,6 +25,7 @@ pub record Lasted (m K n at room : ℕ) (s : Kept) (pl w words : List ℕ) (e : 
   pub past : (j : ℕ) → 256 ≤ j → get_or w' (16 * m + j) 0 ≡ get_or w (16 * m + j) 0
   pub len : length words' ≡ length words
   pub more : s.words + length (end_words m K pl w) ≤ room →
-      (e.words ≡ s.words + length (end_words m K pl w)) × (words' ≡ laid_at (at + s.words) (end_words m K pl w) words) × Marked STACK MARK m e.real (insert_all (keep (is_tree m w) (list WAITING m n w)) (list STACK m s.real w)) w'
+      (e.words ≡ s.words + length (end_words m K pl w)) × (words' ≡ laid_at (at + s.words) (end_words m K pl w) words) × Marked STACK MARK m e.real
+      (insert_all (keep (is_tree m w) (list WAITING m n w)) (list STACK m s.real w)) w'
   pub none : room < s.words + length (end_words m K pl w) →
       (e.words ≡ s.words) × (words' ≡ words) × Marked STACK MARK m e.real (list STACK m s.real w) w'

@@ -64,4 +64,5 @@ pub record Filled (C : Context) (m q : ℕ) (gates pl w : List ℕ) (b : Bool) (
   pub size : length pl' ≡ length pl
   pub stands : Standing C m 1 gates pl' w'
   pub yes : b ≡ true → ((real : List ℕ) → Marks MARK m real w → put_rest C.X (list NEEDED m q w) real pl ≡ plan pl') × ((c : ℕ) × (first_empty 0 (row C.X.K 1 pl') ≡ found c))
-  pub no : b ≡ false → (real : List ℕ) → Marks MARK m real w → (put_rest C.X (list NEEDED m q w) real pl ≡ full) ⊎ ((put_rest C.X (list NEEDED m q w) real pl ≡ plan pl') × (first_empty 0 (row C.X.K 1 pl') ≡ nothing))
+  pub no : b ≡ false → (real : List ℕ) → Marks MARK m real w →
+      (put_rest C.X (list NEEDED m q w) real pl ≡ full) ⊎ ((put_rest C.X (list NEEDED m q w) real pl ≡ plan pl') × (first_empty 0 (row C.X.K 1 pl') ≡ nothing))

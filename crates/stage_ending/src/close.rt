@@ -25,11 +25,9 @@ fn retire(work: &mut [u32], m: usize, p: Pin)
     requires { PinAt m p.0 work.old }
     ensures { Retired m (p.0 ∷ []) work.old work.new }
 {
-    if get(work, m, p, CELLS) == 0 {
-        wipe(work, m, p);
-        return;
+    if get(work, m, p, CELLS) != 0 {
+        set_field(work, m, p, DONE, 1);
     }
-    set_field(work, m, p, DONE, 1);
     wipe(work, m, p);
 }
 
@@ -48,12 +46,10 @@ fn retire_all(work: &mut [u32], m: usize, k: usize)
     requires { RetireAt m k work.old }
     ensures { Swept m (list fields.ORDER m k work.old) work.old work.new }
 {
-    let mut i = 0;
-    while i < k {
+    for i in 0..k {
         let p = pin_at(work, m, i, ORDER);
         retire(work, m, p);
         unlist(work, m, p);
-        i += 1;
     }
 }
 
@@ -63,11 +59,9 @@ fn leave_all(work: &mut [u32], m: usize, n: usize, r: usize) -> usize
     ensures { Left m n r work.old work.new result }
 {
     let mut left = n;
-    let mut i = 0;
-    while i < r {
+    for i in 0..r {
         let p = pin_at(work, m, i, STACK);
         left = swap_out(work, m, left, p);
-        i += 1;
     }
     left
 }
@@ -89,11 +83,9 @@ pub fn realise_all(work: &mut [u32], m: usize, n: usize, r: usize) -> usize
     ensures { Realised m n r work.old work.new result }
 {
     let mut real = r;
-    let mut i = 0;
-    while i < n {
+    for i in 0..n {
         let p = pin_at(work, m, i, WAITING);
         real = realise(work, m, real, p);
-        i += 1;
     }
     real
 }

@@ -28,16 +28,14 @@ pub fn last_words(
     requires { LastAt m height.0 (row_at height.0 1) n at room s stage.now work.old words.old }
     ensures { Lasted m height.0 n at room s stage.now work.old words.old result work.new words.new }
 {
-    let real = s.real;
     let spent = s.words;
     let k = collect(stage, work, m, height);
     if room < spent + k {
         return s;
     }
     write(words, work, m, at + spent, k);
-    let more = realise_all(work, m, n, real);
     Kept {
-        real: more,
+        real: realise_all(work, m, n, s.real),
         words: spent + k,
     }
 }

@@ -47,14 +47,12 @@ fn put_rest(
     ensures { Every (λ C. RestAt C m half n gates.now stage.old work.old) (λ C. Rested C m n gates.now stage.old work.old result stage.new work.new) }
 {
     let mut from = half;
-    let mut i = 0;
-    while i < n {
+    for i in 0..n {
         let p = pin_at(work, m, i, NEEDED);
         from = put_pin(gates, stage, work, m, half, from, p);
         if 2 * half < from {
             return false;
         }
-        i += 1;
     }
     true
 }
@@ -71,8 +69,5 @@ pub fn fill_rest(
     requires { Some (λ C. RestAt C m half q gates.now stage.old work.old) }
     ensures { Every (λ C. RestAt C m half q gates.now stage.old work.old) (λ C. Filled C m q gates.now stage.old work.old result stage.new work.new) }
 {
-    if put_rest(gates, stage, work, m, half, q) {
-        return first_empty(stage, half, 2 * half) < 2 * half;
-    }
-    false
+    put_rest(gates, stage, work, m, half, q) && first_empty(stage, half, 2 * half) < 2 * half
 }

@@ -57,10 +57,8 @@ fn row(stage: &[u32], work: &mut [u32], m: usize, n: usize, a: usize, e: usize) 
     ensures { Every (λ ws. RowAt m n a e ws stage.now work.old) (λ ws. Rowed m a e ws stage.now work.old work.new result) }
 {
     let mut k = n;
-    let mut c = a;
-    while c < e {
+    for c in a..e {
         k = cell(stage, work, m, k, c);
-        c += 1;
     }
     k
 }
@@ -81,13 +79,12 @@ fn level(stage: &[u32], work: &mut [u32], m: usize, n: usize, a: usize, e: usize
     requires { Some (λ ws. RowAt m n a e ws stage.now work.old) }
     ensures { Every (λ ws. RowAt m n a e ws stage.now work.old) (λ ws. Rowed m a e ws stage.now work.old work.new result) }
 {
+    let runs = (e - a) / 32;
     let mut k = n;
-    let mut c = a;
-    while c + 32 <= e {
-        k = run(stage, work, m, k, c);
-        c += 32;
+    for i in 0..runs {
+        k = run(stage, work, m, k, a + 32 * i);
     }
-    row(stage, work, m, k, c, e)
+    row(stage, work, m, k, a + 32 * runs, e)
 }
 
 // All levels from 1 upward; each row has half the cells of the one below. Returns how many words there are.
@@ -95,14 +92,11 @@ pub fn collect(stage: &[u32], work: &mut [u32], m: usize, height: Height) -> usi
     requires { UpAt m height.0 (row_at height.0 1) stage.now work.old }
     ensures { Upped m height.0 stage.now work.old work.new result }
 {
-    let top = height.0;
     let mut n = 0;
     let mut w = height.level_one_size();
-    let mut h: u32 = 1;
-    while h <= top {
+    for _level in 0..height.0 {
         n = level(stage, work, m, n, w, 2 * w);
-        w = w / 2;
-        h += 1;
+        w /= 2;
     }
     n
 }
@@ -125,9 +119,7 @@ pub fn write(words: &mut [u32], work: &mut [u32], m: usize, at: usize, n: usize)
     requires { Some (λ ws. WriteAt m at n ws words.old work.old) }
     ensures { Every (λ ws. WriteAt m at n ws words.old work.old) (λ ws. Written m at ws words.old work.old words.new work.new) }
 {
-    let mut j = 0;
-    while j < 256 {
+    for j in 0..256 {
         write_one(words, work, m, at, j);
-        j += 1;
     }
 }

@@ -13,37 +13,19 @@ ghost use Rattle.stage_levels.specs.Levels.{Becomes, LevelAt, LevelsAt, Levels, 
 
 use columns::{LEVEL, ORDER, REVERSE, WAITING, get, pin_at, set_field};
 use graph::Pin;
-use stage_walk::{Next, followed};
-
-// The greater of two.
-pub fn higher(a: usize, b: usize) -> usize
-    ensures { result ≡ max a b }
-{
-    if a < b {
-        return b;
-    }
-    a
-}
+use stage_walk::followed;
 
 // Pin p's level, by those of the pins followed from it.
 fn level_of(gates: &[u32], work: &[u32], m: usize, p: Pin) -> usize
     requires { Some (λ C. LevelAt C m p.0 gates.now work.now) }
     ensures { Every (λ C. LevelAt C m p.0 gates.now work.now) (λ C. result ≡ over (λ q. get_or work.now (LEVEL * m + q) 0) (below C.X.g C.X.done p.0)) }
 {
-    let first = followed(gates, work, m, p, 0);
-    match first {
-        Next::Nothing => 0,
-        Next::To(a) => {
-            let second = followed(gates, work, m, p, 1);
-            match second {
-                // Two pins are followed, or none.
-                Next::Nothing => 0,
-                Next::To(b) => {
-                    let x = get(work, m, a, LEVEL);
-                    let y = get(work, m, b, LEVEL);
-                    higher(x, y) + 1
-                }
-            }
+    match followed(gates, work, m, p) {
+        None => 0,
+        Some((a, b)) => {
+            let x = get(work, m, a, LEVEL);
+            let y = get(work, m, b, LEVEL);
+            x.max(y) + 1
         }
     }
 }
@@ -54,13 +36,11 @@ pub fn levels(gates: &[u32], work: &mut [u32], m: usize, k: usize) -> usize
     ensures { Every (λ C. LevelsAt C m k gates.now work.old) (λ C. Levels C m work.old work.new result) }
 {
     let mut top = 0;
-    let mut i = 0;
-    while i < k {
+    for i in 0..k {
         let p = pin_at(work, m, i, ORDER);
         let v = level_of(gates, work, m, p);
         set_field(work, m, p, LEVEL, v);
-        top = higher(v, top);
-        i += 1;
+        top = v.max(top);
     }
     top
 }
@@ -72,7 +52,7 @@ fn raise(work: &mut [u32], m: usize, p: Pin, r: usize)
     ensures { work.new ≡ set work.old (REVERSE * m + p.0) (max r (get_or work.old (REVERSE * m + p.0) 0)) }
 {
     let old = get(work, m, p, REVERSE);
-    set_field(work, m, p, REVERSE, higher(r, old));
+    set_field(work, m, p, REVERSE, r.max(old));
 }
 
 // Pin p hands its reverse level down.
@@ -84,20 +64,9 @@ fn lift(gates: &[u32], work: &mut [u32], m: usize, p: Pin)
     if r == 0 {
         return;
     }
-    let first = followed(gates, work, m, p, 0);
-    match first {
-        Next::Nothing => {}
-        Next::To(a) => {
-            let second = followed(gates, work, m, p, 1);
-            match second {
-                // Two pins are followed, or none.
-                Next::Nothing => {}
-                Next::To(b) => {
-                    raise(work, m, a, r + 1);
-                    raise(work, m, b, r + 1);
-                }
-            }
-        }
+    if let Some((a, b)) = followed(gates, work, m, p) {
+        raise(work, m, a, r + 1);
+        raise(work, m, b, r + 1);
     }
 }
 
@@ -106,11 +75,9 @@ fn start(work: &mut [u32], m: usize, n: usize)
     requires { WaitsAt m n work.old }
     ensures { Becomes REVERSE m work.old work.new (raise 1 (list WAITING m n work.old) (col REVERSE m work.old)) }
 {
-    let mut i = 0;
-    while i < n {
+    for i in 0..n {
         let p = pin_at(work, m, i, WAITING);
         raise(work, m, p, 1);
-        i += 1;
     }
 }
 
@@ -119,9 +86,7 @@ fn lower(gates: &[u32], work: &mut [u32], m: usize, k: usize)
     requires { Some (λ C. LowerAt C m k gates.now work.old) }
     ensures { Every (λ C. LowerAt C m k gates.now work.old) (λ C. Becomes REVERSE m work.old work.new (thread (lift C.X.g C.X.done) C.X.seen (col REVERSE m work.old))) }
 {
-    let mut i = k;
-    while i > 0 {
-        i -= 1;
+    for i in (0..k).rev() {
         let p = pin_at(work, m, i, ORDER);
         lift(gates, work, m, p);
     }

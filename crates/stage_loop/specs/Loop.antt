@@ -1,6 +1,5 @@
 -- Rules 2 to 7 over the columns: what the loop's functions ask and leave. pl is the stage, w the work area. Assumes nothing.
-use Rattle.std.specs.Prelude.{◌≡◌, ◌≢◌, List, [], ◌∷◌, ℕ, suc, ◌+◌, ◌*◌, ◌<◌, ◌≤◌, length, get_or}
-use Rattle.rules.specs.Lists.{Found, nothing, found}
+use Rattle.std.specs.Prelude.{Option, Some, None, Result, IfOk, IfErr, MatchResult, ◌≡◌, ◌≢◌, List, [], ◌∷◌, ℕ, suc, ◌+◌, ◌*◌, ◌<◌, ◌≤◌, length, get_or}
 use Rattle.rules.specs.Cells.{level_one_size, row_at}
 use Rattle.rules.specs.Placing.{placed}
 use Rattle.rules.specs.Inside.Lean.{wanted, recount, lean, onward}
@@ -13,10 +12,7 @@ use Rattle.stage_needed.specs.Needed.{Asking}
 use Rattle.stage_notes.specs.Notes.{NOTES, NOTED, notes, note_in, weighed, lean_notes, onward_notes}
 use Rattle.stage_tree.specs.Search.{Cursor}
 use Rattle.stage_loop.specs.Bounds.{as_found}
-use Rattle.stage_loop.specs.declared.lean.Bound.{Bound}
-use Rattle.stage_loop.specs.declared.lean.Bound.TheVariants.{NoRoom}
-use Rattle.stage_loop.specs.declared.lean.Step.{Step}
-use Rattle.stage_loop.specs.declared.lean.Step.TheVariants.{On, Stop}
+use Rattle.stage_loop.specs.declared.lean.NoRoom.{NoRoom}
 
 -- only the counts and the needed pins changed
 pub record Kept (m : ℕ) (w w' : List ℕ) : Type 0 where
@@ -72,10 +68,10 @@ pub record SettleAt (C : Context) (m n k half most : ℕ) (gates pl w : List ℕ
   pub cap : half ≡ level_one_size C.X.K
   pub few : most ≤ m
 
-pub record Settled (C : Context) (m most : ℕ) (pl w w' : List ℕ) (r : Bound) : Type 0 where
+pub record Settled (C : Context) (m most : ℕ) (pl w w' : List ℕ) (r : Result ℕ NoRoom) : Type 0 where
   pub is : as_found r ≡ recount C.X most pl
-  pub count : (c : ℕ) → r ≡ NoRoom c → (c ≡ length (wanted C.X pl)) × (c ≤ m)
-  pub few : (b : ℕ) → as_found r ≡ found b → b ≤ m
+  pub count : IfErr r (λ c. (c.0 ≡ length (wanted C.X pl)) × (c.0 ≤ m))
+  pub few : IfOk r (λ b. b ≤ m)
   pub kept : Kept m w w'
   pub tally : Tally C m pl w'
 
@@ -88,13 +84,11 @@ pub record TryAt (C : Context) (m n k h wd half p q most : ℕ) (gates pl w : Li
   pub cap : half ≡ level_one_size C.X.K
   pub few : most ≤ m
 
-pub record Tried (C : Context) (m h p q most : ℕ) (pl w pl' w' : List ℕ) (c : Found) : Type 0 where
-  pub is : c ≡ recount C.X most (placed C.X h p q pl)
-  pub few : (b : ℕ) → c ≡ found b → b ≤ m
-  pub none : c ≡ nothing → pl' ≡ pl
-  pub some : (b : ℕ) → c ≡ found b → pl' ≡ placed C.X h p q pl
-  pub noted : c ≡ nothing → notes m w' ≡ note_in h (weighed C.X q (placed C.X h p q pl) ∷ []) (notes m w)
-  pub unnoted : (b : ℕ) → c ≡ found b → notes m w' ≡ notes m w
+pub record Tried (C : Context) (m h p q most : ℕ) (pl w pl' w' : List ℕ) (r : Result ℕ NoRoom) : Type 0 where
+  pub is : as_found r ≡ recount C.X most (placed C.X h p q pl)
+  pub few : IfOk r (λ b. b ≤ m)
+  pub plan : MatchResult r (λ b. pl' ≡ placed C.X h p q pl) (λ c. pl' ≡ pl)
+  pub told : MatchResult r (λ b. notes m w' ≡ notes m w) (λ c. notes m w' ≡ note_in h (weighed C.X q (placed C.X h p q pl) ∷ []) (notes m w))
   pub kept : Moved m w w'
   pub tally : Tally C m pl' w'
 
@@ -133,9 +127,9 @@ pub record Gone (C : Context) (m n k l wd half : ℕ) (gates pl w : List ℕ) (i
   pub at : At C m n k l wd half gates pl' w' j e b'
   pub cursor : Cursor C.X (suc l) wd from pl'
 
-pub record Turned (C : Context) (m n k l wd half : ℕ) (gates pl w : List ℕ) (i e b : ℕ) (pl' w' : List ℕ) (s : Step) : Type 0 where
-  pub stop : s ≡ Stop → Ended C m l pl w i e b pl' w' b
-  pub on : (d from : ℕ) → s ≡ On d from → Gone C m n k l wd half gates pl w i e b pl' w' (i + 1) d from
+abbrev pub Turned : Context → (m n k l wd half : ℕ) → (gates pl w : List ℕ) → (i e b : ℕ) → (pl' w' : List ℕ) → Option (ℕ × ℕ) → Type 0
+Turned C m n k l wd half gates pl w i e b pl' w' None = Ended C m l pl w i e b pl' w' b
+Turned C m n k l wd half gates pl w i e b pl' w' (Some s) = Gone C m n k l wd half gates pl w i e b pl' w' (i + 1) s.0 s.1
 
 -- ---- all levels from l + 1 down
 

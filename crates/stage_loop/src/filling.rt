@@ -4,7 +4,7 @@ ghost use Rattle.rules.specs.Cells.{row_at};
 ghost use Rattle.rules.specs.Inside.Some.{Some, Every};
 ghost use Rattle.stage_loop.specs.Filling.{RowAt, GrowAt, Grown, FillAt, FilledTree};
 
-use crate::lean::lean;
+use crate::lean::{Sizes, lean};
 use cells::{Height, wide};
 use columns::STACK;
 use stage_needed::{counted, needed, note};
@@ -44,8 +44,13 @@ fn grow(
 {
     let c = note(gates, work, m, n, k);
     let w = row_at(height, h);
-    let half = height.level_one_size();
-    lean(gates, stage, work, m, n, c.noted, h - 1, w, half, c.needed);
+    let s = Sizes {
+        m,
+        n,
+        k: c.noted,
+        half: height.level_one_size(),
+    };
+    lean(gates, stage, work, s, h - 1, w, c.needed);
     c.noted
 }
 

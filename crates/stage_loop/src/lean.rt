@@ -3,7 +3,6 @@
 // order.
 ghost use Rattle.std.specs.Prelude.{◌+◌, ◌*◌, ◌<◌};
 ghost use Rattle.rules.specs.Inside.Some.{Some, Every};
-ghost use Rattle.stage_loop.specs.Bounds.{as_found};
 ghost use Rattle.stage_loop.specs.Loop.{SettleAt, Settled, TryAt, Tried, Next, Turned, At, Ended, LeanAt, Leaned};
 
 use columns::{CELLS, ENDS, RANKED, STACK, STARTS, is_in, number_at, pin_at};
@@ -12,42 +11,38 @@ use stage_needed::counted;
 use stage_notes::note_back;
 use stage_tree::{first_empty, place_pin, room, take_back};
 
-// What is known of the needed pins: a number that they don't exceed, or how many they are where there is no room for them.
+// What stays the same while a stage is filled: m = N + 1, n pins wait, k are noted, level 1 has `half` cells.
 #[derive(Clone, Copy)]
-enum Bound {
-    AtMost(usize),
-    NoRoom(usize),
+pub struct Sizes {
+    pub m: usize,
+    pub n: usize,
+    pub k: usize,
+    pub half: usize,
 }
 
-// What a turn leaves: a bound, and where the level's next search starts; or the level has ended.
+// There is no room for the needed pins, which are so many.
 #[derive(Clone, Copy)]
-enum Step {
-    On(usize, usize),
-    Stop,
-}
+struct NoRoom(usize);
 
-// Rule 7.
+// Rule 7. Returns a number that the needed pins don't exceed.
 fn settle(
     gates: &[u32],
     stage: &[u32],
     work: &mut [u32],
-    m: usize,
-    n: usize,
-    k: usize,
-    half: usize,
+    s: Sizes,
     most: usize,
-) -> Bound
-    requires { Some (λ C. SettleAt C m n k half most gates.now stage.now work.old) }
-    ensures { Every (λ C. SettleAt C m n k half most gates.now stage.now work.old) (λ C. Settled C m most stage.now work.old work.new result) }
+) -> Result<usize, NoRoom>
+    requires { Some (λ C. SettleAt C s.m s.n s.k s.half most gates.now stage.now work.old) }
+    ensures { Every (λ C. SettleAt C s.m s.n s.k s.half most gates.now stage.now work.old) (λ C. Settled C s.m most stage.now work.old work.new result) }
 {
-    if room(work, m, half, most) {
-        return Bound::AtMost(most);
+    if room(work, s.m, s.half, most) {
+        return Ok(most);
     }
-    let count = counted(gates, work, m, n, STACK, k);
-    if room(work, m, half, count) {
-        return Bound::AtMost(count);
+    let count = counted(gates, work, s.m, s.n, STACK, s.k);
+    if room(work, s.m, s.half, count) {
+        return Ok(count);
     }
-    Bound::NoRoom(count)
+    Err(NoRoom(count))
 }
 
 // Places pin p at the cell c, and notes it and takes it back if that leaves no room.
@@ -55,65 +50,56 @@ fn attempt(
     gates: &[u32],
     stage: &mut [u32],
     work: &mut [u32],
-    m: usize,
-    n: usize,
-    k: usize,
+    s: Sizes,
     h: usize,
     w: usize,
-    half: usize,
     c: usize,
     p: Pin,
     most: usize,
-) -> Bound
-    requires { Some (λ C. TryAt C m n k h w half c p.0 most gates.now stage.old work.old) }
-    ensures { Every (λ C. TryAt C m n k h w half c p.0 most gates.now stage.old work.old) (λ C. Tried C m h c p.0 most stage.old work.old stage.new work.new (as_found result)) }
+) -> Result<usize, NoRoom>
+    requires { Some (λ C. TryAt C s.m s.n s.k h w s.half c p.0 most gates.now stage.old work.old) }
+    ensures { Every (λ C. TryAt C s.m s.n s.k h w s.half c p.0 most gates.now stage.old work.old) (λ C. Tried C s.m h c p.0 most stage.old work.old stage.new work.new result) }
 {
-    place_pin(gates, stage, work, m, h, w, c, p);
-    let bound = settle(gates, stage, work, m, n, k, half, most);
-    match bound {
-        Bound::NoRoom(count) => {
-            note_back(work, m, h, p, count);
-            take_back(stage, work, m, h, w, c);
-            Bound::NoRoom(count)
-        }
-        Bound::AtMost(b) => Bound::AtMost(b),
+    place_pin(gates, stage, work, s.m, h, w, c, p);
+    let bound = settle(gates, stage, work, s, most);
+    if let Err(full) = bound {
+        note_back(work, s.m, h, p, full.0);
+        take_back(stage, work, s.m, h, w, c);
     }
+    bound
 }
 
-// One turn at level l + 1: the candidate at i of e. The row's cells before `from` are filled.
+// One turn at level l + 1: the candidate at i of e. The row's cells before `from` are filled. Leaves the bound, and where the level's next
+// search starts; or the level has ended.
 fn turn(
     gates: &[u32],
     stage: &mut [u32],
     work: &mut [u32],
-    m: usize,
-    n: usize,
-    k: usize,
+    s: Sizes,
     l: usize,
     w: usize,
-    half: usize,
     i: usize,
     e: usize,
     most: usize,
     from: usize,
-) -> Step
-    requires { Some (λ C. Next C m n k l w half gates.now stage.old work.old i e most from) }
-    ensures { Every (λ C. Next C m n k l w half gates.now stage.old work.old i e most from) (λ C. Turned C m n k l w half gates.now stage.old work.old i e most stage.new work.new result) }
+) -> Option<(usize, usize)>
+    requires { Some (λ C. Next C s.m s.n s.k l w s.half gates.now stage.old work.old i e most from) }
+    ensures { Every (λ C. Next C s.m s.n s.k l w s.half gates.now stage.old work.old i e most from) (λ C. Turned C s.m s.n s.k l w s.half gates.now stage.old work.old i e most stage.new work.new result) }
 {
-    let p = pin_at(work, m, i, RANKED);
-    if is_in(work, m, p, CELLS) {
-        return Step::On(most, from);
+    let p = pin_at(work, s.m, i, RANKED);
+    if is_in(work, s.m, p, CELLS) {
+        return Some((most, from));
     }
     let end = 2 * w;
     let c = first_empty(stage, from, end);
     if c >= end {
-        return Step::Stop;
+        return None;
     }
-    let bound = attempt(gates, stage, work, m, n, k, l + 1, w, half, c, p, most);
-    match bound {
-        Bound::NoRoom(_) => Step::Stop,
-        Bound::AtMost(b) => {
+    match attempt(gates, stage, work, s, l + 1, w, c, p, most) {
+        Err(_) => None,
+        Ok(bound) => {
             let next = c + 1;
-            Step::On(b, next)
+            Some((bound, next))
         }
     }
 }
@@ -123,34 +109,26 @@ fn sweep(
     gates: &[u32],
     stage: &mut [u32],
     work: &mut [u32],
-    m: usize,
-    n: usize,
-    k: usize,
+    s: Sizes,
     l: usize,
     w: usize,
-    half: usize,
     start: usize,
     e: usize,
     most: usize,
 ) -> usize
-    requires { Some (λ C. At C m n k l w half gates.now stage.old work.old start e most) }
-    ensures { Every (λ C. At C m n k l w half gates.now stage.old work.old start e most) (λ C. Ended C m l stage.old work.old start e most stage.new work.new result) }
+    requires { Some (λ C. At C s.m s.n s.k l w s.half gates.now stage.old work.old start e most) }
+    ensures { Every (λ C. At C s.m s.n s.k l w s.half gates.now stage.old work.old start e most) (λ C. Ended C s.m l stage.old work.old start e most stage.new work.new result) }
 {
-    let mut i = start;
     let mut b = most;
     let mut from = w;
-    while i < e {
-        let step = turn(gates, stage, work, m, n, k, l, w, half, i, e, b, from);
-        match step {
-            Step::Stop => {
-                return b;
-            }
-            Step::On(bound, next) => {
+    for i in start..e {
+        match turn(gates, stage, work, s, l, w, i, e, b, from) {
+            None => return b,
+            Some((bound, next)) => {
                 b = bound;
                 from = next;
             }
         }
-        i += 1;
     }
     b
 }
@@ -160,25 +138,20 @@ pub fn lean(
     gates: &[u32],
     stage: &mut [u32],
     work: &mut [u32],
-    m: usize,
-    n: usize,
-    k: usize,
+    s: Sizes,
     top: usize,
     width: usize,
-    half: usize,
     most: usize,
 )
-    requires { Some (λ C. LeanAt C m n k top width half gates.now stage.old work.old most) }
-    ensures { Every (λ C. LeanAt C m n k top width half gates.now stage.old work.old most) (λ C. Leaned C m top stage.old work.old most stage.new work.new) }
+    requires { Some (λ C. LeanAt C s.m s.n s.k top width s.half gates.now stage.old work.old most) }
+    ensures { Every (λ C. LeanAt C s.m s.n s.k top width s.half gates.now stage.old work.old most) (λ C. Leaned C s.m top stage.old work.old most stage.new work.new) }
 {
-    let mut l = top;
     let mut w = width;
     let mut b = most;
-    while l > 0 {
-        let start = number_at(work, m, l + 1, STARTS);
-        let e = number_at(work, m, l + 1, ENDS);
-        b = sweep(gates, stage, work, m, n, k, l, w, half, start, e, b);
-        l -= 1;
+    for l in (1..=top).rev() {
+        let start = number_at(work, s.m, l + 1, STARTS);
+        let e = number_at(work, s.m, l + 1, ENDS);
+        b = sweep(gates, stage, work, s, l, w, start, e, b);
         w = 2 * w;
     }
 }

@@ -13,7 +13,7 @@ use columns::{
     CELLS, LEVEL, MARK, NEEDED, ORDER, PLACE, STACK, enlist, get, is_in, pin_at, push, set_field,
 };
 use graph::Pin;
-use stage_walk::{Next, followed};
+use stage_walk::followed;
 
 // Pins that are noted, and pins that they make needed.
 #[derive(Clone, Copy)]
@@ -27,10 +27,7 @@ fn ask(work: &mut [u32], m: usize, n: usize, p: Pin) -> usize
     requires { SomePlan (λ C pl. AskAt C pl m work.old n p.0) }
     ensures { EveryPlan (λ C pl. AskAt C pl m work.old n p.0) (λ C pl. Needs m work.old n work.new result (keep (missing C pl) (p.0 ∷ []))) }
 {
-    if get(work, m, p, LEVEL) != 0 {
-        return n;
-    }
-    if is_in(work, m, p, CELLS) {
+    if get(work, m, p, LEVEL) != 0 || is_in(work, m, p, CELLS) {
         return n;
     }
     enlist(work, m, n, NEEDED, MARK, p)
@@ -41,10 +38,7 @@ fn itself(work: &mut [u32], m: usize, n: usize, p: Pin, h: usize) -> usize
     requires { SomePlan (λ C pl. ItselfAt C pl m work.old n p.0 h) }
     ensures { EveryPlan (λ C pl. ItselfAt C pl m work.old n p.0 h) (λ C pl. Needs m work.old n work.new result (asked C.X (tree_of C.X pl) p.0 h)) }
 {
-    if h == 1 {
-        return enlist(work, m, n, NEEDED, MARK, p);
-    }
-    if is_in(work, m, p, PLACE) {
+    if h == 1 || is_in(work, m, p, PLACE) {
         return enlist(work, m, n, NEEDED, MARK, p);
     }
     n
@@ -62,19 +56,12 @@ fn need(gates: &[u32], work: &mut [u32], m: usize, n: usize, p: Pin) -> usize
     if h < 2 {
         return itself(work, m, n, p, h);
     }
-    let first = followed(gates, work, m, p, 0);
-    match first {
+    match followed(gates, work, m, p) {
         // From level 2 on two pins are followed.
-        Next::Nothing => n,
-        Next::To(a) => {
-            let second = followed(gates, work, m, p, 1);
-            match second {
-                Next::Nothing => n,
-                Next::To(b) => {
-                    let k = ask(work, m, n, a);
-                    ask(work, m, k, b)
-                }
-            }
+        None => n,
+        Some((a, b)) => {
+            let k = ask(work, m, n, a);
+            ask(work, m, k, b)
         }
     }
 }
@@ -91,20 +78,9 @@ fn lacking(gates: &[u32], work: &[u32], m: usize, p: Pin) -> bool
     if h == 0 {
         return is_in(work, m, p, PLACE);
     }
-    let first = followed(gates, work, m, p, 0);
-    match first {
-        Next::Nothing => false,
-        Next::To(a) => {
-            if get(work, m, a, LEVEL) == 0 {
-                return true;
-            }
-            let second = followed(gates, work, m, p, 1);
-            match second {
-                // Where a pin is followed, another is.
-                Next::Nothing => false,
-                Next::To(b) => get(work, m, b, LEVEL) == 0,
-            }
-        }
+    match followed(gates, work, m, p) {
+        None => false,
+        Some((a, b)) => get(work, m, a, LEVEL) == 0 || get(work, m, b, LEVEL) == 0,
     }
 }
 
@@ -117,29 +93,13 @@ fn note_pin(gates: &[u32], work: &mut [u32], m: usize, c: Counts, p: Pin) -> Cou
         let needed = need(gates, work, m, c.needed, p);
         push(work, m, c.noted, STACK, p);
         let noted = c.noted + 1;
-        return Counts {
-            noted: noted,
-            needed: needed,
-        };
+        return Counts { noted, needed };
     }
     c
 }
 
-// How many pins a part has.
+// How many pins a part has. Pins are gone over part by part: the compiler puts a pin's work in place only where it stands in a loop of loops.
 const PART: usize = 1024;
-
-// Where the part of k pins that begins at i ends. Pins are gone over part by part: the compiler puts a pin's work in place only where it stands in a loop
-// of loops.
-fn part_end(i: usize, k: usize) -> usize
-    requires { i < k }
-    ensures within { result ≤ k }
-    ensures on { i < result }
-{
-    if k - i < PART {
-        return k;
-    }
-    i + PART
-}
 
 // The k listed pins, one after the other: a pin is looked at once, for the note and for the first count.
 fn survey(gates: &[u32], work: &mut [u32], m: usize, n: usize, k: usize) -> Counts
@@ -150,14 +110,14 @@ fn survey(gates: &[u32], work: &mut [u32], m: usize, n: usize, k: usize) -> Coun
         noted: 0,
         needed: 0,
     };
-    let mut i = 0;
-    while i < k {
-        let e = part_end(i, k);
-        while i < e {
+    let mut from = 0;
+    while from < k {
+        let to = from + PART.min(k - from);
+        for i in from..to {
             let p = pin_at(work, m, i, ORDER);
             c = note_pin(gates, work, m, c, p);
-            i += 1;
         }
+        from = to;
     }
     c
 }
@@ -168,14 +128,14 @@ fn collect(gates: &[u32], work: &mut [u32], m: usize, n: usize, f: usize, k: usi
     ensures { EveryPlan (λ C pl. CountAt C pl m n f k gates.now work.old) (λ C pl. Collected C pl m work.old work.new result) }
 {
     let mut r = 0;
-    let mut i = 0;
-    while i < k {
-        let e = part_end(i, k);
-        while i < e {
+    let mut from = 0;
+    while from < k {
+        let to = from + PART.min(k - from);
+        for i in from..to {
             let p = pin_at(work, m, i, f);
             r = need(gates, work, m, r, p);
-            i += 1;
         }
+        from = to;
     }
     r
 }
@@ -185,11 +145,9 @@ fn unmark(work: &mut [u32], m: usize, n: usize)
     requires { UnmarkAt m n work.old }
     ensures { Unmarked m [] work.old work.new }
 {
-    let mut i = 0;
-    while i < n {
+    for i in 0..n {
         let p = pin_at(work, m, i, NEEDED);
         set_field(work, m, p, MARK, 0);
-        i += 1;
     }
 }
 

@@ -8,10 +8,9 @@ use native.Mathlib.Nat.{not-suc-le-zero, le_of_suc-le-suc}
 use native.Mathlib.Decide.{ℕ_discrete}
 use lib.ListN.{length, get_or, set, length-set}
 use lib.Seq.{ext_get_or, get_or-set_same, get_or-set_other}
-use Rattle.columns.specs.Area.{Room, Frame, tab}
+use Rattle.columns.specs.Area.{Frame, tab}
 use Rattle.columns.specs.Fields.{ONES, PINS, TAIL}
 use Rattle.columns.proofs.Area.Frames.{frame_then, frame_set_tail}
-use Rattle.stage_notes.specs.Taken.{Taken}
 use Rattle.stage_notes.specs.Notes.{notes, note_in, NoteAt, Noted, telling}
 
 length_tab : (g : ℕ → ℕ) (n : ℕ) → length (tab g n) ≡ n
@@ -60,7 +59,8 @@ one m j v w = record { frame = frame_set_tail j v refl; rest = λ i n. get_or-se
 
 module _ {m h c : ℕ} {w : List ℕ} (A : NoteAt m h c w) (p : ℕ) where
   -- four stores are a note
-  pub noted : {w1 w2 w3 w4 : List ℕ} → w1 ≡ set w (16 * m + (260 + 4 * h)) p → w2 ≡ set w1 (16 * m + (260 + 4 * h + 1)) c → w3 ≡ set w2 (16 * m + (260 + 4 * h + 2)) (get_or w (16 * m + ONES) 0) → w4 ≡ set w3 (16 * m + (260 + 4 * h + 3)) (get_or w (16 * m + PINS) 0) →
+  pub noted : {w1 w2 w3 w4 : List ℕ} → w1 ≡ set w (16 * m + (260 + 4 * h)) p → w2 ≡ set w1 (16 * m + (260 + 4 * h + 1)) c →
+      w3 ≡ set w2 (16 * m + (260 + 4 * h + 2)) (get_or w (16 * m + ONES) 0) → w4 ≡ set w3 (16 * m + (260 + 4 * h + 3)) (get_or w (16 * m + PINS) 0) →
       Noted m h (telling m p c w ∷ []) w w4
   unfolding note_in telling
   noted {w1} {w2} {w3} {w4} e1 e2 e3 e4 =
@@ -72,7 +72,12 @@ module _ {m h c : ℕ} {w : List ℕ} (A : NoteAt m h c w) (p : ℕ) where
       let n1 = ap (notes m) e1 ∙ notes_set m w (4 * h) (260 + 4 * h) p (omega (arith, A.level)) refl r in
       let n2 = ap (notes m) e2 ∙ notes_set m w1 (4 * h + 1) (260 + 4 * h + 1) c (omega (arith, A.level)) (omega arith) (omega (arith, o1.frame.len)) in
       let n3 = ap (notes m) e3 ∙ notes_set m w2 (4 * h + 2) (260 + 4 * h + 2) (get_or w (16 * m + ONES) 0) (omega (arith, A.level)) (omega arith) (omega (arith, o1.frame.len, o2.frame.len)) in
-      let n4 = ap (notes m) e4 ∙ notes_set m w3 (4 * h + 3) (260 + 4 * h + 3) (get_or w (16 * m + PINS) 0) (omega (arith, A.level)) (omega arith) (omega (arith, o1.frame.len, o2.frame.len, o3.frame.len)) in
+      let n4 = ap (notes m) e4 ∙ notes_set m w3 (4 * h + 3) (260 + 4 * h + 3) (get_or w (16 * m + PINS) 0) (omega (arith, A.level)) (omega arith) (omega (
+        arith,
+        o1.frame.len,
+        o2.frame.len,
+        o3.frame.len,
+      )) in
       record {
         frame = frame_then o1.frame (frame_then o2.frame (frame_then o3.frame o4.frame));
         low = λ j k. o4.rest j (λ e. omega arith) ∙ o3.rest j (λ e. omega arith) ∙ o2.rest j (λ e. omega arith) ∙ o1.rest j (λ e. omega arith);

@@ -2,14 +2,13 @@
 use Prim.Native.Nat.{ℕ, zero, suc, ◌+◌, ◌-◌, ◌*◌, ◌<◌, ◌≤◌, min}
 use mathlib.Core.Path.{◌≡◌, refl, sym, ap, ◌∙◌, subst}
 use mathlib.Core.Logic.{◌≢◌}
-use mathlib.Core.Bool.{true, false}
 use mathlib.Core.List.{List, [], ◌∷◌, ◌++◌, map}
 use native.Mathlib.Omega.{arith}
 use lib.Dec.{leb}
 use lib.ListN.{length, get_or, set, length-set}
 use lib.Seq.{get_or-set_same, get_or-set_other}
 use borrow.Author.Tests.{leb-true, leb-false}
-use Rattle.rules.specs.Lists.{mem, nothing, found, In}
+use Rattle.rules.specs.Lists.{mem, In}
 use Rattle.rules.specs.Traversal.{Setting, level_at, greatest}
 use Rattle.rules.specs.Placing.{tree_of, cell_at, placed}
 use Rattle.rules.specs.Inside.Lean.{blank, candidates, wanted, recount, sweep}
@@ -37,10 +36,12 @@ note_other h i a ns (one {t = t} k) n b =
     let n1 : List ℕ = set ns (4 * h) t.pin in
     let n2 : List ℕ = set n1 (4 * h + 1) t.needed in
     let n3 : List ℕ = set n2 (4 * h + 2) t.ones in
-    get_or-set_other n3 (4 * h + 3) (4 * i + a) t.pins 0 (λ e. n (omega arith)) ∙ get_or-set_other n2 (4 * h + 2) (4 * i + a) t.ones 0 (λ e. n (omega arith)) ∙ get_or-set_other n1 (4 * h + 1) (4 * i + a) t.needed 0 (λ e. n (omega arith)) ∙ get_or-set_other ns (4 * h) (4 * i + a) t.pin 0 (λ e. n (omega arith))
+    get_or-set_other n3 (4 * h + 3) (4 * i + a) t.pins 0 (λ e. n (omega arith)) ∙ get_or-set_other n2 (4 * h + 2) (4 * i + a) t.ones 0 (λ e. n (omega arith)) ∙
+    get_or-set_other n1 (4 * h + 1) (4 * i + a) t.needed 0 (λ e. n (omega arith)) ∙ get_or-set_other ns (4 * h) (4 * i + a) t.pin 0 (λ e. n (omega arith))
 
 -- a level with a note
-pub note_some : (h : ℕ) (ns : List ℕ) {p n o : ℕ} (d : ℕ) → 0 < d → get_or ns (4 * h) 0 ≡ p → get_or ns (4 * h + 1) 0 ≡ n → get_or ns (4 * h + 2) 0 ≡ o → get_or ns (4 * h + 3) 0 ≡ d → note_at h ns ≡ record { pin = p; needed = n; ones = o; pins = d } ∷ []
+pub note_some : (h : ℕ) (ns : List ℕ) {p n o : ℕ} (d : ℕ) → 0 < d → get_or ns (4 * h) 0 ≡ p → get_or ns (4 * h + 1) 0 ≡ n → get_or ns (4 * h + 2) 0 ≡ o → get_or ns (4 * h + 3) 0 ≡ d →
+    note_at h ns ≡ record { pin = p; needed = n; ones = o; pins = d } ∷ []
 unfolding note_at note_of
 note_some h ns zero k e0 e1 e2 e3 = absurd (omega arith)
 note_some h ns (suc d) k e0 e1 e2 e3 = rw (e3, e0, e1, e2)
@@ -48,7 +49,10 @@ note_some h ns (suc d) k e0 e1 e2 e3 = rw (e3, e0, e1, e2)
 -- where a level's four numbers are the same, so is its note
 pub note_same : (h : ℕ) (ns ns' : List ℕ) → ((a : ℕ) → a < 4 → get_or ns' (4 * h + a) 0 ≡ get_or ns (4 * h + a) 0) → note_at h ns' ≡ note_at h ns
 unfolding note_at
-note_same h ns ns' e = let z : 4 * h + 0 ≡ 4 * h = omega arith in let e0 : get_or ns' (4 * h) 0 ≡ get_or ns (4 * h) 0 = rw z at (e 0 (omega arith)) in rw (e0, e 1 (omega arith), e 2 (omega arith), e 3 (omega arith))
+note_same h ns ns' e =
+    let z : 4 * h + 0 ≡ 4 * h = omega arith in
+    let e0 : get_or ns' (4 * h) 0 ≡ get_or ns (4 * h) 0 = rw z at (e 0 (omega arith)) in
+    rw (e0, e 1 (omega arith), e 2 (omega arith), e 3 (omega arith))
 
 -- a level without a note
 pub note_none : (h : ℕ) (ns : List ℕ) → get_or ns (4 * h + 3) 0 ≡ 0 → note_at h ns ≡ []
@@ -66,8 +70,10 @@ note_own h ns (one {t = t} k) l z =
     let l1 : length n1 ≡ length ns = length-set ns (4 * h) t.pin in
     let l2 : length n2 ≡ length n1 = length-set n1 (4 * h + 1) t.needed in
     let l3 : length n3 ≡ length n2 = length-set n2 (4 * h + 2) t.ones in
-    let a0 = get_or-set_other n3 (4 * h + 3) (4 * h) t.pins 0 (λ e. omega arith) ∙ get_or-set_other n2 (4 * h + 2) (4 * h) t.ones 0 (λ e. omega arith) ∙ get_or-set_other n1 (4 * h + 1) (4 * h) t.needed 0 (λ e. omega arith) ∙ get_or-set_same ns (4 * h) t.pin 0 (omega arith) in
-    let a1 = get_or-set_other n3 (4 * h + 3) (4 * h + 1) t.pins 0 (λ e. omega arith) ∙ get_or-set_other n2 (4 * h + 2) (4 * h + 1) t.ones 0 (λ e. omega arith) ∙ get_or-set_same n1 (4 * h + 1) t.needed 0 (omega arith) in
+    let a0 = get_or-set_other n3 (4 * h + 3) (4 * h) t.pins 0 (λ e. omega arith) ∙ get_or-set_other n2 (4 * h + 2) (4 * h) t.ones 0 (λ e. omega arith) ∙
+    get_or-set_other n1 (4 * h + 1) (4 * h) t.needed 0 (λ e. omega arith) ∙ get_or-set_same ns (4 * h) t.pin 0 (omega arith) in
+    let a1 = get_or-set_other n3 (4 * h + 3) (4 * h + 1) t.pins 0 (λ e. omega arith) ∙ get_or-set_other n2 (4 * h + 2) (4 * h + 1) t.ones 0 (λ e. omega arith) ∙
+    get_or-set_same n1 (4 * h + 1) t.needed 0 (omega arith) in
     let a2 = get_or-set_other n3 (4 * h + 3) (4 * h + 2) t.pins 0 (λ e. omega arith) ∙ get_or-set_same n2 (4 * h + 2) t.ones 0 (omega arith) in
     note_some h (set n3 (4 * h + 3) t.pins) t.pins k a0 a1 a2 (get_or-set_same n3 (4 * h + 3) t.pins 0 (omega arith))
 
@@ -109,7 +115,8 @@ module _ (W : Work) where
       some n (x ∷ xs) i = omega arith
 
   -- levels above h keep their notes
-  lean_above : (h : ℕ) → h ≤ X.K → (b : ℕ) (pl ns : List ℕ) → Fair X h pl → length (wanted X pl) ≤ b → (i a : ℕ) → h < i → a < 4 → get_or (lean_notes X h b pl ns) (4 * i + a) 0 ≡ get_or ns (4 * i + a) 0
+  lean_above : (h : ℕ) → h ≤ X.K → (b : ℕ) (pl ns : List ℕ) → Fair X h pl → length (wanted X pl) ≤ b → (i a : ℕ) → h < i → a < 4 →
+      get_or (lean_notes X h b pl ns) (4 * i + a) 0 ≡ get_or ns (4 * i + a) 0
   unfolding lean_notes
   lean_above zero high b pl ns F m i a k c = refl
   lean_above (suc zero) high b pl ns F m i a k c = refl
@@ -117,7 +124,8 @@ module _ (W : Work) where
       let cs : List ℕ = candidates X (suc (suc l)) in
       let G : Going X (suc (suc l)) cs b pl = going_first W (suc (suc l)) b pl F m in
       let s : Swept W l pl (sweep X (suc (suc l)) cs b pl) = swept W l high cs b pl G in
-      lean_above (suc l) (omega arith) (sweep X (suc (suc l)) cs b pl).most (sweep X (suc (suc l)) cs b pl).plan _ s.fair s.enough i a (omega arith) c ∙ note_other (suc (suc l)) i a ns (sweep_few l high cs b pl G) (λ e. omega arith) c
+      lean_above (suc l) (omega arith) (sweep X (suc (suc l)) cs b pl).most (sweep X (suc (suc l)) cs b pl).plan _ s.fair s.enough i a (omega arith) c ∙
+      note_other (suc (suc l)) i a ns (sweep_few l high cs b pl G) (λ e. omega arith) c
 
   -- from level h down: what is noted is read again
   lean_read : (h : ℕ) → h ≤ X.K → (b : ℕ) (pl ns : List ℕ) → Fair X h pl → length (wanted X pl) ≤ b → 4 * h + 3 < length ns → Bare h ns → notes_down h (lean_notes X h b pl ns) ≡ lean_back X h b pl
@@ -132,8 +140,12 @@ module _ (W : Work) where
       let f : Few (sweep_back X h cs b pl) = sweep_few l high cs b pl G in
       let ns2 : List ℕ = note_in h (sweep_back X h cs b pl) ns in
       let top : note_at h (lean_notes X (suc l) (sweep X h cs b pl).most (sweep X h cs b pl).plan ns2) ≡ sweep_back X h cs b pl
-      = note_same h ns2 _ (λ a c. lean_above (suc l) (omega arith) (sweep X h cs b pl).most (sweep X h cs b pl).plan ns2 s.fair s.enough h a (omega arith) c) ∙ note_own h ns f len (B.none h (omega arith) (omega arith)) in
-      let k = lean_read (suc l) (omega arith) (sweep X h cs b pl).most (sweep X h cs b pl).plan ns2 s.fair s.enough (omega (arith, note_length h (sweep_back X h cs b pl) ns)) (record { none = λ i a c. note_other h i 3 ns f (λ e. omega arith) (omega arith) ∙ B.none i a (omega arith) }) in
+      = note_same h ns2 _ (λ a c. lean_above (suc l) (omega arith) (sweep X h cs b pl).most (sweep X h cs b pl).plan ns2 s.fair s.enough h a (omega arith) c) ∙
+      note_own h ns f len (B.none h (omega arith) (omega arith)) in
+      let k = lean_read (suc l) (omega arith) (sweep X h cs b pl).most (sweep X h cs b pl).plan ns2 s.fair s.enough (omega (
+        arith,
+        note_length h (sweep_back X h cs b pl) ns,
+      )) (record { none = λ i a c. note_other h i 3 ns f (λ e. omega arith) (omega arith) ∙ B.none i a (omega arith) }) in
       rw (top, k) refl
 
   -- levels above h are bare
@@ -146,7 +158,8 @@ module _ (W : Work) where
       let n : note_at (suc (suc (d + h))) ns ≡ [] = note_none (suc (suc (d + h))) ns (b (suc (suc (d + h))) (omega arith) (omega arith)) in
       let k : notes_down (d + suc h) ns ≡ notes_down (suc h) ns = down_more d (suc h) ns (λ i a c. b i a (omega arith)) l in
       let q : suc d + suc h ≡ suc (suc (d + h)) = omega arith in
-      subst (λ (x : ℕ). notes_down x ns ≡ notes_down (suc h) ns) (sym q) (ap (λ (ts : List Taken). ts ++ notes_down (suc (d + h)) ns) n ∙ subst (λ (x : ℕ). notes_down x ns ≡ notes_down (suc h) ns) y k)
+      subst (λ (x : ℕ). notes_down x ns ≡ notes_down (suc h) ns) (sym q) (ap (λ (ts : List Taken). ts ++ notes_down (suc (d + h)) ns) n ∙
+      subst (λ (x : ℕ). notes_down x ns ≡ notes_down (suc h) ns) y k)
 
   abbrev top : ℕ
   top = min (greatest (map (level_at X) X.order) 0) X.K
@@ -157,13 +170,16 @@ module _ (W : Work) where
   stage_read ns t high low len B =
       let F : Fair X top (blank X) = fair_first W top in
       let b : ℕ = length (wanted X (blank X)) in
-      let r : notes_down top (lean_notes X top b (blank X) ns) ≡ lean_back X top b (blank X) = lean_read top (omega arith) b (blank X) ns F (omega arith) (omega arith) (record { none = λ i a k. B.none i a (omega arith) }) in
+      let r : notes_down top (lean_notes X top b (blank X) ns) ≡ lean_back X top b (blank X) = lean_read top (omega arith) b (blank X) ns F (omega arith) (omega arith)
+      (record { none = λ i a k. B.none i a (omega arith) }) in
       split (leb 1 top)
       (λ c.
       let l : 1 ≤ top = leb-true 1 top c in
       let z : t ≡ (t - top) + top = omega arith in
       subst (λ (x : ℕ). notes_down x (lean_notes X top b (blank X) ns) ≡ lean_back X top b (blank X)) (sym z)
-      (down_more (t - top) top (lean_notes X top b (blank X) ns) (λ i a d. lean_above top (omega arith) b (blank X) ns F (omega arith) i 3 a (omega arith) ∙ B.none i (omega arith) (omega arith)) l ∙ r))
+      (down_more (t - top) top (lean_notes X top b (blank X) ns) (λ i a d. lean_above top (omega arith) b (blank X) ns F (omega arith) i 3 a (omega arith) ∙
+      B.none i (omega arith) (omega arith)) l ∙ r))
       (λ c.
       let l : top < 1 = leb-false 1 top c in
-      ap (notes_down t) (notes_low X top b (blank X) ns (omega arith)) ∙ bare_none t ns B ∙ sym (bare_none top ns (record { none = λ i a k. B.none i a (omega arith) })) ∙ ap (notes_down top) (sym (notes_low X top b (blank X) ns (omega arith))) ∙ r)
+      ap (notes_down t) (notes_low X top b (blank X) ns (omega arith)) ∙ bare_none t ns B ∙ sym (bare_none top ns (record { none = λ i a k. B.none i a (omega arith) })) ∙
+      ap (notes_down top) (sym (notes_low X top b (blank X) ns (omega arith))) ∙ r)

@@ -1,5 +1,5 @@
 -- The pins that the program's loop takes back are those of rules 2 to 7, with their counts. Assumes nothing.
-use Prim.Native.Nat.{ℕ, zero, suc, ◌+◌, ◌-◌, ◌^◌, ◌≤◌, ◌<◌, min}
+use Prim.Native.Nat.{ℕ, zero, suc, ◌+◌, ◌-◌, ◌^◌, ◌≤◌, min}
 use mathlib.Core.Path.{◌≡◌, refl, sym, ◌∙◌, ap, subst}
 use mathlib.Core.Logic.{inl, inr}
 use mathlib.Core.Bool.{true, false}
@@ -11,7 +11,7 @@ use Rattle.rules.specs.Lists.{mem, nothing, found, In}
 use Rattle.rules.specs.Cells.{empty, row, row_at}
 use Rattle.rules.specs.Traversal.{Setting, level_at, greatest}
 use Rattle.rules.specs.Placing.{place, placed, tree_of, reverse_of, cell_at, pin_at, roomy}
-use Rattle.rules.specs.Inside.Lean.{blank, candidates, first_free, wanted, recount, Filling, sweep}
+use Rattle.rules.specs.Inside.Lean.{blank, candidates, first_free, wanted, recount, sweep}
 use Rattle.stage_notes.specs.Taken.{Taken, counted, took, taken_back}
 use Rattle.stage_notes.specs.Notes.{weighed, sweep_back, lean_back, lean_backs}
 use Rattle.rules.specs.Inside.Walks.{Sound, Work}
@@ -163,4 +163,10 @@ module _ (W : Work) where
       let F : Fair X top (blank X) = fair_first W top in
       let e : lean_back X top (length (wanted X (blank X))) (blank X) ≡ backs top (blank X) = lean_back_lem top (omega arith) (length (wanted X (blank X))) (blank X) F (omega arith) in
       e ∙ sym (any_fuel (2 ^ X.K + X.K) top (blank X) (omega arith) F.len
-      (omega (arith, count-length vacant (row X.K top (blank X)), row_length X r f S small top (blank X) (omega arith) F.len, rows X.K top (omega arith), mul-le-mul_left (row_at X.K top) (one-le-pow top 2 (omega arith)))))
+      (omega (
+        arith,
+        count-length vacant (row X.K top (blank X)),
+        row_length X r f S small top (blank X) (omega arith) F.len,
+        rows X.K top (omega arith),
+        mul-le-mul_left (row_at X.K top) (one-le-pow top 2 (omega arith)),
+      )))

@@ -1,11 +1,10 @@
 -- The pins taken back: at most one a level, each where rule 7 has no room. Assumes nothing.
 use Prim.Native.Nat.{ℕ, zero, suc, ◌+◌, ◌-◌, ◌^◌, ◌≤◌, ◌<◌, min, max}
-use mathlib.Core.Path.{◌≡◌, sym}
+use mathlib.Core.Path.{◌≡◌}
 use mathlib.Core.Logic.{inl, inr}
-use mathlib.Core.Bool.{true, false}
+use mathlib.Core.Bool.{false}
 use mathlib.Core.List.{List, [], ◌∷◌, map}
 use native.Mathlib.Omega.{arith}
-use lib.Dec.{ltb}
 use lib.ListN.{length, replicate}
 use borrow.Author.Tests.{ltb-false}
 use Rattle.rules.specs.Lists.{count, nothing}
@@ -20,7 +19,8 @@ use Rattle.rules.proofs.Tree.Invariant.{choose_good}
 -- pins of levels from 2 to below h, each of a lower level than the one before, each with counts that rule 7 finds too many
 pub data Descends (X : Setting) : ℕ → List Taken → Type 0 where
   none : {h : ℕ} → Descends X h []
-  next : {h : ℕ} {t : Taken} {ts : List Taken} → 2 ≤ level_at X t.pin → level_at X t.pin < h → level_one_size X.K ≤ t.needed + max t.ones t.pins → Descends X (level_at X t.pin) ts → Descends X h (t ∷ ts)
+  next : {h : ℕ} {t : Taken} {ts : List Taken} → 2 ≤ level_at X t.pin → level_at X t.pin < h → level_one_size X.K ≤ t.needed + max t.ones t.pins → Descends X (level_at X t.pin) ts →
+      Descends X h (t ∷ ts)
 
 higher : {X : Setting} {h j : ℕ} {ts : List Taken} → h ≤ j → Descends X h ts → Descends X j ts
 higher l none = none
@@ -46,7 +46,11 @@ module _ (X : Setting) where
       (λ n d. split (roomy X (placed X (suc (suc l)) p n pl))
       (λ q. rw (e, d, q, took) (took_descends f (suc (suc l)) (placed X (suc (suc l)) p n pl)))
       (λ q.
-      let v : level_at X n ≡ suc (suc l) = elim (choose_good X (tree_of X pl) (reverse_of X pl) (suc (suc l)) X.order 0 nothing n d) [ inl z ↦ absurd (let y : ◌≡◌ {A = ℕ} 0 1 = cc in omega arith) | inr z ↦ z.1 ] in
+      let v : level_at X n ≡ suc (suc l) = elim (choose_good X (tree_of X pl) (reverse_of X pl) (suc (suc l)) X.order 0 nothing n d) [
+        | inl z ↦ absurd (let y : ◌≡◌ {A = ℕ} 0 1 = cc in
+            omega arith)
+        | inr z ↦ z.1
+      ] in
       let lo : 2 ≤ level_at X n = omega arith in
       let hi : level_at X n < suc (suc (suc l)) = omega arith in
       let ts : Descends X (level_at X n) (took X f (suc l) pl) = rw v (took_descends f (suc l) pl) in

@@ -1,10 +1,9 @@
 -- The loop's notes, branch by branch. Assumes nothing.
 use Prim.Native.Nat.{ℕ, zero, suc, ◌<◌}
 use mathlib.Core.Path.{◌≡◌, refl, ap, ◌∙◌}
-use mathlib.Core.Bool.{true, false}
 use mathlib.Core.List.{List, [], ◌∷◌}
 use native.Mathlib.Omega.{arith}
-use Rattle.rules.specs.Lists.{mem, nothing, found, In, Out}
+use Rattle.rules.specs.Lists.{nothing, found, In, Out}
 use Rattle.rules.specs.Traversal.{Setting}
 use Rattle.rules.specs.Placing.{tree_of, cell_at, placed}
 use Rattle.rules.specs.Inside.Lean.{candidates, recount, Filling, sweep}

@@ -31,8 +31,8 @@ pub fn prepare(gates: &[u32], work: &mut [u32], m: usize, n: usize, height: Heig
     let levels = level_lists(work, m, k, wide(height.0));
     Walk {
         listed: k,
-        top: top,
-        levels: levels,
+        top,
+        levels,
     }
 }
 

@@ -13,8 +13,8 @@ use Rattle.stage_tree.specs.Bits.{Standing}
 use Rattle.rules.specs.Inside.Counts as rules-counts
 use Rattle.stage_runs.specs.declared.puts.Puts.{Puts}
 use Rattle.stage_runs.specs.declared.puts.Written.{Written}
-use Rattle.stage_sparse.specs.declared.Runs.{Runs}
-use Rattle.stage_sparse.specs.Runs.{listed}
+use Rattle.stage_sparse.specs.declared.Sparse.{Sparse}
+use Rattle.stage_sparse.specs.Runs.{known}
 use Rattle.stage_runs.specs.Laid.{noted}
 
 -- only what placing counts, and the realised pins, changed
@@ -80,28 +80,30 @@ pub record PutRecord (C : Context) (m half k at room j start : ℕ) (gates : Lis
 unfoldable pub words_of : ℕ → List rules.Sparse → List ℕ
 words_of half rs = map (λ r. (r.start + half) / 32) rs
 
-pub record WriteAt (C : Context) (m half k : ℕ) (at room : ℕ) (R : Runs) (gates pl w words : List ℕ) : Type 0 where
+pub record WriteAt (C : Context) (m half k : ℕ) (at room : ℕ) (R : List Sparse) (gates pl w words : List ℕ) : Type 0 where
   pub now : Putting C m k (record { next = 0; real = 0 }) gates pl w
   pub row : half ≡ row_at C.X.K 1
-  pub size : length R.records ≡ 128
-  pub few : R.len ≤ 128
-  pub inside : rules-counts.Runs half (listed R)
+  pub few : length R ≤ 128
+  pub inside : rules-counts.Runs half (map known R)
   pub ruled : C.X.rule ≡ needed_runs
   pub fits : at + room ≤ length words
 
 -- the first j records are done
-pub record Writing (C : Context) (m half k : ℕ) (last : Bool) (at room : ℕ) (R : Runs) (gates pl w words : List ℕ) (t : Puts) (j : ℕ) (pl' w' words' : List ℕ) : Type 0 where
-  pub upto : j ≤ R.len
+pub record Writing (C : Context) (m half k : ℕ) (last : Bool) (at room : ℕ) (R : List Sparse) (gates pl w words : List ℕ) (t : Puts) (j : ℕ) (pl' w' words' : List ℕ) : Type 0 where
+  pub upto : j ≤ length R
   pub now : Putting C m k t gates pl' w'
   pub moved : Moved m w w'
   pub size : length pl' ≡ length pl
-  pub same : rules.put_runs C.X last (listed R) (put_of m k (record { next = 0; real = 0 }) pl w []) ≡ rules.put_runs C.X last (drop j (listed R)) (put_of m k t pl' w' (words_of half (take j (listed R))))
-  pub wrote : words' ≡ noted at room (words_of half (take j (listed R))) words
+  pub same : rules.put_runs C.X last (map known R) (put_of m k (record {
+    next = 0;
+    real = 0;
+  }) pl w []) ≡ rules.put_runs C.X last (drop j (map known R)) (put_of m k t pl' w' (words_of half (take j (map known R))))
+  pub wrote : words' ≡ noted at room (words_of half (take j (map known R))) words
 
-pub record Wrote (C : Context) (m half k : ℕ) (last : Bool) (at room : ℕ) (R : Runs) (gates pl w words : List ℕ) (e : Written) (pl' w' words' : List ℕ) : Type 0 where
-  pub upto : e.words ≤ R.len
-  pub now : Putting C m k (record { next = e.next; real = e.real }) gates pl' w'
+pub record Wrote (C : Context) (m half k : ℕ) (last : Bool) (at room : ℕ) (R : List Sparse) (gates pl w words : List ℕ) (e : Written) (pl' w' words' : List ℕ) : Type 0 where
+  pub upto : e.words ≤ length R
+  pub now : Putting C m k e.puts gates pl' w'
   pub moved : Moved m w w'
   pub size : length pl' ≡ length pl
-  pub is : rules.put_runs C.X last (listed R) (put_of m k (record { next = 0; real = 0 }) pl w []) ≡ put_of m k (record { next = e.next; real = e.real }) pl' w' (words_of half (take e.words (listed R)))
-  pub wrote : words' ≡ noted at room (words_of half (take e.words (listed R))) words
+  pub is : rules.put_runs C.X last (map known R) (put_of m k (record { next = 0; real = 0 }) pl w []) ≡ put_of m k e.puts pl' w' (words_of half (take e.words (map known R)))
+  pub wrote : words' ≡ noted at room (words_of half (take e.words (map known R))) words

@@ -20,17 +20,15 @@ fn class(work: &mut [u32], m: usize, p: Pin, s: Split) -> Split
     if get(work, m, p, CELLS) != 0 {
         return s;
     }
-    let needed = s.needed;
     if 1 < get(work, m, p, LEVEL) {
         return Split {
-            needed: needed,
             untouched: true,
+            ..s
         };
     }
-    let more = enlist(work, m, needed, PHASE, SPARE, p);
     Split {
-        needed: more,
-        untouched: s.untouched,
+        needed: enlist(work, m, s.needed, PHASE, SPARE, p),
+        ..s
     }
 }
 
@@ -39,26 +37,13 @@ pub fn split_waiting(work: &mut [u32], m: usize, n: usize) -> Split
     requires { SplitAt m n work.old }
     ensures { Classes m n work.old work.new result.needed result.untouched }
 {
-    let mut needed: usize = 0;
-    let mut untouched = false;
-    let mut i = 0;
-    while i < n {
+    let mut s = Split {
+        needed: 0,
+        untouched: false,
+    };
+    for i in 0..n {
         let p = pin_at(work, m, i, WAITING);
-        let s = class(
-            work,
-            m,
-            p,
-            Split {
-                needed: needed,
-                untouched: untouched,
-            },
-        );
-        needed = s.needed;
-        untouched = s.untouched;
-        i += 1;
+        s = class(work, m, p, s);
     }
-    Split {
-        needed: needed,
-        untouched: untouched,
-    }
+    s
 }

@@ -7,7 +7,7 @@ ghost use Rattle.rules.specs.Traversal.{needed_runs};
 
 use columns::{MARK, PHASE, PLACE, STACK, enlist, is_in, pin_at, wide};
 use graph::{EMPTY, Pin};
-use stage_sparse::Runs;
+use stage_sparse::Sparse;
 use stage_tree::place_pin;
 
 // How many of the needed waiting pins are put, and how many pins are realised.
@@ -48,10 +48,7 @@ fn put_cell(
     }
     if is_in(work, m, p, PLACE) {
         let more = enlist(work, m, real, STACK, MARK, p);
-        return Puts {
-            next: next,
-            real: more,
-        };
+        return Puts { next, real: more };
     }
     s
 }
@@ -71,10 +68,8 @@ fn put_run(
     ensures { Every (λ C. RunAt C m half k a s gates.now stage.old work.old) (λ C. Put C m k (put_cells C.X 32 a) gates.now s stage.old work.old result stage.new work.new) }
 {
     let mut t = s;
-    let mut i = 0;
-    while i < 32 {
+    for i in 0..32 {
         t = put_cell(gates, stage, work, m, half, k, a + i, t);
-        i += 1;
     }
     t
 }
@@ -84,10 +79,7 @@ fn enough(last: bool, filled: u32, left: usize) -> bool
     requires { left ≤ 65536 }
     ensures { result ≡ (last || leb (32 - filled) left) }
 {
-    if last {
-        return true;
-    }
-    32 <= left + wide(filled)
+    last || 32 <= left + wide(filled)
 }
 
 // Whether a run is written: none once no needed waiting pin is left.
@@ -95,10 +87,7 @@ fn goes_on(last: bool, filled: u32, left: usize) -> bool
     requires { left ≤ 65536 }
     ensures { result ≡ goes_on needed_runs last filled left }
 {
-    if left == 0 {
-        return false;
-    }
-    enough(last, filled, left)
+    left != 0 && enough(last, filled, left)
 }
 
 // Word j of the stage, if it is one of the `room` that may be written.
@@ -133,11 +122,10 @@ fn put_record(
     put_run(gates, stage, work, m, half, k, half + start, s)
 }
 
-// What the runs leave: how many needed waiting pins are put, pins realised, words written.
+// What the runs leave, and how many words are written.
 #[derive(Clone, Copy)]
 pub struct Written {
-    pub next: usize,
-    pub real: usize,
+    pub puts: Puts,
     pub words: usize,
 }
 
@@ -153,45 +141,23 @@ pub fn put_runs(
     last: bool,
     at: usize,
     room: usize,
-    runs: Runs,
+    runs: &[Sparse],
 ) -> Written
-    requires { Some (λ C. WriteAt C m half k at room runs gates.now stage.old work.old words.old) }
-    ensures { Every (λ C. WriteAt C m half k at room runs gates.now stage.old work.old words.old) (λ C. Wrote C m half k last at room runs gates.now stage.old work.old words.old result stage.new work.new words.new) }
+    requires { Some (λ C. WriteAt C m half k at room runs.now gates.now stage.old work.old words.old) }
+    ensures { Every (λ C. WriteAt C m half k at room runs.now gates.now stage.old work.old words.old) (λ C. Wrote C m half k last at room runs.now gates.now stage.old work.old words.old result stage.new work.new words.new) }
 {
-    let n = runs.len;
-    let mut t = Puts { next: 0, real: 0 };
-    let mut j = 0;
-    while j < n {
-        let r = runs.records[j];
-        let filled = r.filled;
-        let start = r.start;
-        if goes_on(last, filled, k - t.next) {
-            t = put_record(
-                gates,
-                stage,
-                work,
-                words,
-                m,
-                half,
-                k,
-                at,
-                room,
-                j,
-                wide(start),
-                t,
-            );
-            j += 1;
-        } else {
-            return Written {
-                next: t.next,
-                real: t.real,
-                words: j,
-            };
+    let mut puts = Puts { next: 0, real: 0 };
+    for (j, r) in runs.iter().enumerate() {
+        if !goes_on(last, r.filled, k - puts.next) {
+            return Written { puts, words: j };
         }
+        let start = wide(r.start);
+        puts = put_record(
+            gates, stage, work, words, m, half, k, at, room, j, start, puts,
+        );
     }
     Written {
-        next: t.next,
-        real: t.real,
-        words: j,
+        puts,
+        words: runs.len(),
     }
 }

@@ -89,7 +89,10 @@ module _ {X : Setting} {h w from : ℕ} {pl : List ℕ} (A : Cursor X h w from p
     left_from zero b = let z : w + 0 ≡ w = omega arith in rw z refl
     left_from (suc n) b =
         let z : w + suc n ≡ w + n + 1 = omega arith in
-        rw z (first_on pl w (2 * w) whole (w + n) (omega (arith, A.high)) (left_from n (omega arith)) (λ e. true_false (A.behind (w + n) (omega (arith, A.row)) (omega arith)) (not_there pl (w + n) (omega (arith, A.high, A.inside)) e)))
+        rw z (first_on pl w (2 * w) whole (w + n) (omega (
+          arith,
+          A.high,
+        )) (left_from n (omega arith)) (λ e. true_false (A.behind (w + n) (omega (arith, A.row)) (omega arith)) (not_there pl (w + n) (omega (arith, A.high, A.inside)) e)))
 
     -- what it finds is the row's first empty cell
     pub cursor_first : First pl w (2 * w) c

@@ -17,12 +17,10 @@ pub fn first_empty(stage: &[u32], a: usize, e: usize) -> usize
     requires { SearchAt stage.now a e }
     ensures { First stage.now a e result }
 {
-    let mut c = a;
-    while c < e {
+    for c in a..e {
         if stage[c] == EMPTY {
             return c;
         }
-        c += 1;
     }
     e
 }
@@ -34,10 +32,7 @@ pub fn room(work: &[u32], m: usize, half: usize, b: usize) -> bool
 {
     let ones = tail_get(work, m, ONES);
     let pins = tail_get(work, m, PINS);
-    if ones < pins {
-        return b + pins < half;
-    }
-    b + ones < half
+    b + ones.max(pins) < half
 }
 
 // One more cell above level 0 holds pin p.
@@ -52,7 +47,7 @@ fn count_pin(work: &mut [u32], m: usize, p: Pin)
         return;
     }
     let pins = 16 * m + PINS;
-    work[pins] = work[pins] + 1;
+    work[pins] += 1;
 }
 
 // One cell fewer does.
@@ -67,7 +62,7 @@ fn uncount_pin(work: &mut [u32], m: usize, p: Pin)
         return;
     }
     let pins = 16 * m + PINS;
-    work[pins] = work[pins] - 1;
+    work[pins] -= 1;
 }
 
 // Pin p into the cell c of level h.
@@ -84,7 +79,7 @@ fn fill_cell(stage: &mut [u32], work: &mut [u32], m: usize, h: usize, c: usize, 
         return;
     }
     let ones = 16 * m + ONES;
-    work[ones] = work[ones] + 1;
+    work[ones] += 1;
 }
 
 // Pin p out of the cell c of level h.
@@ -101,7 +96,7 @@ fn empty_cell(stage: &mut [u32], work: &mut [u32], m: usize, h: usize, c: usize,
         return;
     }
     let ones = 16 * m + ONES;
-    work[ones] = work[ones] - 1;
+    work[ones] -= 1;
 }
 
 // Rule 5: places pin p at the cell c of level h. Returns how many cells it filled, at every level down to 0.

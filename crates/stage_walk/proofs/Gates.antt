@@ -65,6 +65,10 @@ module _ (C : Context) where
   pub two_most : (p : ℕ) → length (below C.X.g C.X.done p) ≤ 2
   two_most p = elim (two p) [ inl e ↦ rw e (omega arith) | inr k ↦ rw k.2 (omega arith) ]
 
+  -- none is the third
+  pub none_past : {m : ℕ} (p k : ℕ) → 2 ≤ k → m ≡ get_or (below C.X.g C.X.done p) k m
+  none_past {m} p k l = sym (get_or-eq_default (below C.X.g C.X.done p) m (omega (arith, two_most p)))
+
 module _ (C : Context) {m : ℕ} {gates w : List ℕ} (R : Reads C m gates w) where
   -- what is read of the graph stays where the marks are not named
   pub reads_frame : {fs : List ℕ} {w' : List ℕ} → Frame fs m w w' → among fs DONE ≡ false → Reads C m gates w'
@@ -110,29 +114,19 @@ module _ (C : Context) {m : ℕ} {gates w : List ℕ} (R : Reads C m gates w) wh
       | no d ↦ absurd (omega (arith, first_low (as_gate (inr d)), C.small))
     ]
 
-    -- what the code returns of the k-th
-    pub kth_past : (k : ℕ) → 2 ≤ k → m ≡ get_or (below C.X.g C.X.done p) k m
-    kth_past k l = sym (get_or-eq_default (below C.X.g C.X.done p) m (omega (arith, two_most C p)))
-
-    -- a given or realised pin leads to none
-    pub kth_done : (k : ℕ) → In p C.X.done → m ≡ get_or (below C.X.g C.X.done p) k m
-    kth_done k e = rw (follow_done e)
-
-    -- a leaf leads to none either
-    pub kth_leaf : (k : ℕ) → Out p C.X.done → a ≡ 4294967295 → m ≡ get_or (below C.X.g C.X.done p) k m
-    kth_leaf k o e = rw (follow_leaf o e)
-
-    -- a gate leads to its operand, which is a pin
-    pub kth_operand : (k q : ℕ) → k < 2 → Out p C.X.done → (a ≡ 4294967295 → ⊥) → q ≡ pin_of (get_or gates (2 * p + k) 0) → (q ≡ get_or (below C.X.g C.X.done p) k m) × (q ≡ m → ⊥)
+    -- which are the pins that its two numbers tell
+    pub follow_operands : Out p C.X.done → (a ≡ 4294967295 → ⊥) → (x y : ℕ) → x ≡ pin_of a → y ≡ pin_of b → below C.X.g C.X.done p ≡ x ∷ y ∷ []
     unfolding pin_of
-    kth_operand k q l o n e =
-        let i = is k q l e in
-        (i, λ z. omega (arith, follow_pin C p q (rw i (in_get_or (below C.X.g C.X.done p) k m (rw (follow_gate o n) l))), R.base.size))
-      where
-        is : (k q : ℕ) → k < 2 → q ≡ pin_of (get_or gates (2 * p + k) 0) → q ≡ get_or (below C.X.g C.X.done p) k m
-        is zero q l e = let z : 2 * p + 0 ≡ 2 * p = omega arith in rw (follow_gate o n) (rw z at e)
-        is (suc zero) q l e = rw (follow_gate o n) e
-        is (suc (suc k)) q l e = absurd (omega arith)
+    follow_operands o n x y ex ey = rw (ex, ey) (follow_gate o n)
+
+    -- past phase 0 the code asks for the second operand alone
+    pub second_operand : (k q : ℕ) → k < 2 → (k ≡ 0 → ⊥) → Out p C.X.done → (a ≡ 4294967295 → ⊥) → q ≡ pin_of b → (q ≡ get_or (below C.X.g C.X.done p) k m) × (q ≡ m → ⊥)
+    unfolding pin_of
+    second_operand zero q l z o n e = absurd (z refl)
+    second_operand (suc zero) q l z o n e =
+        let i : q ≡ get_or (below C.X.g C.X.done p) 1 m = rw (follow_gate o n) e in
+        (i, λ d. omega (arith, follow_pin C p q (rw i (in_get_or (below C.X.g C.X.done p) 1 m (rw (follow_gate o n) (omega arith)))), R.base.size))
+    second_operand (suc (suc k)) q l z o n e = absurd (omega arith)
 
     -- a pin from which something is followed is a gate, neither given nor realised
     pub gate_of : 0 < length (below C.X.g C.X.done p) → Out p C.X.done × (a ≡ 4294967295 → ⊥)
@@ -141,7 +135,7 @@ module _ (C : Context) {m : ℕ} {gates w : List ℕ} (R : Reads C m gates w) wh
         out : Out p C.X.done
         out = split (mem p C.X.done) (λ e. absurd (omega (arith, ap length (follow_done e)))) (λ e. e)
 
--- the two pins followed from p, where the code has asked for them
+-- the two pins followed from p
 pub record Both (C : Context) (m p a b : ℕ) : Type 0 where
   pub is : below C.X.g C.X.done p ≡ a ∷ b ∷ []
   pub first : In a (below C.X.g C.X.done p)
@@ -149,33 +143,22 @@ pub record Both (C : Context) (m p a b : ℕ) : Type 0 where
   pub in_first : a < m
   pub in_second : b < m
 
-module _ (C : Context) {m : ℕ} {gates w : List ℕ} (R : Reads C m gates w) (p a : ℕ) where
-  abbrev bs : List ℕ
-  bs = below C.X.g C.X.done p
+-- they are pins of the graph
+pub both_of : (C : Context) {m : ℕ} {gates w : List ℕ} → Reads C m gates w → (p a b : ℕ) → below C.X.g C.X.done p ≡ a ∷ b ∷ [] → Both C m p a b
+both_of C {m} R p a b e = record {
+  is = e;
+  first = one;
+  second = other;
+  in_first = omega (arith, follow_pin C p a one, R.base.size);
+  in_second = omega (arith, follow_pin C p b other, R.base.size);
+}
+  where
+    one : In a (below C.X.g C.X.done p)
+    one = rw e (in_here a (b ∷ []))
 
-  -- no first pin: nothing is followed
-  pub none_of : a ≡ get_or bs 0 m → a ≡ m → bs ≡ []
-  none_of e z = nil bs (kth_none bs m 0 (λ x i. omega (arith, follow_pin C p x i, R.base.size)) (sym e ∙ z))
-    where
-      nil : (xs : List ℕ) → length xs ≤ 0 → xs ≡ []
-      nil [] h = refl
-      nil (x ∷ xs) h = absurd (omega arith)
+    other : In b (below C.X.g C.X.done p)
+    other = rw e (in_there b a (b ∷ []) (in_here b []))
 
-  -- a first pin: there is a second, and these two are followed
-  pub both_of : (b : ℕ) → a ≡ get_or bs 0 m → (a ≡ m → ⊥) → b ≡ get_or bs 1 m → Both C m p a b
-  both_of b ea ne eb = record {
-    is = is;
-    first = one;
-    second = other;
-    in_first = omega (arith, follow_pin C p a one, R.base.size);
-    in_second = omega (arith, follow_pin C p b other, R.base.size);
-  }
-    where
-      is : bs ≡ a ∷ b ∷ []
-      is = elim (two C p) [ inl e ↦ absurd (ne (ea ∙ rw e)) | inr k ↦ k.2 ∙ sym (rw (ea, eb, k.2)) ]
-
-      one : In a bs
-      one = rw is (in_here a (b ∷ []))
-
-      other : In b bs
-      other = rw is (in_there b a (b ∷ []) (in_here b []))
+-- the first of them
+pub first_operand : (C : Context) {m : ℕ} {gates w : List ℕ} → Reads C m gates w → (p k a b : ℕ) → k ≡ 0 → below C.X.g C.X.done p ≡ a ∷ b ∷ [] → (a ≡ get_or (below C.X.g C.X.done p) k m) × (a ≡ m → ⊥)
+first_operand C R p k a b z e = (rw (e, z) refl, λ d. omega (arith, (both_of C R p a b e).in_first))

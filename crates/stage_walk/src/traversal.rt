@@ -6,7 +6,7 @@ ghost use Rattle.rules.specs.Inside.Some.{Some, Every};
 ghost use Rattle.stage_walk.specs.Machine.{Going, NextAt, Went, Stepped, VisitAt, Visited, TraverseAt, GoOnAt, WentOn, Traversed};
 ghost use Rattle.stage_walk.specs.Nexts.{leads};
 
-use super::{Next, followed};
+use super::followed;
 use columns::{
     LISTED, ORDER, PHASE, STACK, WAITING, is_in, number_at, pin_at, push, put_number, set_field,
 };
@@ -49,17 +49,18 @@ fn descend(work: &mut [u32], m: usize, top: usize, k: usize, q: Pin)
 }
 
 // The pin that is followed from pin p as the k-th. Past phase 0 p is known to be a gate that is followed.
-fn next_of(gates: &[u32], work: &[u32], m: usize, p: Pin, k: usize) -> Next
+fn next_of(gates: &[u32], work: &[u32], m: usize, p: Pin, k: usize) -> Option<Pin>
     requires { Some (λ C. NextAt C m gates.now work.now p.0 k) }
     ensures { Every (λ C. NextAt C m gates.now work.now p.0 k) (λ C. leads m (below C.X.g C.X.done p.0) k result) }
 {
     if k == 0 {
-        return followed(gates, work, m, p, k);
+        let (first, _) = followed(gates, work, m, p)?;
+        return Some(first);
     }
     if k >= 2 {
-        return Next::Nothing;
+        return None;
     }
-    Next::To(operand(gates, 2 * p.index() + k))
+    Some(operand(gates, 2 * p.index() + 1))
 }
 
 // A step of the item at `top`.
@@ -69,16 +70,15 @@ fn step(gates: &[u32], work: &mut [u32], m: usize, top: usize, n: usize) -> At
 {
     let p = pin_at(work, m, top, STACK);
     let k = number_at(work, m, top, PHASE);
-    let next = next_of(gates, work, m, p, k);
-    match next {
-        Next::Nothing => {
+    match next_of(gates, work, m, p, k) {
+        None => {
             list(work, m, n, p);
             At {
                 depth: top,
                 listed: n + 1,
             }
         }
-        Next::To(q) => {
+        Some(q) => {
             if is_in(work, m, q, LISTED) {
                 put_number(work, m, top, PHASE, k + 1);
                 return At {
@@ -100,14 +100,14 @@ fn run(gates: &[u32], work: &mut [u32], m: usize, items: usize, n: usize) -> usi
     requires { Some (λ C. Going C m gates.now work.old items n) }
     ensures { Every (λ C. Going C m gates.now work.old items n) (λ C. Went C m gates.now work.old items n work.new 0 result) }
 {
-    let mut depth = items;
-    let mut listed = n;
-    while depth > 0 {
-        let a = step(gates, work, m, depth - 1, listed);
-        depth = a.depth;
-        listed = a.listed;
+    let mut at = At {
+        depth: items,
+        listed: n,
+    };
+    while at.depth > 0 {
+        at = step(gates, work, m, at.depth - 1, at.listed);
     }
-    listed
+    at.listed
 }
 
 // Lists pin p after all below it, if it is not listed. Returns how many pins are listed.
@@ -135,11 +135,9 @@ pub fn traverse_on(
     ensures { Every (λ C. GoOnAt C m n from before gates.now work.old) (λ C. WentOn C m work.old work.new result) }
 {
     let mut listed = before;
-    let mut i = from;
-    while i < n {
+    for i in from..n {
         let p = pin_at(work, m, i, WAITING);
         listed = visit(gates, work, m, listed, p);
-        i += 1;
     }
     listed
 }

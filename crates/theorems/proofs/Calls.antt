@@ -7,6 +7,7 @@ use mathlib.Core.List.{List, ◌++◌, append_assoc}
 use native.Mathlib.Omega.{arith}
 use native.Mathlib.Nat.{mul-le-mul_right, suc-mul}
 use lib.ListN.{length, get_or, take, drop, length-append, get_or-append}
+use Rattle.std.specs.Prelude.{Result}
 use Rattle.rules.specs.Lists.{padded, laid_over}
 use Rattle.rules.specs.Cells.{empty, is_height, word_limit, stage_size, rooms}
 use Rattle.rules.specs.Graph.{graph_of, pin_count, own_bit, value}
@@ -22,10 +23,12 @@ use Rattle.rules.proofs.Stage.Staged.{two_step}
 use Rattle.rules.proofs.Build.Coding.{words_coded, counts_coded}
 use Rattle.coded.specs.Reading.{Read}
 use Rattle.coded.proofs.Bits.{length-cell_bits}
-use Rattle.placer.specs.declared.Answer.{Answer}
+use Rattle.refusals.specs.declared.Refusal.{Refusal}
+use Rattle.refusals.specs.Numbers.{number_said}
+use Rattle.placer.specs.declared.Built.{Built}
+use Rattle.placer.specs.declared.Refused.{Refused as BuildRefused}
 use Rattle.placer.specs.Answers.{told, areas, outcome}
-use Rattle.fold.specs.declared.Answer.{Answer as Folded}
-use Rattle.fold.specs.Answers.{number_for, outcome as outcomeOf}
+use Rattle.fold.specs.Answers.{outcome as outcomeOf}
 use Rattle.theorems.specs.Inputs.{Input, D, built, plan_area, Refused}
 use Rattle.theorems.proofs.Rooms.{rooms_enough, refused_where, refusal_given}
 use Rattle.theorems.proofs.Folding.{stages_there}
@@ -40,9 +43,13 @@ pub record Call : Type 0 where
   pub given : List ℕ
   pub records : List ℕ
   pub entry : rules.Areas
-  pub answer : Answer
+  pub answer : Result Built BuildRefused
   pub exit : rules.Areas
   pub ensures : outcome answer exit.plan exit.words exit.counts exit.work ≡ rules.placer rule height gates given records entry
+
+-- what it answers, as the rules have it
+abbrev pub reply : Call → rules.Reply
+reply C = told C.answer
 
 -- the number of its first refusal by a check, or 0
 abbrev pub checked : Call → ℕ
@@ -58,7 +65,7 @@ rooms_of C = rooms C.height (length C.entry.plan)
 
 -- it tells the answer of the rules, and leaves the areas as they say
 pub record Told (C : Call) (b : rules.Answer) : Type 0 where
-  pub reply : told C.answer ≡ rules.reply b
+  pub reply : reply C ≡ rules.reply b
   pub plan : C.exit.plan ≡ padded (length C.entry.plan) empty (rules.cells_of (rules.coded_stages C.height (graph_of C.gates) (rules.stages_of b)))
   pub words : C.exit.words ≡ laid_over (padded (word_limit C.height) empty (rules.words_of (rules.stages_of b))) C.entry.words
   pub counts : C.exit.counts ≡ laid_over (padded (rooms_of C) 0 (rules.counts_of (rules.stages_of b))) C.entry.counts
@@ -77,8 +84,8 @@ answered C e =
     }
 
 -- an answer of 0 passed the checks
-pub passed_checks : (C : Call) → C.answer.number ≡ 0 → checked C ≡ 0
-unfolding outcome told rules.placer rules.refuse rules.refuse_checked
+pub passed_checks : (C : Call) → (reply C).number ≡ 0 → checked C ≡ 0
+unfolding outcome rules.placer rules.refuse rules.refuse_checked
 passed_checks C z = number (checked C) refl
   where
     number : (n : ℕ) → checked C ≡ n → n ≡ 0
@@ -92,16 +99,17 @@ pub record Whole (C : Call) : Type 0 where
   pub passes : checked C ≡ 0
   pub ss : List rules.Stage
   pub built : built (input C passes) (rooms_of C) ≡ rules.whole ss
-  pub stages : C.answer.stages ≡ length ss
+  pub stages : (reply C).stages ≡ length ss
   pub plan : C.exit.plan ≡ plan_area (input C passes) (length C.entry.plan) ss
   pub behind : List ℕ
   pub words : C.exit.words ≡ rules.words_of ss ++ behind
   pub after : List ℕ
   pub counts : C.exit.counts ≡ rules.counts_of ss ++ after
 
-whole_told : (C : Call) (e : checked C ≡ 0) (b : rules.Answer) → built (input C e) (rooms_of C) ≡ b → C.answer.number ≡ 0 → Told C b → Whole C
-unfolding told rules.reply rules.refuse rules.stages_of padded laid_over
-whole_told C e (rules.refusal n k) d z t = absurd (refused_some C.rule C.height (graph_of C.gates) C.given (groups_of C.records) (rooms_of C) n k d (ap (λ (r : rules.Reply). r.number) (sym t.reply) ∙ z))
+whole_told : (C : Call) (e : checked C ≡ 0) (b : rules.Answer) → built (input C e) (rooms_of C) ≡ b → (reply C).number ≡ 0 → Told C b → Whole C
+unfolding rules.reply rules.refuse rules.stages_of padded laid_over
+whole_told C e (rules.refusal n k) d z t =
+    absurd (refused_some C.rule C.height (graph_of C.gates) C.given (groups_of C.records) (rooms_of C) n k d (ap (λ (r : rules.Reply). r.number) (sym t.reply) ∙ z))
 whole_told C e (rules.whole ss) d z t = record {
   passes = e;
   ss = ss;
@@ -115,18 +123,18 @@ whole_told C e (rules.whole ss) d z t = record {
 }
 
 -- An answer of 0 stands for a whole plan of the rules, so that the theorems hold of it.
-pub whole : (C : Call) → C.answer.number ≡ 0 → Whole C
+pub whole : (C : Call) → (reply C).number ≡ 0 → Whole C
 whole C z = let e = passed_checks C z in whole_told C e (built (input C e) (rooms_of C)) refl z (answered C e)
 
 -- ---- rooms
 
 -- With D + 1 rooms an input that passes the checks is answered with 0, 6, 7 or 8.
-pub enough : (C : Call) (e : checked C ≡ 0) → D (input C e) < rooms_of C → (C.answer.number ≡ 0) ⊎ ((C.answer.number ≡ 6) ⊎ ((C.answer.number ≡ 7) ⊎ (C.answer.number ≡ 8)))
-unfolding told rules.reply rules.refuse
+pub enough : (C : Call) (e : checked C ≡ 0) → D (input C e) < rooms_of C → ((reply C).number ≡ 0) ⊎ (((reply C).number ≡ 6) ⊎ (((reply C).number ≡ 7) ⊎ ((reply C).number ≡ 8)))
+unfolding rules.reply rules.refuse
 enough C e h = told_enough (built (input C e) (rooms_of C)) refl (answered C e)
   where
-    told_enough : (b : rules.Answer) → built (input C e) (rooms_of C) ≡ b → Told C b → (C.answer.number ≡ 0) ⊎ ((C.answer.number ≡ 6) ⊎ ((C.answer.number ≡ 7) ⊎ (C.answer.number ≡ 8)))
-    told_enough (rules.refusal n k) d t = let a : C.answer.number ≡ n = ap (λ (r : rules.Reply). r.number) t.reply in rw a (inr (rooms_enough (input C e) (rooms_of C) h n k d))
+    told_enough : (b : rules.Answer) → built (input C e) (rooms_of C) ≡ b → Told C b → ((reply C).number ≡ 0) ⊎ (((reply C).number ≡ 6) ⊎ (((reply C).number ≡ 7) ⊎ ((reply C).number ≡ 8)))
+    told_enough (rules.refusal n k) d t = let a : (reply C).number ≡ n = ap (λ (r : rules.Reply). r.number) t.reply in rw a (inr (rooms_enough (input C e) (rooms_of C) h n k d))
     told_enough (rules.whole ss) d t = inl (ap (λ (r : rules.Reply). r.number) t.reply)
 
 -- ---- refusals
@@ -136,16 +144,18 @@ same_refused I rooms n m k j a b h = rw (a, b) h
 
 -- An answer of 6, 7, 8 or 9 means these counts, which `refused_where` says in words: of an input that passes the checks, any answer but 0 is
 -- such a number, with its stage, and the counts behind it are over.
-pub refused_counts : (C : Call) (e : checked C ≡ 0) → C.answer.number ≢ 0 → Refused (input C e) (rooms_of C) C.answer.number C.answer.stage
-unfolding told rules.reply rules.refuse
+pub refused_counts : (C : Call) (e : checked C ≡ 0) → (reply C).number ≢ 0 → Refused (input C e) (rooms_of C) (reply C).number (reply C).stage
+unfolding rules.reply rules.refuse
 refused_counts C e z = told_refused (built (input C e) (rooms_of C)) refl (answered C e)
   where
-    told_refused : (b : rules.Answer) → built (input C e) (rooms_of C) ≡ b → Told C b → Refused (input C e) (rooms_of C) C.answer.number C.answer.stage
+    told_refused : (b : rules.Answer) → built (input C e) (rooms_of C) ≡ b → Told C b → Refused (input C e) (rooms_of C) (reply C).number (reply C).stage
     told_refused (rules.refusal n k) d t =
-        same_refused (input C e) (rooms_of C) n C.answer.number k C.answer.stage (ap (λ (r : rules.Reply). r.number) t.reply) (ap (λ (r : rules.Reply). r.stage) t.reply) (refused_where (input C e) (rooms_of C) n k d)
+        same_refused (input C e) (rooms_of C) n (reply C).number k (reply C).stage
+        (ap (λ (r : rules.Reply). r.number) t.reply) (ap (λ (r : rules.Reply). r.stage) t.reply) (refused_where (input C e) (rooms_of C) n k d)
     told_refused (rules.whole ss) d t = absurd (z (ap (λ (r : rules.Reply). r.number) t.reply))
 
-checked_few : (K : ℕ) (s : Bool) (gates given records : List ℕ) → (refusal_of K s gates given records ≤ 5) ⊎ (refusal_of K s gates given records ≡ 23)
+-- the checks refuse with 1 to 5 or 23
+pub checked_few : (K : ℕ) (s : Bool) (gates given records : List ℕ) → (refusal_of K s gates given records ≤ 5) ⊎ (refusal_of K s gates given records ≡ 23)
 unfolding refusal_of
 checked_few K s gates given records =
     split (is_height K)
@@ -161,15 +171,15 @@ checked_few K s gates given records =
     (λ h. rw (h, refusal_of) (inl (omega arith)))
 
 -- a check's refusal is the answer
-checked_told : (C : Call) (n : ℕ) → checked C ≡ suc n → C.answer.number ≡ suc n
-unfolding outcome told rules.placer rules.refuse_checked
+checked_told : (C : Call) (n : ℕ) → checked C ≡ suc n → (reply C).number ≡ suc n
+unfolding outcome rules.placer rules.refuse_checked
 checked_told C n e = ap (λ (o : rules.Outcome). o.reply.number) (rw (e, rules.placer) at C.ensures)
 
 -- So whoever sees an answer from 6 to 9 knows that the checks let the input pass, and the counts.
-pub six_to_nine : (C : Call) → 6 ≤ C.answer.number → C.answer.number ≤ 9 → (e : checked C ≡ 0) × Refused (input C e) (rooms_of C) C.answer.number C.answer.stage
+pub six_to_nine : (C : Call) → 6 ≤ (reply C).number → (reply C).number ≤ 9 → (e : checked C ≡ 0) × Refused (input C e) (rooms_of C) (reply C).number (reply C).stage
 six_to_nine C l h = passing (checked C) refl
   where
-    passing : (n : ℕ) → checked C ≡ n → (e : checked C ≡ 0) × Refused (input C e) (rooms_of C) C.answer.number C.answer.stage
+    passing : (n : ℕ) → checked C ≡ n → (e : checked C ≡ 0) × Refused (input C e) (rooms_of C) (reply C).number (reply C).stage
     passing zero e = (e, refused_counts C e (λ z. omega arith))
     passing (suc n) e = absurd (elim (checked_few C.height (rules.sizes_right C.height C.gates C.records C.entry) C.gates C.given C.records) [
       | inl a ↦ omega (arith, checked_told C n e)
@@ -177,10 +187,10 @@ six_to_nine C l h = passing (checked C) refl
     ])
 
 -- And where these counts are over, the call answers with that number and stage.
-pub counts_refused : (C : Call) (e : checked C ≡ 0) (n k : ℕ) → Refused (input C e) (rooms_of C) n k → (C.answer.number ≡ n) × (C.answer.stage ≡ k)
-unfolding told rules.reply rules.refuse
+pub counts_refused : (C : Call) (e : checked C ≡ 0) (n k : ℕ) → Refused (input C e) (rooms_of C) n k → ((reply C).number ≡ n) × ((reply C).stage ≡ k)
+unfolding rules.reply rules.refuse
 counts_refused C e n k h =
-    let t : told C.answer ≡ rules.reply (rules.refusal n k) = rw (refusal_given (input C e) (rooms_of C) n k h) at (answered C e).reply in
+    let t : reply C ≡ rules.reply (rules.refusal n k) = rw (refusal_given (input C e) (rooms_of C) n k h) at (answered C e).reply in
     (ap (λ (r : rules.Reply). r.number) t, ap (λ (r : rules.Reply). r.stage) t)
 
 -- ---- reading
@@ -198,15 +208,17 @@ length_cells (suc n) K load plan =
 same_read : {K n q b : ℕ} {p p' w w' c c' : List ℕ} (f : List ℕ → List ℕ) → p' ≡ p → w' ≡ w → c' ≡ c → Read K n p w c (f p) q b → Read K n p' w' c' (f p') q b
 same_read f ep ew ec R = rw (ep, ew, ec) R
 
-fold_laid : (K : ℕ) (plan bits result work : List ℕ) (n : ℕ) → n ≡ fold_refusal K (length plan) (length result) (length work) → (folder K plan bits result work).number ≡ 0 → (folder K plan bits result work).result ≡ laid_over (fold_cells K plan bits) result
+fold_laid : (K : ℕ) (plan bits result work : List ℕ) (n : ℕ) → n ≡ fold_refusal K (length plan) (length result) (length work) →
+    (folder K plan bits result work).number ≡ 0 → (folder K plan bits result work).result ≡ laid_over (fold_cells K plan bits) result
 unfolding folder
 fold_laid K plan bits result work zero e z = rw (← e, folder) refl
 fold_laid K plan bits result work (suc n) e z = let d : suc n ≡ 0 = rw (← e, folder) at z in absurd (omega arith)
 
 -- Fold the plan that an answer of 0 left, read the bits of its written words, and every endpoint's graph value is there.
-pub reads : (C : Call) (z : C.answer.number ≡ 0) (bits result work : List ℕ) (a : Folded) (result' work' : List ℕ) → outcomeOf a result' work' ≡ folder C.height C.exit.plan bits result work → number_for a ≡ 0 →
+pub reads : (C : Call) (z : (reply C).number ≡ 0) (bits result work : List ℕ) (a : Result (Unit {0}) Refusal) (result' work' : List ℕ) →
+    outcomeOf a result' work' ≡ folder C.height C.exit.plan bits result work → number_said a ≡ 0 →
     (q : ℕ) → 0 < q → Ends q (groups_of C.records) →
-    Read C.height C.answer.stages C.exit.plan C.exit.words C.exit.counts result' q (as_number (value (length (graph_of C.gates)) (graph_of C.gates) C.given bits q))
+    Read C.height (reply C).stages C.exit.plan C.exit.words C.exit.counts result' q (as_number (value (length (graph_of C.gates)) (graph_of C.gates) C.given bits q))
 unfolding outcomeOf laid_over fold_cells
 reads C z bits result work a result' work' e f q b i =
     let W = whole C z in
@@ -223,4 +235,16 @@ reads C z bits result work a result' work' e f q b i =
     let o = fold_laid C.height P bits result work _ refl (sym (ap (λ (x : FoldOutcome). x.number) e) ∙ f) in
     let v : get_or result' (r.stage * stage_size C.height + r.position) 0 ≡ get_or s (r.stage * stage_size C.height + r.position) 0 =
     ap (λ (x : List ℕ). get_or x (r.stage * stage_size C.height + r.position) 0) (ap (λ (x : FoldOutcome). x.result) e ∙ o) ∙ get_or-append s _ 0 _ k in
-    record { stage = r.stage; at = r.at; position = r.position; room = omega (arith, r.room, W.stages); from = r.from; to = r.to; word = r.word; low = r.low; high = r.high; cell = r.cell; bit = v ∙ r.bit }
+    record {
+      stage = r.stage;
+      at = r.at;
+      position = r.position;
+      room = omega (arith, r.room, W.stages);
+      from = r.from;
+      to = r.to;
+      word = r.word;
+      low = r.low;
+      high = r.high;
+      cell = r.cell;
+      bit = v ∙ r.bit;
+    }

@@ -8,14 +8,16 @@ use mathlib.Core.List.{List, [], ◌∷◌, ◌++◌, map}
 use native.Mathlib.Omega.{arith}
 use lib.Dec.{ltb}
 use lib.ListN.{length, get_or}
+use Rattle.std.specs.Prelude.{Result}
 use Rattle.rules.specs.Lists.{every, up_to}
 use Rattle.rules.specs.Cells.{empty, stage_of}
 use Rattle.rules.specs.Traversal.{needed_runs}
 use Rattle.rules.specs.Checks.{work_size}
-use Rattle.rules.specs.Build.{Areas, Outcome, placer}
+use Rattle.rules.specs.Build.{Areas, Reply, Outcome, placer}
 use Rattle.rules.specs.Inside.Opened.{everything}
 use Rattle.rules.proofs.Bench.{leaves, outputs, first, chain, sevens}
-use Rattle.placer.specs.declared.Answer.{Answer}
+use Rattle.placer.specs.declared.Built.{Built}
+use Rattle.placer.specs.declared.Refused.{Refused}
 use Rattle.placer.specs.Answers.{told, areas, outcome}
 
 -- numbers of 32 bits
@@ -33,8 +35,12 @@ pub record Handed : Type 0 where
 
 -- what it gives back
 pub record Left : Type 0 where
-  pub answer : Answer
+  pub answer : Result Built Refused
   pub exit : Areas
+
+-- what it answers, as the rules have it
+abbrev pub reply : Left → Reply
+reply l = told l.answer
 
 -- what the rules make of it
 abbrev pub right : Handed → Outcome
@@ -119,12 +125,11 @@ two_counts = (refl, refl)
 -- ---- the frauds
 
 module _ (f : Handed → Left) (M : Meets f) where
-  reply_is : (x : Handed) → told (f x).answer ≡ (right x).reply
+  reply_is : (x : Handed) → reply (f x) ≡ (right x).reply
   unfolding outcome
   reply_is x = ap (λ (o : Outcome). o.reply) (M.ensures x)
 
-  number_is : (x : Handed) {n : ℕ} → (right x).reply.number ≡ n → (f x).answer.number ≡ n
-  unfolding told
+  number_is : (x : Handed) {n : ℕ} → (right x).reply.number ≡ n → (reply (f x)).number ≡ n
   number_is x e = ap (λ r. r.number) (reply_is x) ∙ e
 
   plan_is : (x : Handed) → (f x).exit.plan ≡ (right x).areas.plan
@@ -136,40 +141,38 @@ module _ (f : Handed → Left) (M : Meets f) where
   counts_are x = ap (λ (o : Outcome). o.areas.counts) (M.ensures x)
 
   -- It doesn't refuse everything.
-  pub not_all_refused : ((x : Handed) → (f x).answer.number ≢ 0) → ⊥
+  pub not_all_refused : ((x : Handed) → (reply (f x)).number ≢ 0) → ⊥
   not_all_refused h = h one (number_is one one_reply.0)
 
   -- It doesn't give a single fixed plan: not the same plan area at exit in any two accepted calls whose plan areas are of one length.
-  pub not_one_plan : ((x y : Handed) → (f x).answer.number ≡ 0 → (f y).answer.number ≡ 0 → length x.entry.plan ≡ length y.entry.plan → (f x).exit.plan ≡ (f y).exit.plan) → ⊥
+  pub not_one_plan : ((x y : Handed) → (reply (f x)).number ≡ 0 → (reply (f y)).number ≡ 0 → length x.entry.plan ≡ length y.entry.plan → (f x).exit.plan ≡ (f y).exit.plan) → ⊥
   not_one_plan h =
       let e : (f one).exit.plan ≡ (f many).exit.plan = h one many (number_is one one_reply.0) (number_is many many_reply) refl in
       let d : ◌≡◌ {A = ℕ} 65543 4294967295 = sym one_cells.0 ∙ ap (λ (p : List ℕ). get_or p 16 empty) (sym (plan_is one) ∙ e ∙ plan_is many) ∙ many_cell in
       omega arith
 
   -- It doesn't write nothing: accepted calls don't all leave the areas as they were,
-  pub not_unchanged : ((x : Handed) → (f x).answer.number ≡ 0 → (f x).exit ≡ x.entry) → ⊥
+  pub not_unchanged : ((x : Handed) → (reply (f x)).number ≡ 0 → (f x).exit ≡ x.entry) → ⊥
   not_unchanged h =
       let e : (f one).exit.plan ≡ one.entry.plan = ap (λ (a : Areas). a.plan) (h one (number_is one one_reply.0)) in
       let d : ◌≡◌ {A = ℕ} 4294967295 7 = sym one_cells.1 ∙ ap (λ (p : List ℕ). get_or p 0 empty) (sym (plan_is one) ∙ e) ∙ one_entry in
       omega arith
 
   -- nor a plan of empty marks alone,
-  pub not_empty : ((x : Handed) → (f x).answer.number ≡ 0 → (p : ℕ) → get_or (f x).exit.plan p empty ≡ empty) → ⊥
+  pub not_empty : ((x : Handed) → (reply (f x)).number ≡ 0 → (p : ℕ) → get_or (f x).exit.plan p empty ≡ empty) → ⊥
   unfolding empty
   not_empty h =
       let d : ◌≡◌ {A = ℕ} 65543 4294967295 = sym one_cells.0 ∙ ap (λ (p : List ℕ). get_or p 16 empty) (sym (plan_is one)) ∙ h one (number_is one one_reply.0) 16 in
       omega arith
 
   -- nor do they all report no word.
-  pub not_wordless : ((x : Handed) → (f x).answer.number ≡ 0 → (f x).answer.words ≡ 0) → ⊥
-  unfolding told
+  pub not_wordless : ((x : Handed) → (reply (f x)).number ≡ 0 → (reply (f x)).words ≡ 0) → ⊥
   not_wordless h =
       let d : ◌≡◌ {A = ℕ} 1 0 = sym one_reply.1 ∙ ap (λ r. r.words) (sym (reply_is one)) ∙ h one (number_is one one_reply.0) in
       omega arith
 
   -- It doesn't build the first stage and repeat it: in accepted calls of two stages the cells of the second aren't always those of the first,
-  pub not_repeated : ((x : Handed) → (f x).answer.number ≡ 0 → (f x).answer.stages ≡ 2 → stage_of x.height 2 (f x).exit.plan ≡ stage_of x.height 1 (f x).exit.plan) → ⊥
-  unfolding told
+  pub not_repeated : ((x : Handed) → (reply (f x)).number ≡ 0 → (reply (f x)).stages ≡ 2 → stage_of x.height 2 (f x).exit.plan ≡ stage_of x.height 1 (f x).exit.plan) → ⊥
   not_repeated h =
       let e = h two (number_is two two_reply.0) (ap (λ r. r.stages) (reply_is two) ∙ two_reply.1) in
       let p : (f two).exit.plan ≡ (right two).areas.plan = plan_is two in
@@ -177,8 +180,7 @@ module _ (f : Handed → Left) (M : Meets f) where
       omega arith
 
   -- nor are its words as many.
-  pub words_not_repeated : ((x : Handed) → (f x).answer.number ≡ 0 → (f x).answer.stages ≡ 2 → get_or (f x).exit.counts 1 7 ≡ get_or (f x).exit.counts 0 7) → ⊥
-  unfolding told
+  pub words_not_repeated : ((x : Handed) → (reply (f x)).number ≡ 0 → (reply (f x)).stages ≡ 2 → get_or (f x).exit.counts 1 7 ≡ get_or (f x).exit.counts 0 7) → ⊥
   words_not_repeated h =
       let e = h two (number_is two two_reply.0) (ap (λ r. r.stages) (reply_is two) ∙ two_reply.1) in
       let c : (f two).exit.counts ≡ (right two).areas.counts = counts_are two in

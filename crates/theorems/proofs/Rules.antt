@@ -36,5 +36,6 @@ module _ (K : ℕ) (gates given records : List ℕ) (a : Areas) where
           answered : (b : Answer) → build every_run K (graph_of gates) given (groups_of records) (rooms K (length a.plan)) ≡ b → Better
           answered (refusal n k) d = absurd (refused_some every_run K (graph_of gates) given (groups_of records) (rooms K (length a.plan)) n k d (rw (e, d, placer) at z))
           answered (whole ss) d =
-              let t = never_costs (record { rule = every_run; K = K; sized = sizes_right K gates records a; gates = gates; given = given; records = records; passes = e }) (rooms K (length a.plan)) ss d in
+              let I : Input = record { rule = every_run; K = K; sized = sizes_right K gates records a; gates = gates; given = given; records = records; passes = e } in
+              let t = never_costs I (rooms K (length a.plan)) ss d in
               rw (e, d, t.1, placer) (refl, t.2)

@@ -7,9 +7,9 @@ use lib.ListN.{length}
 use Rattle.rules.specs.Graph.{graph_of, value}
 use Rattle.rules.specs.Records.{groups_of, Ends}
 use Rattle.rules.specs.Fold.{as_number}
-use Rattle.fold.specs.Answers.{number_for}
+use Rattle.refusals.specs.Numbers.{number_said}
 use Rattle.coded.specs.Reading.{Read}
-use Rattle.theorems.proofs.Calls.{Call, reads}
+use Rattle.theorems.proofs.Calls.{Call, reply, reads}
 use Rattle.theorems.proofs.Folds.{FoldCall}
 
 -- what the chip's gates give at a pin, for some bits on leaves and given pins
@@ -20,6 +20,6 @@ chip_value C bits q = value (length (graph_of C.gates)) (graph_of C.gates) C.giv
 -- chip's gates give at every endpoint: for every endpoint pin above 0 there are a stage, a word written in that stage and a position of that
 -- word, whose cell holds the pin and whose folded bit is the pin's value in the graph. (The fold does answer 0 where its areas are large enough:
 -- `folds` in `Folds.antt`.)
-pub relied_on : (C : Call) → C.answer.number ≡ 0 → (F : FoldCall C) → number_for F.answer ≡ 0 → (q : ℕ) → 0 < q → Ends q (groups_of C.records) →
-    Read C.height C.answer.stages C.exit.plan C.exit.words C.exit.counts F.exit q (as_number (chip_value C F.bits q))
+pub relied_on : (C : Call) → (reply C).number ≡ 0 → (F : FoldCall C) → number_said F.answer ≡ 0 → (q : ℕ) → 0 < q → Ends q (groups_of C.records) →
+    Read C.height (reply C).stages C.exit.plan C.exit.words C.exit.counts F.exit q (as_number (chip_value C F.bits q))
 relied_on C z F f = reads C z F.bits F.entry F.work F.answer F.exit F.cleared F.ensures f

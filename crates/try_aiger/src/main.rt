@@ -2,7 +2,7 @@
 #![tactic(auto)]
 
 use aiger::read;
-use listing::answer_text;
+use listing::{listing, refused};
 use placer::build;
 use std::io;
 use try_cases::{part, read_full};
@@ -15,24 +15,19 @@ fn main(rt: HostRuntime) -> io::Result<()> {
     list(&rt, &bytes[..n])
 }
 
-fn say(rt: &impl Print, text: &[u8], n: usize) -> io::Result<()> {
-    rt.write_all(text)?;
-    rt.print(n)
-}
-
 fn list(rt: &impl Print, bytes: &[u8]) -> io::Result<()> {
     let mut gates: [u32; 2048] = [0; 2048];
     let mut records: [u32; 1024] = [0; 1024];
     let mut latches: [u32; 256] = [0; 256];
-    let a = read(bytes, &mut gates, &mut records, &mut latches);
-    if a.number != 0 {
-        let pin = a.pin;
-        say(rt, b"refused ", a.number as usize)?;
-        say(rt, b" place ", a.at)?;
-        say(rt, b" pin ", pin.index())?;
-        return rt.write_all(b"\n");
+    match read(bytes, &mut gates, &mut records, &mut latches) {
+        Ok(n) => place(rt, part(&gates, 0, n.gates), part(&records, 0, n.records)),
+        Err(e) => {
+            let number = e.why.number();
+            let at = e.at;
+            let pin = e.why.pin().0;
+            println!(rt; "refused {number} place {at} pin {pin}")
+        }
     }
-    place(rt, part(&gates, 0, a.gates), part(&records, 0, a.records))
 }
 
 // Eight rooms; work for as many gates and records as are read.
@@ -42,7 +37,7 @@ fn place(rt: &impl Print, gates: &[u32], records: &[u32]) -> io::Result<()> {
     let mut words: [u32; 32] = [0; 32];
     let mut counts: [u32; 8] = [0; 8];
     let mut work: [u32; 25088] = [0; 25088];
-    let a = build(
+    let built = build(
         HEIGHT,
         gates,
         &given,
@@ -52,18 +47,10 @@ fn place(rt: &impl Print, gates: &[u32], records: &[u32]) -> io::Result<()> {
         &mut counts,
         &mut work,
     );
-    let pin = a.pin;
     let mut text: [u8; 131072] = [0; 131072];
-    let w = answer_text(
-        HEIGHT, a.number, a.stages, a.stage, pin, &plan, &words, &counts, &mut text,
-    );
-    show(rt, &text, w.length)
-}
-
-// The first n bytes.
-fn show(rt: &impl Print, text: &[u8], n: usize) -> io::Result<()> {
-    if n > text.len() {
-        return Ok(());
-    }
-    rt.write_all(&text[0..n])
+    let written = match built {
+        Ok(b) => listing(HEIGHT, b.stages, &plan, &words, &counts, &mut text),
+        Err(e) => refused(e.why.number(), e.stage, e.why.pin(), &mut text),
+    };
+    rt.write_all(part(&text, 0, written.unwrap_or(0)))
 }

@@ -3,7 +3,7 @@
 
 use cell::Cell;
 use graph::EMPTY;
-use placer::{Answer, build};
+use placer::{Built, Refused, build};
 use std::io;
 
 fn main(rt: HostRuntime) -> io::Result<()> {
@@ -13,50 +13,33 @@ fn main(rt: HostRuntime) -> io::Result<()> {
     memories_65(&rt)
 }
 
-fn say(rt: &impl Print, n: u64) -> io::Result<()> {
-    rt.write_all(b" ")?;
-    rt.print(n)
-}
-
-fn end(rt: &impl Print) -> io::Result<()> {
-    rt.write_all(b"\n")
-}
-
-fn tell(rt: &impl Print, a: Answer) -> io::Result<()> {
-    say(rt, a.number as u64)?;
-    say(rt, a.stages as u64)?;
-    say(rt, a.words as u64)?;
-    say(rt, a.stage as u64)?;
-    say(rt, a.cells as u64)?;
-    end(rt)
-}
-
-fn tell_cell(rt: &impl Print, p: usize, cell: Cell) -> io::Result<()> {
-    if cell.is_empty() {
-        return Ok(());
+// The number, stages and words, the refused stage, and the filled cells.
+fn tell(rt: &impl Print, built: Result<Built, Refused>) -> io::Result<()> {
+    match built {
+        Ok(b) => println!(rt; " 0 {} {} 0 {}", b.stages, b.words, b.cells),
+        Err(e) => {
+            let number = e.why.number();
+            println!(rt; " {number} 0 0 {} 0", e.stage)
+        }
     }
-    say(rt, p as u64)?;
-    say(rt, cell.pin().0 as u64)?;
-    end(rt)
 }
 
 // The positions that are filled, with their pins.
 fn filled(rt: &impl Print, plan: &[u32]) -> io::Result<()> {
-    let mut p = 0;
-    while p < plan.len() {
-        tell_cell(rt, p, Cell(plan[p]))?;
-        p += 1;
+    for (p, cell) in plan.iter().enumerate() {
+        let cell = Cell(*cell);
+        if !cell.is_empty() {
+            println!(rt; " {p} {}", cell.pin().0)?;
+        }
     }
     Ok(())
 }
 
 fn all(rt: &impl Print, words: &[u32]) -> io::Result<()> {
-    let mut i = 0;
-    while i < words.len() {
-        say(rt, words[i] as u64)?;
-        i += 1;
+    for word in words {
+        print!(rt; " {word}")?;
     }
-    end(rt)
+    println!(rt; "")
 }
 
 // Height 6: pins 1 to 4 are leaves, 5 = (2, 4), 6 = (6, 9), 7 = (10, 12), output 14.
@@ -113,13 +96,8 @@ fn one_leaf(rt: &impl Print) -> io::Result<()> {
 
 // A memory's kind at every 92nd number.
 fn set_kinds(records: &mut [u32]) {
-    let mut at = 0;
-    while at < records.len() {
+    for at in (0..records.len()).step_by(92) {
         records[at] = 3;
-        if records.len() - at < 92 {
-            return;
-        }
-        at += 92;
     }
 }
 

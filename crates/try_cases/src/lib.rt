@@ -23,16 +23,12 @@ pub fn read_full<R: Read>(from: &mut R, buf: &mut [u8]) -> io::Result<usize>
     Ok(done)
 }
 
-pub fn more(n: usize, by: usize) -> usize {
-    std::num::wrapping_add_usize(n, by)
+// Item i; 0 behind the last.
+pub fn item<T: Copy + Default>(xs: &[T], i: usize) -> T {
+    xs.get(i).copied().unwrap_or_default()
 }
 
-// Number i; 0 behind the last.
-pub fn item(xs: &[u32], i: usize) -> u32 {
-    if i < xs.len() { xs[i] } else { 0 }
-}
-
-pub fn set(xs: &mut [u32], i: usize, x: u32) {
+pub fn set<T: Copy>(xs: &mut [T], i: usize, x: T) {
     if i < xs.len() {
         xs[i] = x;
     }
@@ -41,31 +37,21 @@ pub fn set(xs: &mut [u32], i: usize, x: u32) {
 // Number i of a tally becomes more.
 pub fn add(tally: &mut [usize], i: usize, by: usize) {
     if i < tally.len() {
-        tally[i] = more(tally[i], by);
+        tally[i] = tally[i].wrapping_add(by);
     }
 }
 
-// n numbers from an index on; none where there are fewer.
-pub fn part(xs: &[u32], from: usize, n: usize) -> &[u32] {
-    if from > xs.len() {
-        return &xs[0..0];
+// n items from an index on; none where there are fewer.
+pub fn part<T>(xs: &[T], from: usize, n: usize) -> &[T] {
+    match xs.get(from..) {
+        Some(rest) => rest.get(..n).unwrap_or(&[]),
+        None => &[],
     }
-    if n > xs.len() - from {
-        return &xs[0..0];
-    }
-    let to = from + n;
-    &xs[from..to]
 }
 
-// The first n numbers, to be written; all where there are fewer.
-pub fn front(xs: &mut [u32], n: usize) -> &mut [u32] {
-    if n <= xs.len() { &mut xs[0..n] } else { xs }
-}
-
-fn wide(x: u8) -> usize
-    ensures { result < 256 }
-{
-    x as usize
+// The first n items, to be written; all where there are fewer.
+pub fn front<T>(xs: &mut [T], n: usize) -> &mut [T] {
+    if n <= xs.len() { &mut xs[..n] } else { xs }
 }
 
 // Number i of bytes that hold two for each, the lower one first; 0 behind the last.
@@ -73,7 +59,7 @@ pub fn number(bytes: &[u8], i: usize) -> usize
     ensures { result < 65536 }
 {
     if i < bytes.len() / 2 {
-        wide(bytes[2 * i]) + 256 * wide(bytes[2 * i + 1])
+        usize::from(u16::from_le_bytes([bytes[2 * i], bytes[2 * i + 1]]))
     } else {
         0
     }
@@ -84,29 +70,13 @@ pub fn narrow(bytes: &[u8], i: usize) -> u32 {
     number(bytes, i) as u32
 }
 
-fn tally_of(tally: &[usize], i: usize) -> u64 {
-    if i < tally.len() { tally[i] as u64 } else { 0 }
-}
-
-// A byte of a text: a capital stands for a number of the tally, A for the first.
-fn tell_byte(rt: &impl Print, byte: &[u8; 1], tally: &[usize]) -> io::Result<()> {
-    let b = byte[0];
-    if b < b'A' {
-        return rt.write_all(byte);
-    }
-    if b > b'Z' {
-        return rt.write_all(byte);
-    }
-    rt.print(tally_of(tally, wide(b - b'A')))
-}
-
-// Prints a text with the tally's numbers for its capitals.
+// Prints a text with the tally's numbers for its capitals, A for the first.
 pub fn tell(rt: &impl Print, text: &[u8], tally: &[usize]) -> io::Result<()> {
-    let mut i = 0;
-    while i < text.len() {
-        let byte = [text[i]];
-        tell_byte(rt, &byte, tally)?;
-        i += 1;
+    for byte in text {
+        match *byte {
+            b'A'..=b'Z' => rt.print(item(tally, usize::from(*byte - b'A')))?,
+            _ => rt.write_all(&[*byte])?,
+        }
     }
     Ok(())
 }

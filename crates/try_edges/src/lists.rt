@@ -1,5 +1,5 @@
 // Functions of lists, whose lengths stand before them. Each prints what is answered.
-use crate::numbers::{say, say_u32};
+use crate::numbers::say;
 use graph::{Node, Pin};
 use std::io;
 use try_cases::text::{narrow, number, piece, put};
@@ -39,7 +39,7 @@ fn row_of(rt: &impl Print, numbers: &[u8], plan: &[u32]) -> io::Result<()> {
         narrow(numbers, 3),
     );
     say(rt, own.len())?;
-    say_u32(rt, item(own, 0))
+    say(rt, item(own, 0))
 }
 
 // The first cell of a row is set: what the plan holds there and beside it.
@@ -55,9 +55,9 @@ fn row_write(rt: &impl Print, numbers: &[u8]) -> io::Result<()> {
         0,
         7,
     );
-    say_u32(rt, item(&plan, 159))?;
-    say_u32(rt, item(&plan, 160))?;
-    say_u32(rt, item(&plan, 161))
+    say(rt, item(&plan, 159))?;
+    say(rt, item(&plan, 160))?;
+    say(rt, item(&plan, 161))
 }
 
 // A pin and the gates.
@@ -71,8 +71,8 @@ fn tell_node(rt: &impl Print, node: Node) -> io::Result<()> {
     match node {
         Node::Leaf => Ok(()),
         Node::Gate(a, b) => {
-            say_u32(rt, a.0)?;
-            say_u32(rt, b.0)
+            say(rt, a.0)?;
+            say(rt, b.0)
         }
     }
 }
@@ -86,7 +86,7 @@ fn record(rt: &impl Print, numbers: &[u8], line: &[u8]) -> io::Result<()> {
 
 fn tell_record(rt: &impl Print, records: &[u32], at: usize, i: usize) -> io::Result<()> {
     say(rt, records::size_at(records, at))?;
-    say_u32(rt, records::endpoint(records, at, i).0)
+    say(rt, records::endpoint(records, at, i).0)
 }
 
 // The height, the lengths of plan, words, counts and work area; gates, given pins and records.
@@ -111,7 +111,7 @@ fn check(
     given: &[u32],
     records: &[u32],
 ) -> io::Result<()> {
-    let verdict = checks::check(
+    let checked = checks::check(
         narrow(numbers, 1),
         gates,
         given,
@@ -121,5 +121,8 @@ fn check(
         number(numbers, 4),
         number(numbers, 5),
     );
-    say_u32(rt, verdict.number)
+    match checked {
+        Ok(()) => say(rt, 0u32),
+        Err(why) => say(rt, why.number()),
+    }
 }

@@ -6,23 +6,12 @@ mod numbers;
 
 use std::io;
 use try_cases::read_full;
-use try_cases::text::{number, piece};
+use try_cases::text::{each_line, number, piece};
 
 fn main(rt: HostRuntime) -> io::Result<()> {
     let mut text = [0u8; 65536];
     let n = read_full(&mut rt.reader(), &mut text)?;
-    run(&rt, &text[..n])
-}
-
-// The first line says how many follow.
-fn run(rt: &impl Print, text: &[u8]) -> io::Result<()> {
-    let n = number(piece(text, b'\n', 0), 0);
-    let mut k = 0;
-    while k < n {
-        k += 1;
-        case(rt, piece(text, b'\n', k))?;
-    }
-    Ok(())
+    each_line(&text[..n], |line| case(&rt, line))
 }
 
 // A line's pieces: a name, + where the next line's answers go on behind these, numbers, lists.

@@ -1,21 +1,12 @@
 // Functions of numbers. Each prints what is answered.
-use cells::{Height, MaybeHeight};
-use graph::{Literal, MaybeLiteral, Pin};
-use sizes::Left;
+use cells::Height;
+use graph::{Literal, Pin};
+use std::fmt::Display;
 use std::io;
-use try_cases::tell;
 use try_cases::text::{narrow, number};
 
-pub fn say(rt: &impl Print, n: usize) -> io::Result<()> {
-    tell(rt, b" A", &[n])
-}
-
-pub fn say_u32(rt: &impl Print, n: u32) -> io::Result<()> {
-    say(rt, n as usize)
-}
-
-fn say_bool(rt: &impl Print, b: bool) -> io::Result<()> {
-    say(rt, if b { 1 } else { 0 })
+pub fn say<T: Display + Drop>(rt: &impl Print, n: T) -> io::Result<()> {
+    print!(rt; " {n}")
 }
 
 pub fn call(rt: &impl Print, function: usize, numbers: &[u8]) -> io::Result<()> {
@@ -25,7 +16,7 @@ pub fn call(rt: &impl Print, function: usize, numbers: &[u8]) -> io::Result<()> 
         2 => position(rt, x),
         3 => cell(rt, numbers),
         4 => literal(rt, Pin(x), narrow(numbers, 2)),
-        5 => say(rt, records::size_of(records::kind_of(x))),
+        5 => say(rt, records::size_for(x)),
         6 => area(rt, numbers),
         _ => sized(rt, numbers),
     }
@@ -33,10 +24,9 @@ pub fn call(rt: &impl Print, function: usize, numbers: &[u8]) -> io::Result<()> 
 
 // A height's own number or 0, and what it carries.
 fn height(rt: &impl Print, k: u32) -> io::Result<()> {
-    let made = Height::new(k);
-    match made {
-        MaybeHeight::Made(h) => say_u32(rt, h.0)?,
-        MaybeHeight::Refused => say(rt, 0)?,
+    match Height::new(k) {
+        Some(h) => say(rt, h.0)?,
+        None => say(rt, 0u32)?,
     }
     height_sizes(rt, Height(k))
 }
@@ -51,10 +41,10 @@ fn height_sizes(rt: &impl Print, h: Height) -> io::Result<()> {
 
 // A position, its row, its level at height 6, its cell and the two lower cells.
 fn position(rt: &impl Print, p: u32) -> io::Result<()> {
-    say_u32(rt, p)?;
-    say_u32(rt, positions::row_start(p))?;
-    say_u32(rt, positions::level_of(6, p))?;
-    say_u32(rt, positions::cell_of(p))?;
+    say(rt, p)?;
+    say(rt, positions::row_start(p))?;
+    say(rt, positions::level_of(6, p))?;
+    say(rt, positions::cell_of(p))?;
     say(rt, positions::first_lower(p))?;
     say(rt, positions::second_lower(p))
 }
@@ -68,17 +58,16 @@ fn cell(rt: &impl Print, numbers: &[u8]) -> io::Result<()> {
 }
 
 fn literal(rt: &impl Print, pin: Pin, inversion: u32) -> io::Result<()> {
-    let made = graph::literal_of(pin, inversion);
-    match made {
-        MaybeLiteral::Made(l) => parts(rt, l),
-        MaybeLiteral::Refused => Ok(()),
+    match graph::literal_of(pin, inversion) {
+        Some(l) => parts(rt, l),
+        None => Ok(()),
     }
 }
 
 fn parts(rt: &impl Print, l: Literal) -> io::Result<()> {
-    say_u32(rt, l.0)?;
-    say_u32(rt, graph::pin_of(l).0)?;
-    say_u32(rt, graph::inversion_of(l))
+    say(rt, l.0)?;
+    say(rt, graph::pin_of(l).0)?;
+    say(rt, graph::inversion_of(l))
 }
 
 // The lengths of gates, records and work area.
@@ -90,12 +79,11 @@ fn area(rt: &impl Print, numbers: &[u8]) -> io::Result<()> {
 }
 
 // What is left of a work area, and whether 8 numbers are.
-fn left(rt: &impl Print, left: Left) -> io::Result<()> {
-    match left {
-        Left::Room(n) => say(rt, n)?,
-        Left::Short => {}
+fn left(rt: &impl Print, left: Option<usize>) -> io::Result<()> {
+    if let Some(n) = left {
+        say(rt, n)?;
     }
-    say_bool(rt, sizes::has_room(sizes::take_eights(left, 1)))
+    say(rt, u8::from(sizes::take_eights(left, 1).is_some()))
 }
 
 // The height, and the lengths of plan, words, counts and work area of a build for one pin and one output.
@@ -109,5 +97,5 @@ fn sized(rt: &impl Print, numbers: &[u8]) -> io::Result<()> {
         number(numbers, 4),
         number(numbers, 5),
     );
-    say_bool(rt, sized)
+    say(rt, u8::from(sized))
 }

@@ -1,11 +1,13 @@
 // An AIGER file and a recording from two files.
 use crate::lent::replayed;
-use crate::plain::differing;
+use crate::plain::{FLIP_FLOP, differing};
 use aiger::read;
+use records::starts;
+use refusals::Refusal;
 use std::fs::File;
 use std::io;
 use std::rt::Files;
-use try_cases::{more, part, read_full};
+use try_cases::{item, part, read_full};
 
 fn text(rt: &(impl Files + Eprint + Alloc), name: &str, bytes: &mut [u8]) -> io::Result<usize> {
     match File::open(rt, name) {
@@ -26,17 +28,6 @@ fn fail(rt: &(impl Eprint + Alloc), what: &str, error: io::Error) -> io::Result<
     }
 }
 
-fn part_of(xs: &[u8], from: usize, n: usize) -> &[u8] {
-    if from > xs.len() {
-        return &xs[0..0];
-    }
-    if n > xs.len() - from {
-        return &xs[0..0];
-    }
-    let to = from + n;
-    &xs[from..to]
-}
-
 // How many lines a recording has, and how many bits.
 #[derive(Clone, Copy)]
 struct Recorded {
@@ -45,30 +36,15 @@ struct Recorded {
 }
 
 // Each 0 and 1 is a bit, each line feed ends a line.
-fn keep(bits: &mut [u8], r: Recorded, b: u8) -> Recorded {
-    if b == b'\n' {
-        return Recorded {
-            lines: more(r.lines, 1),
-            bits: r.bits,
-        };
-    }
-    let n = r.bits;
-    if n >= bits.len() {
-        return r;
-    }
-    bits[n] = if b == b'0' { 0 } else { 1 };
-    Recorded {
-        lines: r.lines,
-        bits: n + 1,
-    }
-}
-
 fn record(text: &[u8], bits: &mut [u8]) -> Recorded {
     let mut r = Recorded { lines: 0, bits: 0 };
-    let mut i = 0;
-    while i < text.len() {
-        r = keep(bits, r, text[i]);
-        i += 1;
+    for b in text {
+        if *b == b'\n' {
+            r.lines = r.lines.wrapping_add(1);
+        } else if r.bits < bits.len() {
+            bits[r.bits] = u8::from(*b != b'0');
+            r.bits += 1;
+        }
     }
     r
 }
@@ -83,32 +59,30 @@ pub fn replay_file(
     let mut lines: [u8; 16384] = [0; 16384];
     let m = text(rt, recording, &mut lines)?;
     let mut bits: [u8; 16384] = [0; 16384];
-    let r = record(part_of(&lines, 0, m), &mut bits);
-    read_file(rt, part_of(&file, 0, n), r.lines, part_of(&bits, 0, r.bits))
+    let r = record(part(&lines, 0, m), &mut bits);
+    read_file(rt, part(&file, 0, n), r.lines, part(&bits, 0, r.bits))
 }
 
 fn read_file(rt: &impl Print, bytes: &[u8], lines: usize, recording: &[u8]) -> io::Result<()> {
     let mut gates: [u32; 1024] = [0; 1024];
     let mut records: [u32; 256] = [0; 256];
     let mut latches: [u32; 64] = [0; 64];
-    let a = read(bytes, &mut gates, &mut records, &mut latches);
-    if a.number != 0 {
-        return refused(rt, a.number);
+    match read(bytes, &mut gates, &mut records, &mut latches) {
+        Ok(n) => run(
+            rt,
+            part(&gates, 0, n.gates),
+            part(&records, 0, n.records),
+            part(&latches, 0, n.latches),
+            lines,
+            recording,
+        ),
+        Err(e) => refused(rt, e.why),
     }
-    run(
-        rt,
-        part(&gates, 0, a.gates),
-        part(&records, 0, a.records),
-        part(&latches, 0, a.latches),
-        lines,
-        recording,
-    )
 }
 
-fn refused(rt: &impl Print, number: u32) -> io::Result<()> {
-    rt.write_all(b"refused ")?;
-    rt.print(number)?;
-    rt.write_all(b"\n")
+fn refused(rt: &impl Print, why: Refusal) -> io::Result<()> {
+    let number = why.number();
+    println!(rt; "refused {number}")
 }
 
 // All flip-flops start at 0, as the file says. At height 10.
@@ -121,37 +95,24 @@ fn run(
     recording: &[u8],
 ) -> io::Result<()> {
     let starts: [u8; 64] = [0; 64];
-    let start = part_of(&starts, 0, driven.len());
+    let start = part(&starts, 0, driven.len());
     let mut out: [u8; 65536] = [7; 65536];
     let mut end: [u8; 64] = [7; 64];
-    let number = replayed(
+    if let Err(e) = replayed(
         10, gates, records, driven, start, lines, recording, &mut out, &mut end,
-    );
-    if number != 0 {
-        return refused(rt, number);
+    ) {
+        return refused(rt, e.why);
     }
     let seen = differing(gates, records, driven, start, lines, recording, &out, &end);
     print(rt, records, &out, lines)?;
     rt.write_all(b"end ")?;
-    show(rt, part_of(&end, 0, driven.len()))?;
-    rt.write_all(b"\nbits that differ: ")?;
-    rt.print(seen.wrong)?;
-    rt.write_all(b"\n")
-}
-
-fn digit(rt: &impl Print, b: u8) -> io::Result<()> {
-    if b == 0 {
-        rt.write_all(b"0")
-    } else {
-        rt.write_all(b"1")
-    }
+    show(rt, part(&end, 0, driven.len()))?;
+    println!(rt; "\nbits that differ: {}", seen.wrong)
 }
 
 fn show(rt: &impl Print, bits: &[u8]) -> io::Result<()> {
-    let mut i = 0;
-    while i < bits.len() {
-        digit(rt, bits[i])?;
-        i += 1;
+    for b in bits {
+        rt.print(u8::from(*b != 0))?;
     }
     Ok(())
 }
@@ -159,29 +120,20 @@ fn show(rt: &impl Print, bits: &[u8]) -> io::Result<()> {
 // The outputs' bits, which stand behind two of each flip-flop, a line a clock.
 fn print(rt: &impl Print, records: &[u32], out: &[u8], lines: usize) -> io::Result<()> {
     let mut from = 0;
-    let mut left = lines;
-    while 0 < left {
+    for _ in 0..lines {
         from = print_line(rt, records, out, from)?;
-        left -= 1;
     }
     Ok(())
 }
 
 fn print_line(rt: &impl Print, records: &[u32], out: &[u8], from: usize) -> io::Result<usize> {
     let mut k = from;
-    let mut at = 0;
-    let mut left = records.len();
-    while 0 < left {
-        left -= 1;
-        if at < records.len() {
-            if records[at] == 2 {
-                k = more(k, 2);
-                at = more(at, 3);
-            } else {
-                show(rt, part_of(out, k, 1))?;
-                k = more(k, 1);
-                at = more(at, 2);
-            }
+    for at in starts(records) {
+        if item(records, at) == FLIP_FLOP {
+            k = k.wrapping_add(2);
+        } else {
+            show(rt, part(out, k, 1))?;
+            k = k.wrapping_add(1);
         }
     }
     rt.write_all(b"\n")?;

@@ -1,7 +1,7 @@
 // A replay in areas of its own: for up to height 10 with eight rooms, 511 pins and 256 record numbers.
+use placer::{Built, Refused};
 use replay::replay;
 
-// Returns the number.
 pub fn replayed(
     height: u32,
     gates: &[u32],
@@ -12,7 +12,7 @@ pub fn replayed(
     recording: &[u8],
     out: &mut [u8],
     end: &mut [u8],
-) -> u32 {
+) -> Result<Built, Refused> {
     let given: [u32; 0] = [];
     let mut plan: [u32; 16384] = [0; 16384];
     let mut words: [u32; 32] = [0; 32];
@@ -21,7 +21,7 @@ pub fn replayed(
     let mut tape: [u32; 16384] = [0; 16384];
     let mut slots: [u32; 16640] = [0; 16640];
     let mut bits: [u8; 8704] = [0; 8704];
-    let a = replay(
+    replay(
         height,
         gates,
         &given,
@@ -39,6 +39,5 @@ pub fn replayed(
         &mut tape,
         &mut slots,
         &mut bits,
-    );
-    a.number
+    )
 }

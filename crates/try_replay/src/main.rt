@@ -9,10 +9,10 @@ mod plain;
 
 use files::replay_file;
 use lent::replayed;
-use machines::{Chance, below, draw_bits, draw_gates, draw_records, free_leaves, next};
+use machines::{Chance, draw_bits, draw_gates, draw_records, free_leaves};
 use plain::differing;
 use std::{env, io};
-use try_cases::{more, part};
+use try_cases::{front, part};
 
 const MACHINES: u32 = 200;
 
@@ -28,7 +28,7 @@ fn main(rt: HostRuntime) -> io::Result<()> {
 }
 
 // What was replayed, refused, and compared.
-#[derive(Clone, Copy)]
+#[derive(Clone, Copy, Default)]
 struct Totals {
     replayed: usize,
     refused: usize,
@@ -37,69 +37,49 @@ struct Totals {
     wrong: usize,
 }
 
-fn say(rt: &impl Print, text: &[u8], n: usize) -> io::Result<()> {
-    rt.write_all(text)?;
-    rt.print(n)?;
-    rt.write_all(b"\n")
-}
-
 fn draw_all(rt: &impl Print) -> io::Result<()> {
-    let mut c = Chance { seed: 2024 };
-    let mut t = Totals {
-        replayed: 0,
-        refused: 0,
-        flips: 0,
-        bits: 0,
-        wrong: 0,
-    };
-    let mut i = 0;
-    while i < MACHINES {
-        c = next(c);
-        t = machine(c, t);
-        i += 1;
+    let mut chance = Chance { seed: 2024 };
+    let mut totals = Totals::default();
+    for _ in 0..MACHINES {
+        chance = chance.next();
+        machine(chance, &mut totals);
     }
-    say(rt, b"machines replayed: ", t.replayed)?;
-    say(rt, b"refused: ", t.refused)?;
-    say(rt, b"flip-flops: ", t.flips)?;
-    say(rt, b"bits compared: ", t.bits)?;
-    say(rt, b"bits that differ: ", t.wrong)
+    println!(rt; "machines replayed: {}", totals.replayed)?;
+    println!(rt; "refused: {}", totals.refused)?;
+    println!(rt; "flip-flops: {}", totals.flips)?;
+    println!(rt; "bits compared: {}", totals.bits)?;
+    println!(rt; "bits that differ: {}", totals.wrong)
 }
 
 // A machine of 4 to 39 pins, up to eight records.
-fn machine(c: Chance, t: Totals) -> Totals {
+fn machine(from: Chance, totals: &mut Totals) {
+    let mut chance = from;
     let mut gates: [u32; 80] = [0; 80];
     let mut records: [u32; 32] = [0; 32];
     let mut driven: [u32; 32] = [0; 32];
-    let pins = 5 + below(c, 35) % 64;
-    let a = draw_gates(&mut gates, pins, c);
-    let g = part(&gates, 0, 2 * pins as usize);
-    let d = draw_records(g, &mut records, &mut driven, 1 + below(next(a), 8) % 8, a);
+    let pins = 5 + chance.below(35) % 64;
+    draw_gates(&mut gates, pins, &mut chance);
+    let gates = part(&gates, 0, 2 * pins as usize);
+    let n = 1 + chance.next().below(8) % 8;
+    let drawn = draw_records(gates, &mut records, &mut driven, n, &mut chance);
     run(
-        g,
-        part(&records, 0, d.records),
-        part(&driven, 0, d.flips),
-        d.chance,
-        t,
-    )
+        gates,
+        part(&records, 0, drawn.records),
+        part(&driven, 0, drawn.flips),
+        chance,
+        totals,
+    );
 }
 
-fn bytes(xs: &mut [u8], n: usize) -> &mut [u8] {
-    if n <= xs.len() { &mut xs[0..n] } else { xs }
-}
-
-fn head(xs: &[u8], n: usize) -> &[u8] {
-    if n <= xs.len() { &xs[0..n] } else { xs }
-}
-
-fn run(gates: &[u32], records: &[u32], driven: &[u32], c: Chance, t: Totals) -> Totals {
+fn run(gates: &[u32], records: &[u32], driven: &[u32], from: Chance, totals: &mut Totals) {
+    let mut chance = from;
     let mut starts: [u8; 32] = [0; 32];
     let mut lines: [u8; 640] = [0; 640];
-    let n = free_leaves(gates, driven.len());
-    let a = draw_bits(bytes(&mut starts, driven.len()), c);
-    draw_bits(bytes(&mut lines, n % 64 * LINES), a);
-    let start = head(&starts, driven.len());
-    let recording = head(&lines, n % 64 * LINES);
-    compare(gates, records, driven, start, recording, t)
+    let start = front(&mut starts, driven.len());
+    draw_bits(start, &mut chance);
+    let recording = front(&mut lines, free_leaves(gates, driven.len()) % 64 * LINES);
+    draw_bits(recording, &mut chance);
+    compare(gates, records, driven, start, recording, totals);
 }
 
 // At height 8.
@@ -109,28 +89,20 @@ fn compare(
     driven: &[u32],
     start: &[u8],
     recording: &[u8],
-    t: Totals,
-) -> Totals {
+    totals: &mut Totals,
+) {
     let mut out: [u8; 512] = [7; 512];
     let mut end: [u8; 32] = [7; 32];
-    let number = replayed(
+    let replayed = replayed(
         8, gates, records, driven, start, LINES, recording, &mut out, &mut end,
     );
-    if number != 0 {
-        return Totals {
-            replayed: t.replayed,
-            refused: more(t.refused, 1),
-            flips: t.flips,
-            bits: t.bits,
-            wrong: t.wrong,
-        };
+    if replayed.is_err() {
+        totals.refused = totals.refused.wrapping_add(1);
+        return;
     }
     let seen = differing(gates, records, driven, start, LINES, recording, &out, &end);
-    Totals {
-        replayed: more(t.replayed, 1),
-        refused: t.refused,
-        flips: more(t.flips, driven.len()),
-        bits: more(t.bits, seen.at),
-        wrong: more(t.wrong, seen.wrong),
-    }
+    totals.replayed = totals.replayed.wrapping_add(1);
+    totals.flips = totals.flips.wrapping_add(driven.len());
+    totals.bits = totals.bits.wrapping_add(seen.at);
+    totals.wrong = totals.wrong.wrapping_add(seen.wrong);
 }

@@ -8,27 +8,17 @@ ghost use Rattle.rules.specs.Inside.Some.{Some};
 ghost use Rattle.try_trees.specs.Example.{Trial, Same, SizedFor, begun};
 
 use cells::{Height, is_height};
-use columns::{FILLED, LEVEL, ONES, PINS, fill_part, set_field, tail_get};
+use columns::{FILLED, LEVEL, ONES, PINS, set_field, tail_get};
 use graph::{EMPTY, Pin};
 use stage_tree::{first_empty, place_pin, take_back};
 use std::io;
 
-// A filled cell's position and pin.
-fn list_cell(rt: &impl Print, c: usize, v: u32) -> io::Result<()> {
-    if v == EMPTY {
-        return Ok(());
-    }
-    rt.print(c)?;
-    rt.write_all(b" ")?;
-    rt.print(v)?;
-    rt.write_all(b"\n")
-}
-
+// The positions of the filled cells, with their pins.
 fn list_cells(rt: &impl Print, stage: &[u32]) -> io::Result<()> {
-    let mut c = 0;
-    while c < stage.len() {
-        list_cell(rt, c, stage[c])?;
-        c += 1;
+    for (c, v) in stage.iter().enumerate() {
+        if *v != EMPTY {
+            println!(rt; "{c} {v}")?;
+        }
     }
     Ok(())
 }
@@ -36,13 +26,10 @@ fn list_cells(rt: &impl Print, stage: &[u32]) -> io::Result<()> {
 fn list_counts(rt: &impl Print, work: &[u32], m: usize) -> io::Result<()>
     requires { Room m work.now }
 {
-    rt.write_all(b"level 1 ")?;
-    rt.print(tail_get(work, m, ONES))?;
-    rt.write_all(b" pins ")?;
-    rt.print(tail_get(work, m, PINS))?;
-    rt.write_all(b" cells ")?;
-    rt.print(tail_get(work, m, FILLED))?;
-    rt.write_all(b"\n")
+    let ones = tail_get(work, m, ONES);
+    let pins = tail_get(work, m, PINS);
+    let filled = tail_get(work, m, FILLED);
+    println!(rt; "level 1 {ones} pins {pins} cells {filled}")
 }
 
 fn list(rt: &impl Print, stage: &[u32], work: &[u32], m: usize) -> io::Result<()>
@@ -83,7 +70,7 @@ fn begin(work: &mut [u32])
     requires { 640 ≤ length work.old }
     ensures { work.new ≡ begun (length work.old) }
 {
-    fill_part(work, 0);
+    work.fill(0);
     set_field(work, 8, Pin(5), LEVEL, 1);
     set_field(work, 8, Pin(6), LEVEL, 1);
     set_field(work, 8, Pin(7), LEVEL, 2);
@@ -101,7 +88,7 @@ fn try_example(
     let gates = [
         EMPTY, EMPTY, EMPTY, EMPTY, EMPTY, EMPTY, EMPTY, EMPTY, EMPTY, EMPTY, 2, 4, 6, 9, 10, 12,
     ];
-    fill_part(stage, EMPTY);
+    stage.fill(EMPTY);
     begin(work);
     let w = height.row_at(2);
     there_and_back(rt, &gates, stage, work, 8, 2, w, Pin(7))
@@ -120,9 +107,7 @@ fn show(rt: &impl Print, k: u32) -> io::Result<()> {
         let mut work = [0u32; 640];
         let height = Height(k);
         let size = height.stage_size();
-        rt.write_all(b"height ")?;
-        rt.print(k)?;
-        rt.write_all(b"\n")?;
+        println!(rt; "height {k}")?;
         try_example(rt, &mut room[0..size], &mut work, height)?;
     }
     Ok(())

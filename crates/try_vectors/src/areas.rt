@@ -2,7 +2,7 @@
 use cell::Cell;
 pub use graph::EMPTY;
 use std::io;
-use try_cases::{front, item, more, narrow, number, part, set, tell};
+use try_cases::{front, item, narrow, number, part, set, tell};
 
 // What the areas hold before.
 pub const OLD: u32 = 7;
@@ -37,32 +37,22 @@ pub const STAGE: usize = 7;
 
 // What stands behind the first n numbers.
 pub fn behind(bytes: &[u8], n: usize) -> &[u8] {
-    if n > bytes.len() / 2 {
-        return &bytes[0..0];
-    }
-    let from = 2 * n;
-    &bytes[from..]
+    bytes.get(n.saturating_mul(2)..).unwrap_or(&[])
 }
 
 // The body's numbers, as many as there is room for.
 pub fn put(body: &[u8], xs: &mut [u32]) {
-    let mut i = 0;
-    while i < xs.len() {
-        xs[i] = narrow(body, i);
-        i += 1;
+    for (i, x) in xs.iter_mut().enumerate() {
+        *x = narrow(body, i);
     }
 }
 
 // A leaf's two literals are recorded as 0.
-fn marked(x: u32) -> u32 {
-    if x == 0 { EMPTY } else { x }
-}
-
 fn mark_leaves(xs: &mut [u32]) {
-    let mut i = 0;
-    while i < xs.len() {
-        xs[i] = marked(xs[i]);
-        i += 1;
+    for x in xs.iter_mut() {
+        if *x == 0 {
+            *x = EMPTY;
+        }
     }
 }
 
@@ -81,7 +71,7 @@ pub fn given<'a>(head: &[u8], input: &'a [u32]) -> &'a [u32] {
 }
 
 fn records_at(head: &[u8]) -> usize {
-    more(number(head, GATES), number(head, GIVEN))
+    number(head, GATES) + number(head, GIVEN)
 }
 
 pub fn records<'a>(head: &[u8], input: &'a [u32]) -> &'a [u32] {
@@ -90,7 +80,7 @@ pub fn records<'a>(head: &[u8], input: &'a [u32]) -> &'a [u32] {
 
 // The body behind the input.
 pub fn rest<'a>(head: &[u8], body: &'a [u8]) -> &'a [u8] {
-    behind(body, more(records_at(head), number(head, RECORDS)))
+    behind(body, records_at(head).saturating_add(number(head, RECORDS)))
 }
 
 // Number i of an area that holds n numbers of `bytes`, then x up to the size that it is counted at, then what it held before.
@@ -111,13 +101,11 @@ pub fn holds(
     size: usize,
     name: usize,
 ) -> io::Result<bool> {
-    let mut i = 0;
-    while i < xs.len() {
-        if xs[i] != right(bytes, n, x, size, i) {
+    for (i, held) in xs.iter().enumerate() {
+        if *held != right(bytes, n, x, size, i) {
             tell(rt, b"area A differs\n", &[name])?;
             return Ok(false);
         }
-        i += 1;
     }
     Ok(true)
 }
@@ -129,26 +117,21 @@ fn pin_at(plan: &[u32], position: usize) -> u32 {
 
 // Whether the plan has n cells, each a position and a pin. Those are emptied.
 pub fn take_cells(cells: &[u8], n: usize, plan: &mut [u32]) -> bool {
-    let mut at = 0;
-    let mut i = 0;
-    while i < n {
+    for i in 0..n {
+        let at = i.wrapping_mul(2);
         let position = number(cells, at);
-        if pin_at(plan, position) != narrow(cells, more(at, 1)) {
+        if pin_at(plan, position) != narrow(cells, at.wrapping_add(1)) {
             return false;
         }
         set(plan, position, EMPTY);
-        at = more(at, 2);
-        i += 1;
     }
     true
 }
 
 // Makes the numbers from one index up to another x.
 pub fn open(xs: &mut [u32], from: usize, to: usize, x: u32) {
-    let mut i = from;
-    while i < to {
+    for i in from..to {
         set(xs, i, x);
-        i += 1;
     }
 }
 
@@ -165,8 +148,8 @@ pub fn cleared(
 
 // Whether the answer's first numbers are those recorded.
 pub fn answered(own: &[u8], refusal: u32, stages: usize, words: usize, stage: usize) -> bool {
-    if refusal != narrow(own, NUMBER) {
-        return false;
-    }
-    stages == number(own, STAGES) && words == number(own, WORDS) && stage == number(own, STAGE)
+    refusal == narrow(own, NUMBER)
+        && stages == number(own, STAGES)
+        && words == number(own, WORDS)
+        && stage == number(own, STAGE)
 }

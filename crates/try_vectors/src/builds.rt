@@ -3,9 +3,9 @@ use crate::areas::{
     EMPTY, HEIGHT, LIMIT, NUMBER, OLD, PLAN, ROOMS, STAGES, WORDS, WORK, answered, behind, cleared,
     gates, given, holds, open, put_input, records, rest, take_cells,
 };
-use placer::{Answer, build};
+use placer::{Built, Refused, build};
 use std::io;
-use try_cases::{add, front, more, narrow, number, tell};
+use try_cases::{add, front, narrow, number, tell};
 
 // How the head's own part goes on: where the word rules part in a stage, that stage, and where the plan's cells behind it begin.
 const CELLS: usize = 8;
@@ -32,7 +32,7 @@ fn recorded_build(
     words: &mut [u32],
     counts: &mut [u32],
     work: &mut [u32],
-) -> Answer {
+) -> Result<Built, Refused> {
     build(
         narrow(head, HEIGHT),
         gates(head, input),
@@ -59,21 +59,23 @@ fn worded(own: &[u8]) -> usize {
     }
 }
 
-fn answer_agrees(own: &[u8], a: Answer) -> bool {
-    if parts(own) {
-        a.number == 0 && a.stage == 0 && goes_on(own, a)
-    } else {
-        answered(own, a.number, a.stages, a.words, a.stage) && a.cells == number(own, CELLS)
+fn answer_agrees(own: &[u8], a: Result<Built, Refused>) -> bool {
+    match a {
+        Ok(b) if parts(own) => goes_on(own, b),
+        Ok(b) => answered(own, 0, b.stages, b.words, 0) && b.cells == number(own, CELLS),
+        Err(e) => !parts(own)
+            && answered(own, e.why.number(), 0, 0, e.stage)
+            && number(own, CELLS) == 0,
     }
 }
 
 // Whether a plan has at least what is recorded up to the stage where the word rules part, and no more stages than the Rust's.
-fn goes_on(own: &[u8], a: Answer) -> bool {
-    a.stages >= number(own, PARTED)
-        && a.stages <= number(own, STAGES)
-        && a.words >= number(own, WORDS)
-        && a.words <= number(own, LIMIT)
-        && a.cells >= number(own, CELLS)
+fn goes_on(own: &[u8], b: Built) -> bool {
+    b.stages >= number(own, PARTED)
+        && b.stages <= number(own, STAGES)
+        && b.words >= number(own, WORDS)
+        && b.words <= number(own, LIMIT)
+        && b.cells >= number(own, CELLS)
 }
 
 fn words_agree(rt: &impl Print, own: &[u8], rest: &[u8], words: &[u32]) -> io::Result<bool> {
@@ -135,12 +137,12 @@ fn loose(own: &[u8], stages: usize) -> usize {
 
 // Where the word rules part, clears what the Rust doesn't decide, as far as the answer says that something stands there: the words from that stage on,
 // and the cells behind it. The rest is then compared as ever.
-fn clear_loose(own: &[u8], a: Answer, plan: &mut [u32], words: &mut [u32], counts: &mut [u32]) {
+fn clear_loose(own: &[u8], b: Built, plan: &mut [u32], words: &mut [u32], counts: &mut [u32]) {
     if parts(own) {
         let from = number(own, BEHIND);
-        open(plan, from, more(from, loose(own, a.stages)), EMPTY);
-        open(words, number(own, WORDS), a.words, EMPTY);
-        open(counts, worded(own), a.stages, 0);
+        open(plan, from, from.saturating_add(loose(own, b.stages)), EMPTY);
+        open(words, number(own, WORDS), b.words, EMPTY);
+        open(counts, worded(own), b.stages, 0);
     }
 }
 
@@ -167,7 +169,9 @@ fn built(rt: &impl Print, head: &[u8], own: &[u8], rest: &[u8], input: &[u32]) -
     if !answer_agrees(own, a) {
         return Ok(false);
     }
-    clear_loose(own, a, &mut plan, &mut words, &mut counts);
+    if let Ok(b) = a {
+        clear_loose(own, b, &mut plan, &mut words, &mut counts);
+    }
     areas_agree(rt, own, rest, &mut plan, &words, &counts, &work)
 }
 

@@ -10,53 +10,33 @@ mod tally;
 use areas::{BODY, HEIGHT};
 use std::io;
 use std::io::Read;
-use tally::{agreed, differed, either};
-use try_cases::{number, read_full, tell};
+use tally::{Kind, agreed, differed};
+use try_cases::{number, read_full};
 
 fn main(rt: HostRuntime) -> io::Result<()> {
     let mut from = rt.reader();
-    tell(&rt, b"recorded builds of the published code\n", &[])?;
-    all_builds(&rt, &mut from)?;
-    tell(
-        &rt,
-        b"recorded builds of the code with one line changed\n",
-        &[],
-    )?;
-    all_builds(&rt, &mut from)?;
-    tell(&rt, b"recorded merges of the published code\n", &[])?;
-    all_merges(&rt, &mut from)?;
-    tell(
-        &rt,
-        b"recorded merges of the code with one line changed\n",
-        &[],
-    )?;
-    all_merges(&rt, &mut from)
+    println!(rt; "recorded builds of the published code")?;
+    replay_all(&rt, &mut from, Kind::Build)?;
+    println!(rt; "recorded builds of the code with one line changed")?;
+    replay_all(&rt, &mut from, Kind::Build)?;
+    println!(rt; "recorded merges of the published code")?;
+    replay_all(&rt, &mut from, Kind::Merge)?;
+    println!(rt; "recorded merges of the code with one line changed")?;
+    replay_all(&rt, &mut from, Kind::Merge)
 }
 
-fn all_builds<R: Read>(rt: &impl Print, from: &mut R) -> io::Result<()> {
-    let mut built = [0usize; 24];
-    replay_all(rt, from, false, &mut built)?;
-    builds::tell_all(rt, &built)
-}
-
-fn all_merges<R: Read>(rt: &impl Print, from: &mut R) -> io::Result<()> {
-    let mut merged = [0usize; 24];
-    replay_all(rt, from, true, &mut merged)?;
-    merges::tell_all(rt, &merged)
-}
-
-// No file has so many.
-fn replay_all<R: Read>(
-    rt: &impl Print,
-    from: &mut R,
-    merging: bool,
-    tally: &mut [usize; 24],
-) -> io::Result<()> {
-    let mut turns = u64::MAX;
-    while turns > 0 && replay(rt, from, merging, tally)? {
-        turns -= 1;
+// Until a head of zeros, which has nothing behind it.
+fn replay_all<R: Read>(rt: &impl Print, from: &mut R, kind: Kind) -> io::Result<()> {
+    let mut tally = [0usize; 24];
+    for _ in 0..u64::MAX {
+        if !replay(rt, from, kind, &mut tally)? {
+            break;
+        }
     }
-    Ok(())
+    match kind {
+        Kind::Build => builds::tell_all(rt, &tally),
+        Kind::Merge => merges::tell_all(rt, &tally),
+    }
 }
 
 // Whether stdin has n more bytes, and the area room for them.
@@ -67,22 +47,19 @@ fn read<R: Read>(from: &mut R, area: &mut [u8], n: usize) -> io::Result<bool> {
     Ok(read_full(from, &mut area[0..n])? == n)
 }
 
-// The next build or merge of stdin. Whether there was one: a head of zeros has none behind it.
+// The next build or merge of stdin. Whether there was one.
 fn replay<R: Read>(
     rt: &impl Print,
     from: &mut R,
-    merging: bool,
+    kind: Kind,
     tally: &mut [usize; 24],
 ) -> io::Result<bool> {
     let mut head = [0u8; 40];
-    if !read(from, &mut head, either(merging, 40, 34))? {
+    if !read(from, &mut head, kind.head_size())? || number(&head, HEIGHT) == 0 {
         return Ok(false);
     }
-    if number(&head, HEIGHT) == 0 {
-        return Ok(false);
-    }
-    if agrees(rt, from, merging, &head)? {
-        agreed(merging, &head, tally);
+    if agrees(rt, from, kind, &head)? {
+        agreed(kind, &head, tally);
     } else {
         differed(rt, tally)?;
     }
@@ -90,14 +67,13 @@ fn replay<R: Read>(
 }
 
 // Whether the library leaves what the Rust answers.
-fn agrees<R: Read>(rt: &impl Print, from: &mut R, merging: bool, head: &[u8]) -> io::Result<bool> {
+fn agrees<R: Read>(rt: &impl Print, from: &mut R, kind: Kind, head: &[u8]) -> io::Result<bool> {
     let mut body = [0u8; 12288];
     if !read(from, &mut body, 2 * number(head, BODY))? {
         return Ok(false);
     }
-    if merging {
-        merges::agrees(rt, head, &body)
-    } else {
-        builds::agrees(rt, head, &body)
+    match kind {
+        Kind::Build => builds::agrees(rt, head, &body),
+        Kind::Merge => merges::agrees(rt, head, &body),
     }
 }

@@ -3,9 +3,9 @@ use crate::areas::{
     EMPTY, HEIGHT, LIMIT, NUMBER, OLD, PLAN, ROOMS, WORK, answered, behind, cleared, gates, given,
     holds, put, put_input, records, rest,
 };
-use merge::{Answer, merge};
+use merge::{Merged, Refused, merge};
 use std::io;
-use try_cases::{front, more, narrow, number, tell};
+use try_cases::{front, narrow, number, tell};
 
 // How the head goes on: the group list.
 const INDICES: usize = 5;
@@ -35,7 +35,7 @@ fn recorded_merge(
     words: &mut [u32],
     counts: &mut [u32],
     work: &mut [u32],
-) -> Answer {
+) -> Result<Merged, Refused> {
     merge(
         narrow(head, HEIGHT),
         gates(head, input),
@@ -52,16 +52,22 @@ fn recorded_merge(
     )
 }
 
-fn answer_agrees(own: &[u8], a: Answer) -> bool {
-    answered(own, a.number, a.stages, a.words, a.stage)
-        && a.partitions == number(own, LEFT)
-        && a.trials == number(own, TRIALS)
-        && a.refused == number(own, REFUSED)
+fn counted(own: &[u8], partitions: usize, trials: usize, refused: usize) -> bool {
+    partitions == number(own, LEFT)
+        && trials == number(own, TRIALS)
+        && refused == number(own, REFUSED)
+}
+
+fn answer_agrees(own: &[u8], a: Result<Merged, Refused>) -> bool {
+    match a {
+        Ok(m) => answered(own, 0, m.stages, m.words, 0) && counted(own, m.partitions, m.trials, 0),
+        Err(e) => answered(own, e.why.number(), 0, 0, e.stage) && counted(own, 0, 0, e.part),
+    }
 }
 
 // The body behind the group list.
 fn left<'a>(head: &[u8], rest: &'a [u8]) -> &'a [u8] {
-    behind(rest, more(number(head, INDICES), number(head, PARTITIONS)))
+    behind(rest, number(head, INDICES) + number(head, PARTITIONS))
 }
 
 // Whether the group list is as it is left, or, if the merge is refused, as it was.

@@ -3,7 +3,7 @@
 use crate::areas::{HEIGHT, NUMBER, behind};
 use crate::builds::add_depth;
 use std::io;
-use try_cases::{add, more, number, tell};
+use try_cases::{add, number, tell};
 
 const MARKED: usize = 10;
 
@@ -13,27 +13,46 @@ const AGREE: usize = 22;
 
 const DIFFER: usize = 23;
 
-pub fn either(merging: bool, of_merge: usize, of_build: usize) -> usize {
-    if merging { of_merge } else { of_build }
+// What is recorded.
+#[derive(Clone, Copy)]
+pub enum Kind {
+    Build,
+    Merge,
+}
+
+impl Kind {
+    // How many bytes a head has.
+    pub fn head_size(self) -> usize {
+        match self {
+            Kind::Build => 34,
+            Kind::Merge => 40,
+        }
+    }
+
+    // How many of its numbers come before its own part.
+    fn shared(self) -> usize {
+        match self {
+            Kind::Build => 5,
+            Kind::Merge => 8,
+        }
+    }
 }
 
 fn add_marks(tally: &mut [usize], marks: usize) {
     let mut rest = marks;
-    let mut i = 0;
-    while i < 8 {
+    for i in 0..8 {
         add(tally, MARKED + i, rest % 2);
-        rest = rest / 2;
-        i += 1;
+        rest /= 2;
     }
 }
 
-pub fn agreed(merging: bool, head: &[u8], tally: &mut [usize; 24]) {
-    let own = behind(head, either(merging, 8, 5));
+pub fn agreed(kind: Kind, head: &[u8], tally: &mut [usize; 24]) {
+    let own = behind(head, kind.shared());
     add(tally, AGREE, 1);
     add(tally, number(own, NUMBER), 1);
-    add(tally, more(OF_HEIGHT, number(head, HEIGHT)), 1);
+    add(tally, OF_HEIGHT + number(head, HEIGHT), 1);
     add_marks(tally, number(own, 11));
-    if !merging {
+    if let Kind::Build = kind {
         add_depth(own, tally);
     }
 }

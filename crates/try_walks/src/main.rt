@@ -19,13 +19,11 @@ fn row(rt: &impl Print, name: &[u8], work: &[u32], m: usize, f: usize, n: usize)
     requires { f * m + n ≤ length work.now }
 {
     rt.write_all(name)?;
-    let mut i = 0;
-    while i < n {
-        rt.write_all(b" ")?;
-        rt.print(number_at(work, m, i, f))?;
-        i += 1;
+    for i in 0..n {
+        let number = number_at(work, m, i, f);
+        print!(rt; " {number}")?;
     }
-    rt.write_all(b"\n")
+    println!(rt; "")
 }
 
 // The given pins are marked.
@@ -33,10 +31,8 @@ fn give(work: &mut [u32], m: usize, given: &[u32])
     requires { GiveAt m given.now work.old }
     ensures { Given m work.old work.new }
 {
-    let mut i = 0;
-    while i < given.len() {
-        set_field(work, m, Pin(given[i]), DONE, 1);
-        i += 1;
+    for pin in given {
+        set_field(work, m, Pin(*pin), DONE, 1);
     }
 }
 
@@ -46,10 +42,8 @@ fn list(work: &mut [u32], m: usize, waiting: &[u32]) -> usize
     ensures { Waiting m work.old work.new result }
 {
     let mut n = 0;
-    let mut i = 0;
-    while i < waiting.len() {
-        n = wait(work, m, n, Pin(waiting[i]));
-        i += 1;
+    for pin in waiting {
+        n = wait(work, m, n, Pin(*pin));
     }
     n
 }
@@ -73,11 +67,7 @@ fn in_lists(work: &[u32], m: usize, k: usize, levels: usize) -> usize
     if levels == 0 {
         return 0;
     }
-    let end = number_at(work, m, levels - 1, ENDS);
-    if k < end {
-        return k;
-    }
-    end
+    number_at(work, m, levels - 1, ENDS).min(k)
 }
 
 // The k pins of the order, the pins in lists, the c needed pins, and levels by pin.
@@ -124,9 +114,7 @@ fn chain(rt: &impl Print, work: &mut [u32]) -> io::Result<()>
     requires { 1024 ≤ length work.old }
 {
     let gates = [NONE, NONE, NONE, NONE, NONE, NONE, 2, 4, 6, 3, 8, 4];
-    let pins: [u32; 0] = [];
-    let waiting = [5];
-    show(rt, b"chain\n", &gates, &pins, &waiting, work)
+    show(rt, b"chain\n", &gates, &[], &[5], work)
 }
 
 // Four leaves under one pin.
@@ -136,9 +124,7 @@ fn tree(rt: &impl Print, work: &mut [u32]) -> io::Result<()>
     let gates = [
         NONE, NONE, NONE, NONE, NONE, NONE, NONE, NONE, NONE, NONE, 2, 4, 6, 9, 10, 12,
     ];
-    let pins: [u32; 0] = [];
-    let waiting = [7];
-    show(rt, b"tree\n", &gates, &pins, &waiting, work)
+    show(rt, b"tree\n", &gates, &[], &[7], work)
 }
 
 // Pins that are operands of several; two of one level and reverse level.
@@ -148,9 +134,7 @@ fn shared(rt: &impl Print, work: &mut [u32]) -> io::Result<()>
     let gates = [
         NONE, NONE, NONE, NONE, NONE, NONE, 4, 2, 6, 4, 2, 7, 10, 8, 12, 6,
     ];
-    let pins: [u32; 0] = [];
-    let waiting = [7, 6];
-    show(rt, b"shared\n", &gates, &pins, &waiting, work)
+    show(rt, b"shared\n", &gates, &[], &[7, 6], work)
 }
 
 // Of two pins of level 2 the one that is met later has the greater reverse level.
@@ -160,9 +144,7 @@ fn ranked(rt: &impl Print, work: &mut [u32]) -> io::Result<()>
     let gates = [
         NONE, NONE, NONE, NONE, NONE, NONE, NONE, NONE, 2, 4, 8, 6, 8, 2, 12, 6,
     ];
-    let pins: [u32; 0] = [];
-    let waiting = [5, 7];
-    show(rt, b"ranked\n", &gates, &pins, &waiting, work)
+    show(rt, b"ranked\n", &gates, &[], &[5, 7], work)
 }
 
 // The tree with a gate that is given, named twice.
@@ -172,9 +154,7 @@ fn given(rt: &impl Print, work: &mut [u32]) -> io::Result<()>
     let gates = [
         NONE, NONE, NONE, NONE, NONE, NONE, NONE, NONE, NONE, NONE, 2, 4, 6, 9, 10, 12,
     ];
-    let pins = [5, 5];
-    let waiting = [7];
-    show(rt, b"given\n", &gates, &pins, &waiting, work)
+    show(rt, b"given\n", &gates, &[5, 5], &[7], work)
 }
 
 // Endpoints that repeat, one below another.
@@ -184,9 +164,7 @@ fn repeated(rt: &impl Print, work: &mut [u32]) -> io::Result<()>
     let gates = [
         NONE, NONE, NONE, NONE, NONE, NONE, NONE, NONE, NONE, NONE, 2, 4, 6, 9, 10, 12,
     ];
-    let pins: [u32; 0] = [];
-    let waiting = [6, 7, 6, 1, 7];
-    show(rt, b"repeated\n", &gates, &pins, &waiting, work)
+    show(rt, b"repeated\n", &gates, &[], &[6, 7, 6, 1, 7], work)
 }
 
 // No endpoint.
@@ -194,9 +172,7 @@ fn idle(rt: &impl Print, work: &mut [u32]) -> io::Result<()>
     requires { 1024 ≤ length work.old }
 {
     let gates = [NONE, NONE, NONE, NONE];
-    let pins: [u32; 0] = [];
-    let waiting: [u32; 0] = [];
-    show(rt, b"idle\n", &gates, &pins, &waiting, work)
+    show(rt, b"idle\n", &gates, &[], &[], work)
 }
 
 fn main(rt: HostRuntime) -> io::Result<()> {

@@ -2,11 +2,11 @@
 use Prim.Native.Nat.{ℕ, zero, suc, ◌+◌, ◌-◌, ◌*◌, ◌%◌, ◌≤◌, ◌<◌}
 use mathlib.Core.Path.{◌≡◌, refl, sym, ap, ◌∙◌}
 use mathlib.Core.Bool.{Bool, true, false, ◌&&◌}
-use mathlib.Core.List.{List, [], ◌∷◌}
+use mathlib.Core.List.{List, [], ◌∷◌, ◌++◌}
 use native.Mathlib.Omega.{arith}
 use lib.Dec.{eqb, leb, ltb}
 use lib.ListN.{length, take, drop, replicate, length-replicate}
-use lib.Seq.{sets, sets-eq, paste}
+use lib.Seq.{sets, sets-eq}
 use borrow.Author.Tests.{le-leb, lt-leb, lt-ltb, leb-true}
 use Rattle.rules.specs.Lists.{nothing, every, laid_over}
 use Rattle.rules.specs.Cells.{is_height}
@@ -15,7 +15,11 @@ use Rattle.rules.specs.Records.{Group, output, flip_flop, Groups?, unreadable, g
 use Rattle.rules.specs.Checks.{nodes_right, graph_right, loops_right, groups_right, records_right, given_right, refusal_of, pin_shown}
 use Rattle.rules.proofs.Lists.Members.{split, and_true}
 use Rattle.rules.proofs.Bools.{and_right}
-use Rattle.checks.specs.declared.Verdict as checked
+use Rattle.refusals.specs.declared.Refusal.{Refusal}
+use Rattle.refusals.specs.Numbers.{number_of}
+use Rattle.refusals.specs.Numbers as shown
+use Rattle.refusals.proofs.Numbers.{number_above}
+use Rattle.std.specs.Prelude.{Result, Ok, Err}
 use Rattle.checks.specs.Values.{Says}
 use Rattle.checks.proofs.Laws.Refusing.{refusal_0, refusal_2, refusal_3, refusal_23, refusal_4, pin_none_lem}
 use Rattle.aiger_form.specs.Aag.{Item, bad_text, skipped, input_line, latch_line, output_line, gate_line, is_literal, is_variable, items, gather_items, record_of, records_of, latches_of, gates_of, driven, file, file_of, Netlist, netlist, refused, netlist_read, any_height, handed_out, admit, answered, read_aag}
@@ -23,14 +27,14 @@ use Rattle.aiger_form.specs.Aag as aag
 use Rattle.aiger_form.specs.Meaning.{here, there}
 use Rattle.aiger_form.specs.Calls.{holds, imported, importer}
 use Rattle.aiger_form.proofs.Accepted.{fits, AllFit, gather_two, file_stands}
-use Rattle.aiger_text.specs.declared.file.Verdict as text
-use Rattle.aiger_text.specs.Passes.{spots_at, lines_from, area, store_all, Behind}
-use Rattle.aiger_text.specs.File.{head_of, spots_of, bad, reset, good, FileJudged}
+use Rattle.aiger_rows.specs.Rows.{head_of}
+use Rattle.aiger_text.specs.declared.file.Body.{Body}
+use Rattle.aiger_text.specs.declared.file.Refused.{Refused}
+use Rattle.aiger_text.specs.Passes.{lines_from, area, store_all, Behind}
+use Rattle.aiger_text.specs.File.{spots_of, bad, reset, good, FileJudged}
 use Rattle.aiger_text.specs.File as told
 use Rattle.aiger_text.proofs.Laws.Whole.{pin_fits_lem}
-use Rattle.aiger_read.specs.declared.Answer.{Answer}
-use Rattle.aiger_read.specs.declared.Verdict.{Verdict}
-use Rattle.aiger_read.specs.Answers.{areas, outcome, sized_for, Taken, Refused, Judged}
+use Rattle.aiger_read.specs.Answers.{areas, outcome, sized_for, Taken, Judged}
 use Rattle.aiger_read.proofs.Laws.Gates.{gates_stored}
 use Rattle.aiger_read.proofs.Laws.Counts.{counts, same_stand}
 
@@ -134,143 +138,129 @@ handed n (suc k) z = refl
 
 -- ---- a file that `file` refuses, and one that it accepts
 
-refused_of : {bytes : List ℕ} {f : aag.File?} {v : text.Verdict} → told.Judged bytes f v → (v.number ≡ 0 → ⊥) → (s : Netlist → Bool) → answered s f ≡ refused v.number v.at 0
+refused_of : {bytes : List ℕ} {f : aag.File?} {e : Refused} → told.Judged bytes f (Err e) → (s : Netlist → Bool) → answered s f ≡ refused (number_of e.why) e.at (shown.pin_of e.why)
 unfolding answered
-refused_of (bad e q) z s = rw (q, e) refl
-refused_of (reset e q) z s = rw (q, e) refl
-refused_of (good e B c q) z s = absurd (z e)
+refused_of (bad q) s = rw q
+refused_of (reset q) s = rw q
 
-good_parts : {bytes : List ℕ} {f : aag.File?} {v : text.Verdict} → told.Judged bytes f v → v.number ≡ 0 → Behind v.head.variables v.start bytes × (aag.is_cut (head_of v.head) bytes (lines_from bytes v.start) ≡ false) × (f ≡ file v.head.variables (items (spots_of v bytes)))
-good_parts (bad e q) z = absurd (omega arith)
-good_parts (reset e q) z = absurd (omega arith)
-good_parts (good e B c q) z = (B, c, q)
+good_parts : {bytes : List ℕ} {f : aag.File?} {v : Body} → told.Judged bytes f (Ok v) → Behind v.start bytes × (aag.is_cut (head_of v.head) bytes (lines_from bytes v.start) ≡ false) × (f ≡ file v.head.variables (items (spots_of v bytes)))
+good_parts (good B c q) = (B, c, q)
 
-module _ {bytes own₀ own : List ℕ} {v : text.Verdict} (J : FileJudged bytes own₀ own v) (e₀ : own₀ ≡ replicate area 4294967295) (g r l : ℕ) where
-  -- 12 and 13
-  pub text_refused : (v.number ≡ 0 → ⊥) → read_aag (sized_for g r l) bytes ≡ refused v.number v.at 0
-  unfolding read_aag
-  text_refused z = refused_of J.is z (sized_for g r l)
+-- 12 and 13
+pub text_refused : {bytes own₀ own : List ℕ} {e : Refused} → FileJudged bytes own₀ own (Err e) → (g r l : ℕ) → read_aag (sized_for g r l) bytes ≡ refused (number_of e.why) e.at (shown.pin_of e.why)
+unfolding read_aag
+text_refused J g r l = refused_of J.is (sized_for g r l)
 
-  module _ (z : v.number ≡ 0) where
-    m : ℕ
-    m = v.head.variables
+module _ {bytes own₀ own : List ℕ} {v : Body} (J : FileJudged bytes own₀ own (Ok v)) (e₀ : own₀ ≡ replicate area 4294967295) (g r l : ℕ) where
+  m : ℕ
+  m = v.head.variables
 
-    xs : List Item
-    xs = items (spots_of v bytes)
+  xs : List Item
+  xs = items (spots_of v bytes)
 
-    N : Netlist
-    N = netlist m xs
+  N : Netlist
+  N = netlist m xs
 
-    G : Behind v.head.variables v.start bytes × (aag.is_cut (head_of v.head) bytes (lines_from bytes v.start) ≡ false) × (file_of bytes ≡ file v.head.variables (items (spots_of v bytes)))
-    G = good_parts J.is z
+  G : Behind v.start bytes × (aag.is_cut (head_of v.head) bytes (lines_from bytes v.start) ≡ false) × (file_of bytes ≡ file v.head.variables (items (spots_of v bytes)))
+  G = good_parts J.is
 
-    -- the file's lines lie behind its header
-    pub text_behind : Behind v.head.variables v.start bytes
-    text_behind = G.0
+  fit : AllFit m xs
+  unfolding m xs
+  fit = (file_stands bytes G.2).fit
 
-    fit : AllFit m xs
-    unfolding m xs
-    fit = (file_stands bytes G.2).fit
+  stand : aag.first_bad (0 ∷ aag.defined xs) [] (spots_of v bytes) ≡ nothing
+  unfolding xs
+  stand = let S = file_stands bytes G.2 in same_stand (0 ∷ aag.defined (items (spots_of v bytes))) [] S.spots (spots_of v bytes) S.these S.good
 
-    stand : aag.first_bad (0 ∷ aag.defined xs) [] (spots_of v bytes) ≡ nothing
-    unfolding xs
-    stand = let S = file_stands bytes G.2 in same_stand (0 ∷ aag.defined (items (spots_of v bytes))) [] S.spots (spots_of v bytes) S.these S.good
+  counted : (length (records_of xs) ≡ 3 * v.head.latches + 2 * v.head.outputs) × (length (latches_of xs) ≡ v.head.latches)
+  unfolding xs
+  counted = counts (head_of v.head) bytes (lines_from bytes v.start) (0 ∷ aag.defined xs) G.1 stand
 
-    counted : (length (records_of xs) ≡ 3 * v.head.latches + 2 * v.head.outputs) × (length (latches_of xs) ≡ v.head.latches)
-    unfolding xs
-    counted = counts (head_of v.head) bytes (lines_from bytes v.start) (0 ∷ aag.defined xs) G.1 stand
+  abbrev Room : Bool → Type 0
+  Room b = b ≡ (leb (2 * (v.head.variables + 1)) g && leb (3 * v.head.latches + 2 * v.head.outputs) r && leb v.head.latches l)
 
-    abbrev Room : Bool → Type 0
-    Room b = b ≡ (leb (2 * (v.head.variables + 1)) g && leb (3 * v.head.latches + 2 * v.head.outputs) r && leb v.head.latches l)
+  sized : (b : Bool) → Room b → sized_for g r l N ≡ b
+  unfolding sized_for N netlist m
+  sized b e = let c = counted in rw (gates_length m xs, c.0, c.1) (sym e)
 
-    sized : (b : Bool) → Room b → sized_for g r l N ≡ b
-    unfolding sized_for N netlist m
-    sized b e = let c = counted in rw (gates_length m xs, c.0, c.1) (sym e)
+  answer : (b : Bool) → Room b → read_aag (sized_for g r l) bytes ≡ handed_out N (refusal_of any_height b (gates_of m xs) [] (records_of xs))
+  unfolding read_aag answered admit aag.checked N netlist m xs
+  answer b e = ap (answered (sized_for g r l)) G.2 ∙ ap (λ (t : Bool). handed_out (netlist m xs) (refusal_of any_height t (gates_of m xs) [] (records_of xs))) (sized b e)
 
-    answer : (b : Bool) → Room b → read_aag (sized_for g r l) bytes ≡ handed_out N (refusal_of any_height b (gates_of m xs) [] (records_of xs))
-    unfolding read_aag answered admit aag.checked N netlist m xs
-    answer b e = ap (answered (sized_for g r l)) G.2 ∙ ap (λ (t : Bool). handed_out (netlist m xs) (refusal_of any_height t (gates_of m xs) [] (records_of xs))) (sized b e)
+  refuses : (b : Bool) → Room b → (k : ℕ) → k ≡ refusal_of any_height b (gates_of m xs) [] (records_of xs) → (k ≡ 0 → ⊥) → read_aag (sized_for g r l) bytes ≡ refused k 0 (pin_shown k (gates_of m xs))
+  unfolding N netlist
+  refuses b e k q n = answer b e ∙ ap (handed_out N) (sym q) ∙ handed N k n
 
-    refuses : (b : Bool) → Room b → (k : ℕ) → k ≡ refusal_of any_height b (gates_of m xs) [] (records_of xs) → (k ≡ 0 → ⊥) → read_aag (sized_for g r l) bytes ≡ refused k 0 (pin_shown k (gates_of m xs))
-    unfolding N netlist
-    refuses b e k q n = answer b e ∙ ap (handed_out N) (sym q) ∙ handed N k n
+  plainly : (b : Bool) → Room b → (k : ℕ) → k ≡ refusal_of any_height b (gates_of m xs) [] (records_of xs) → (k ≡ 0 → ⊥) → (k ≡ 23 → ⊥) → read_aag (sized_for g r l) bytes ≡ refused k 0 0
+  plainly b e k q n p = refuses b e k q n ∙ ap (refused k 0) (sym (pin_none_lem k (gates_of m xs) p))
 
-    plainly : (b : Bool) → Room b → (k : ℕ) → k ≡ refusal_of any_height b (gates_of m xs) [] (records_of xs) → (k ≡ 0 → ⊥) → (k ≡ 23 → ⊥) → read_aag (sized_for g r l) bytes ≡ refused k 0 0
-    plainly b e k q n p = refuses b e k q n ∙ ap (refused k 0) (sym (pin_none_lem k (gates_of m xs) p))
+  -- 2
+  pub room_refused : (b : Bool) → Room b → b ≡ false → read_aag (sized_for g r l) bytes ≡ refused 2 0 0
+  room_refused b e f = plainly b e 2 (refusal_2 any_height b (gates_of m xs) [] (records_of xs) tall f) (λ q. omega arith) (λ q. omega arith)
 
-    -- 2
-    pub room_refused : (b : Bool) → Room b → b ≡ false → read_aag (sized_for g r l) bytes ≡ refused 2 0 0
-    room_refused b e f = plainly b e 2 (refusal_2 any_height b (gates_of m xs) [] (records_of xs) tall f) (λ q. omega arith) (λ q. omega arith)
+  module _ (b : Bool) (e : Room b) (s : b ≡ true) where
+    -- 3, too many pins
+    pub many_refused : 65535 < v.head.variables → read_aag (sized_for g r l) bytes ≡ refused 3 0 0
+    unfolding m
+    many_refused h = plainly b e 3 (refusal_3 any_height b (gates_of m xs) [] (records_of xs) tall s (many_pins m xs h)) (λ q. omega arith) (λ q. omega arith)
 
-    module _ (b : Bool) (e : Room b) (s : b ≡ true) where
-      -- 3, too many pins
-      pub many_refused : 65535 < v.head.variables → read_aag (sized_for g r l) bytes ≡ refused 3 0 0
-      unfolding m
-      many_refused h = plainly b e 3 (refusal_3 any_height b (gates_of m xs) [] (records_of xs) tall s (many_pins m xs h)) (λ q. omega arith) (λ q. omega arith)
+    module _ (h : v.head.variables ≤ 65535) where
+      -- the own area's front is the graph
+      pub own_gates : take (2 * (v.head.variables + 1)) own ≡ gates_of v.head.variables (items (spots_of v bytes))
+      unfolding m xs
+      own_gates = gates_stored m (0 ∷ aag.defined xs) (spots_of v bytes) stand h own (J.stored (omega arith) ∙ ap (store_all (spots_of v bytes)) e₀)
 
-      -- what is read fits the areas
-      pub room_fits : 3 * v.head.latches + 2 * v.head.outputs ≤ r
-      room_fits =
-          let w = and_true (leb (2 * (v.head.variables + 1)) g && leb (3 * v.head.latches + 2 * v.head.outputs) r) (leb v.head.latches l) (sym e ∙ s) in
-          leb-true _ _ (and_true (leb (2 * (v.head.variables + 1)) g) (leb (3 * v.head.latches + 2 * v.head.outputs) r) w.0).1
-
-      module _ (h : v.head.variables ≤ 65535) where
-        -- the own area's front is the graph
-        pub own_gates : take (2 * (v.head.variables + 1)) own ≡ gates_of v.head.variables (items (spots_of v bytes))
+      module _ {x : Result (Unit {0}) Refusal} (C : Says (refusal_of any_height true (take (2 * (v.head.variables + 1) - 0) (drop 0 own)) [] []) (take (2 * (v.head.variables + 1) - 0) (drop 0 own)) x) where
+        said : Says (refusal_of any_height true (gates_of m xs) [] []) (gates_of m xs) x
         unfolding m xs
-        own_gates = gates_stored m (0 ∷ aag.defined xs) (spots_of v bytes) stand h own (J.stored z (omega arith) ∙ ap (store_all (spots_of v bytes)) e₀)
+        said = let q : 2 * (v.head.variables + 1) - 0 ≡ 2 * (v.head.variables + 1) = omega arith in rw (q, own_gates) at C
 
-        module _ {x : checked.Verdict} (C : Says (refusal_of any_height true (take (2 * (v.head.variables + 1) - 0) (drop 0 own)) (take (0 - 0) (drop 0 own)) (take (0 - 0) (drop 0 own))) (take (2 * (v.head.variables + 1) - 0) (drop 0 own)) x) where
-          said : Says (refusal_of any_height true (gates_of m xs) [] []) (gates_of m xs) x
-          unfolding m xs
-          said = let q : 2 * (v.head.variables + 1) - 0 ≡ 2 * (v.head.variables + 1) = omega arith in rw (q, own_gates) at C
+      -- 3 and 23
+      pub graph_refused : (why : Refusal) → Says {A = Unit {0}} (refusal_of any_height true (take (2 * (v.head.variables + 1) - 0) (drop 0 own)) [] []) (take (2 * (v.head.variables + 1) - 0) (drop 0 own)) (Err why) → read_aag (sized_for g r l) bytes ≡ refused (number_of why) 0 (shown.pin_of why)
+      graph_refused why C =
+          let S = said C in
+          let n = number_above why in
+          let k = refusal_of any_height true (gates_of m xs) [] [] in
+          let f = graph_first (gates_of m xs) (records_of xs) (λ y. absurd (omega (arith, S.number))) in
+          let w : k ≡ refusal_of any_height b (gates_of m xs) [] (records_of xs) = sym f ∙ ap (λ (t : Bool). refusal_of any_height t (gates_of m xs) [] (records_of xs)) (sym s) in
+          refuses b e k w (λ y. omega (arith, S.number)) ∙ ap (λ (i : ℕ). refused i 0 (pin_shown k (gates_of m xs))) (sym S.number) ∙ ap (refused (number_of why) 0) (sym S.pin)
 
-          -- 3 and 23
-          pub graph_refused : (x.number ≡ 0 → ⊥) → read_aag (sized_for g r l) bytes ≡ refused x.number 0 x.pin.0
-          graph_refused n =
-              let S = said in
-              let k = refusal_of any_height true (gates_of m xs) [] [] in
-              let f = graph_first (gates_of m xs) (records_of xs) (λ y. n (S.number ∙ y)) in
-              let w : k ≡ refusal_of any_height b (gates_of m xs) [] (records_of xs) = sym f ∙ ap (λ (t : Bool). refusal_of any_height t (gates_of m xs) [] (records_of xs)) (sym s) in
-              refuses b e k w (λ y. n (S.number ∙ y)) ∙ ap (λ (i : ℕ). refused i 0 (pin_shown k (gates_of m xs))) (sym S.number) ∙ ap (refused x.number 0) (sym S.pin)
+      module _ (u : Unit {0}) (C : Says (refusal_of any_height true (take (2 * (v.head.variables + 1) - 0) (drop 0 own)) [] []) (take (2 * (v.head.variables + 1) - 0) (drop 0 own)) (Ok u)) where
+        right : (graph_right (gates_of m xs) ≡ true) × (loops_right (gates_of m xs) ≡ true)
+        right = graph_of_lem (gates_of m xs) (sym (said C).number)
 
-          module _ (y : x.number ≡ 0) where
-            right : (graph_right (gates_of m xs) ≡ true) × (loops_right (gates_of m xs) ≡ true)
-            right = graph_of_lem (gates_of m xs) (sym said.number ∙ y)
+        fine : records_right (pin_count (gates_of m xs)) (records_of xs) ≡ leb (3 * v.head.latches + 2 * v.head.outputs) 65536
+        fine = rw (pins_are m xs) (records_fine m xs fit ∙ ap (λ (n : ℕ). leb n 65536) counted.0)
 
-            fine : records_right (pin_count (gates_of m xs)) (records_of xs) ≡ leb (3 * v.head.latches + 2 * v.head.outputs) 65536
-            fine = rw (pins_are m xs) (records_fine m xs fit ∙ ap (λ (n : ℕ). leb n 65536) counted.0)
+        -- 4
+        pub records_refused : 65536 < 3 * v.head.latches + 2 * v.head.outputs → read_aag (sized_for g r l) bytes ≡ refused 4 0 0
+        records_refused k = plainly b e 4 (refusal_4 any_height b (gates_of m xs) [] (records_of xs) tall s right.0 right.1 (pin_count (gates_of m xs)) refl (fine ∙ lt-leb (3 * v.head.latches + 2 * v.head.outputs) 65536 k)) (λ q. omega arith) (λ q. omega arith)
 
-            -- 4
-            pub records_refused : 65536 < 3 * v.head.latches + 2 * v.head.outputs → read_aag (sized_for g r l) bytes ≡ refused 4 0 0
-            records_refused k = plainly b e 4 (refusal_4 any_height b (gates_of m xs) [] (records_of xs) tall s right.0 right.1 (pin_count (gates_of m xs)) refl (fine ∙ lt-leb (3 * v.head.latches + 2 * v.head.outputs) 65536 k)) (λ q. omega arith) (λ q. omega arith)
+        accepts : 3 * v.head.latches + 2 * v.head.outputs ≤ 65536 → read_aag (sized_for g r l) bytes ≡ netlist_read N
+        unfolding handed_out
+        accepts k = answer b e ∙ ap (handed_out N) (sym (refusal_0 any_height b (gates_of m xs) [] (records_of xs) tall s right.0 right.1 (pin_count (gates_of m xs)) refl (fine ∙ le-leb (3 * v.head.latches + 2 * v.head.outputs) 65536 k) (none_given (pin_count (gates_of m xs)))))
 
-            accepts : 3 * v.head.latches + 2 * v.head.outputs ≤ 65536 → read_aag (sized_for g r l) bytes ≡ netlist_read N
-            unfolding handed_out
-            accepts k = answer b e ∙ ap (handed_out N) (sym (refusal_0 any_height b (gates_of m xs) [] (records_of xs) tall s right.0 right.1 (pin_count (gates_of m xs)) refl (fine ∙ le-leb (3 * v.head.latches + 2 * v.head.outputs) 65536 k) (none_given (pin_count (gates_of m xs)))))
+        rooms : (2 * (v.head.variables + 1) ≤ g) × (3 * v.head.latches + 2 * v.head.outputs ≤ r) × (v.head.latches ≤ l)
+        rooms =
+            let w = and_true (leb (2 * (v.head.variables + 1)) g && leb (3 * v.head.latches + 2 * v.head.outputs) r) (leb v.head.latches l) (sym e ∙ s) in
+            let u = and_true (leb (2 * (v.head.variables + 1)) g) (leb (3 * v.head.latches + 2 * v.head.outputs) r) w.0 in
+            (leb-true _ _ u.0, leb-true _ _ u.1, leb-true _ _ w.1)
 
-            rooms : (2 * (v.head.variables + 1) ≤ g) × (3 * v.head.latches + 2 * v.head.outputs ≤ r) × (v.head.latches ≤ l)
-            rooms =
-                let w = and_true (leb (2 * (v.head.variables + 1)) g && leb (3 * v.head.latches + 2 * v.head.outputs) r) (leb v.head.latches l) (sym e ∙ s) in
-                let u = and_true (leb (2 * (v.head.variables + 1)) g) (leb (3 * v.head.latches + 2 * v.head.outputs) r) w.0 in
-                (leb-true _ _ u.0, leb-true _ _ u.1, leb-true _ _ w.1)
-
-            -- none
-            pub taken : 3 * v.head.latches + 2 * v.head.outputs ≤ 65536 → (o : Verdict) → o.start ≡ v.start → o.head ≡ v.head → length own ≡ 131072 → Taken bytes own g r l o
-            unfolding N m xs
-            taken k o es eh n = rw (es, eh) (record {
-              behind = G.0;
-              small = h;
-              reads = accepts k;
-              gates = own_gates;
-              records = counted.0;
-              latches = counted.1;
-              gates_fit = rooms.0;
-              records_fit = rooms.1;
-              latches_fit = rooms.2;
-              few = k;
-              room = n;
-            })
+        -- none
+        pub taken : 3 * v.head.latches + 2 * v.head.outputs ≤ 65536 → Taken bytes own g r l v
+        unfolding N m xs
+        taken k = record {
+          behind = G.0;
+          small = h;
+          reads = accepts k;
+          gates = own_gates;
+          records = counted.0;
+          latches = counted.1;
+          gates_fit = rooms.0;
+          records_fit = rooms.1;
+          latches_fit = rooms.2;
+          few = k;
+        }
 
 -- ---- the verdict
 
@@ -278,13 +268,9 @@ module _ {bytes own₀ own : List ℕ} {v : text.Verdict} (J : FileJudged bytes 
 pub own_size : {own : List ℕ} → own ≡ replicate area 4294967295 → length own ≡ 131072
 own_size e = ap length e ∙ length-replicate {A = ℕ} area 4294967295
 
--- a refusal, in its verdict
-pub refused_as : {bytes own : List ℕ} {g r l n at pin : ℕ} → length own ≡ 131072 → read_aag (sized_for g r l) bytes ≡ refused n at pin → (n ≡ 0 → ⊥) → {v : Verdict} → Refused n at pin v → Judged bytes own g r l v
-refused_as s e z R = record { size = s; refuses = λ q. e ∙ rw (R.what, R.place, R.shown) refl; takes = λ q. absurd (z (sym R.what ∙ q)) }
-
--- an accepted file, in its verdict
-pub taken_as : {bytes own : List ℕ} {g r l : ℕ} {v : Verdict} → length own ≡ 131072 → v.number ≡ 0 → Taken bytes own g r l v → Judged bytes own g r l v
-taken_as s z T = record { size = s; refuses = λ q. absurd (q z); takes = λ q. T }
+-- a refusal
+pub refused_as : {bytes own : List ℕ} {g r l : ℕ} → length own ≡ 131072 → (e : Refused) → read_aag (sized_for g r l) bytes ≡ refused (number_of e.why) e.at (shown.pin_of e.why) → Judged bytes own g r l (Err e)
+refused_as s e q = record { size = s; is = q }
 
 -- ---- the lent areas
 
@@ -292,32 +278,31 @@ laid_sets : (a xs : List ℕ) → length xs ≤ length a → sets a 0 xs ≡ lai
 unfolding laid_over
 laid_sets a xs h = let z : 0 + length xs ≡ length xs = omega arith in rw z at (sets-eq xs a 0 (omega arith))
 
-module _ {bytes own : List ℕ} (g r l : List ℕ) {v : Verdict} (J : Judged bytes own (length g) (length r) (length l) v) where
-  import_as : importer bytes (areas g r l) ≡ imported (areas g r l) (read_aag (sized_for (length g) (length r) (length l)) bytes)
+module _ (g r l : List ℕ) where
+  import_as : (bytes : List ℕ) → importer bytes (areas g r l) ≡ imported (areas g r l) (read_aag (sized_for (length g) (length r) (length l)) bytes)
   unfolding importer holds sized_for areas
-  import_as = refl
+  import_as bytes = refl
 
   -- a refusal changes nothing
-  pub import_refused : (v.number ≡ 0 → ⊥) → outcome (record { number = v.number; at = v.at; pin = v.pin; gates = 0; records = 0; latches = 0 }) g r l ≡ importer bytes (areas g r l)
+  pub import_refused : (bytes : List ℕ) (e : Refused) → read_aag (sized_for (length g) (length r) (length l)) bytes ≡ refused (number_of e.why) e.at (shown.pin_of e.why) → outcome (Err e) g r l ≡ importer bytes (areas g r l)
   unfolding outcome imported
-  import_refused n = sym (import_as ∙ ap (imported (areas g r l)) (J.refuses n))
+  import_refused bytes e q = sym (import_as bytes ∙ ap (imported (areas g r l)) q)
 
-  module _ (z : v.number ≡ 0) where
+  module _ {bytes own : List ℕ} {v : Body} (K : Taken bytes own (length g) (length r) (length l) v) where
     ys : List Item
-    ys = items (spots_at (head_of v.head) 0 (lines_from bytes v.start))
+    ys = items (spots_of v bytes)
 
-    laid_gates : paste g 0 own (2 * (v.head.variables + 1)) ≡ laid_over (gates_of v.head.variables ys) g
+    laid_gates : take (2 * (v.head.variables + 1)) own ++ drop (2 * (v.head.variables + 1)) g ≡ laid_over (gates_of v.head.variables ys) g
     unfolding laid_over ys
-    laid_gates = let y : 0 + 2 * (v.head.variables + 1) ≡ 2 * (v.head.variables + 1) = omega arith in rw (y, (J.takes z).gates, gates_length v.head.variables (items (spots_at (head_of v.head) 0 (lines_from bytes v.start)))) refl
+    laid_gates = rw (K.gates, gates_length v.head.variables (items (spots_of v bytes))) refl
 
     -- what is read stands at the areas' fronts
-    pub import_read : {g' r' l' : List ℕ} → g' ≡ paste g 0 own (2 * (v.head.variables + 1)) → r' ≡ sets r 0 (records_of (items (spots_at (head_of v.head) 0 (lines_from bytes v.start)))) → l' ≡ sets l 0 (latches_of (items (spots_at (head_of v.head) 0 (lines_from bytes v.start)))) →
-        (a : Answer) → a.number ≡ 0 → a.at ≡ 0 → a.pin.0 ≡ 0 → a.gates ≡ 2 * (v.head.variables + 1) → a.records ≡ 3 * v.head.latches + 2 * v.head.outputs → a.latches ≡ v.head.latches → outcome a g' r' l' ≡ importer bytes (areas g r l)
+    pub import_read : {g' r' l' : List ℕ} → g' ≡ take (2 * (v.head.variables + 1)) own ++ drop (2 * (v.head.variables + 1)) g → r' ≡ sets r 0 (records_of (items (spots_of v bytes))) → l' ≡ sets l 0 (latches_of (items (spots_of v bytes))) →
+        outcome (Ok (record { gates = 2 * (v.head.variables + 1); records = 3 * v.head.latches + 2 * v.head.outputs; latches = v.head.latches })) g' r' l' ≡ importer bytes (areas g r l)
     unfolding outcome imported areas netlist ys
-    import_read {g'} {r'} {l'} eg er el a an aa ap' ag ar al =
-        let K = J.takes z in
+    import_read {g'} {r'} {l'} eg er el =
         let n = gates_length v.head.variables ys in
         let p : g' ≡ laid_over (gates_of v.head.variables ys) g = eg ∙ laid_gates in
         let q : r' ≡ laid_over (records_of ys) r = er ∙ laid_sets r (records_of ys) (omega (arith, K.records, K.records_fit)) in
         let s : l' ≡ laid_over (latches_of ys) l = el ∙ laid_sets l (latches_of ys) (omega (arith, K.latches, K.latches_fit)) in
-        sym (import_as ∙ ap (imported (areas g r l)) K.reads ∙ rw (n, K.records, K.latches, p, q, s, an, aa, ap', ag, ar, al) refl)
+        sym (import_as bytes ∙ ap (imported (areas g r l)) K.reads ∙ rw (n, K.records, K.latches, p, q, s) refl)

@@ -1,19 +1,20 @@
 -- Laws of the cursor. Assumes nothing.
-use Prim.Native.Nat.{ℕ, zero, suc, ◌+◌, ◌-◌, ◌*◌, ◌<◌, ◌≤◌}
+use Prim.Native.Nat.{ℕ, zero, suc, max, ◌+◌, ◌-◌, ◌*◌, ◌<◌, ◌≤◌}
 use mathlib.Core.Path.{◌≡◌, refl, sym, ap, ◌∙◌}
 use mathlib.Core.Logic.{◌⊎◌, inl, inr}
-use mathlib.Core.Bool.{Bool, true, false, ◌&&◌}
+use mathlib.Core.Bool.{true, false}
+use Rattle.std.specs.Prelude.{Some, None}
 use mathlib.Core.List.{List, [], ◌∷◌, ◌++◌}
 use native.Mathlib.Omega.{arith}
 use native.Mathlib.Numerals.{add-one}
-use lib.Dec.{eqb, leb, ltb}
+use lib.Dec.{eqb, ltb}
 use lib.ListN.{length, get_or, take, drop, set, length-append, length-drop, length-set, drop_of_length-le, get_or-append, get_or-eq_default}
 use lib.Seq.{drop-cons, drop-append-le, take-append-le, drop-drop, get_or-set_same, get_or-set_other, get_or_at}
-use borrow.Author.Tests.{eqb-true, eqb-false, ltb-true, ltb-false, le-leb, lt-leb, ne_eqb, eq-eqb}
+use borrow.Author.Tests.{eqb-true, eqb-false, ltb-true, ltb-false, ne_eqb, eq-eqb}
 use Rattle.rules.specs.Lists.{Found, nothing, found}
 use Rattle.rules.proofs.Lists.Members.{split}
 use Rattle.aiger_form.specs.Text.{grow, parts, space, words, is_digit, more_digits, number, Numbers?, no_numbers, numbers, before, numbers_of}
-use Rattle.aiger_rows.specs.Cursor.{until, cap, capped, capped_found, numeral, Got, none, some}
+use Rattle.aiger_rows.specs.Cursor.{until, cap, capped, capped_found, numeral, Got}
 
 -- ---- until
 
@@ -27,16 +28,15 @@ pub until_here : (e : ℕ) (xs : List ℕ) (i : ℕ) → i < length xs → get_o
 unfolding until
 until_here e xs i h n = rw (drop-cons xs i 0 h, eq-eqb (get_or xs i 0) e n, until) (omega arith)
 
--- no byte
-pub until_end : (e : ℕ) (xs : List ℕ) (i : ℕ) → length xs ≤ i → i ≡ i + until e (drop i xs)
-unfolding until
-until_end e xs i h = rw (drop_of_length-le xs h) (omega arith)
-
 -- it lies in the list
 pub until_length : (e : ℕ) (xs : List ℕ) → until e xs ≤ length xs
 unfolding until
 until_length e [] = omega arith
 until_length e (x ∷ xs) = split (eqb x e) (λ t. rw (t, until) (omega arith)) (λ t. rw (t, until) (let h = until_length e xs in omega arith))
+
+-- no byte
+pub until_end : (e : ℕ) (xs : List ℕ) (at i : ℕ) → length xs ≤ i → i + until e (drop i xs) ≡ at + until e (drop at xs) → max at (length xs) ≡ at + until e (drop at xs)
+until_end e xs at i h q = omega (arith, until_length e (drop i xs), until_length e (drop at xs), length-drop i xs, length-drop at xs)
 
 -- a part ends there
 pub parts_until : (e : ℕ) (xs : List ℕ) → until e xs < length xs → parts e xs ≡ take (until e xs) xs ∷ parts e (drop (suc (until e xs)) xs)
@@ -62,20 +62,6 @@ until_behind e (x ∷ xs) = split (eqb x e) (λ t. rw (t, until)) (λ t. rw (t, 
 
 -- ---- digits
 
--- a byte in range is a digit
-pub is_digit_lem : (c : ℕ) → 48 ≤ c → c ≤ 57 → is_digit c ≡ true
-unfolding is_digit
-is_digit_lem c a b = rw (le-leb 48 c a, le-leb c 57 b)
-
-no_digit : (c : ℕ) → (c < 48) ⊎ (57 < c) → is_digit c ≡ false
-unfolding is_digit
-no_digit c (inl h) = rw (lt-leb 48 c h)
-no_digit c (inr h) = rw (lt-leb c 57 h) (none (leb 48 c))
-  where
-    none : (t : Bool) → t && false ≡ false
-    none true = refl
-    none false = refl
-
 more_capped : (n : ℕ) (cs : List ℕ) → capped_found (more_digits (capped n) cs) ≡ capped_found (more_digits n cs)
 unfolding capped_found more_digits
 more_capped n [] = ap found (omega arith)
@@ -87,14 +73,14 @@ more_capped n (c ∷ cs) = split (is_digit c)
     step k d = omega arith
 
 -- one digit more
-pub digits_more : (xs : List ℕ) (i v r c : ℕ) → i < length xs → c ≡ get_or xs i 0 → 48 ≤ c → c ≤ 57 → r ≡ capped (10 * v + (c - 48)) → capped_found (more_digits r (drop (i + 1) xs)) ≡ capped_found (more_digits v (drop i xs))
+pub digits_more : (xs : List ℕ) (i v r d : ℕ) → i < length xs → is_digit (get_or xs i 0) ≡ true → d ≡ get_or xs i 0 - 48 → r ≡ capped (10 * v + d) → capped_found (more_digits r (drop (i + 1) xs)) ≡ capped_found (more_digits v (drop i xs))
 unfolding more_digits
-digits_more xs i v r c h d a b e = rw (add-one i, drop-cons xs i 0 h, ← d, is_digit_lem c a b, more_digits, e, ← d) (more_capped (10 * v + (c - 48)) (drop (suc i) xs))
+digits_more xs i v r d h t q e = rw (add-one i, drop-cons xs i 0 h, t, more_digits, e, q) (more_capped (10 * v + (get_or xs i 0 - 48)) (drop (suc i) xs))
 
 -- no digit
-pub digits_none : (xs : List ℕ) (i v c : ℕ) → i < length xs → c ≡ get_or xs i 0 → (c < 48) ⊎ (57 < c) → capped_found (more_digits v (drop i xs)) ≡ nothing
+pub digits_none : (xs : List ℕ) (i v : ℕ) → i < length xs → is_digit (get_or xs i 0) ≡ false → capped_found (more_digits v (drop i xs)) ≡ nothing
 unfolding more_digits capped_found
-digits_none xs i v c h d a = rw (drop-cons xs i 0 h, ← d, no_digit c a, more_digits)
+digits_none xs i v h t = rw (drop-cons xs i 0 h, t, more_digits)
 
 -- no byte is left
 pub digits_end : (xs : List ℕ) (i v : ℕ) → length xs ≤ i → capped_found (more_digits v (drop i xs)) ≡ found (capped v)
@@ -122,17 +108,17 @@ number_digits (x ∷ []) h n = refl
 number_digits (x ∷ y ∷ xs) h n = rw (ne_eqb x 48 (λ d. n (omega arith) d), number)
 
 -- a number
-pub numeral_end : (xs : List ℕ) (i v : ℕ) → length xs ≤ i → v ≤ cap → capped_found (more_digits v (drop i xs)) ≡ capped_found (more_digits 0 xs) → numeral true v ≡ capped_found (more_digits 0 xs)
+pub numeral_end : (xs : List ℕ) (i v : ℕ) → length xs ≤ i → v ≤ cap → capped_found (more_digits v (drop i xs)) ≡ capped_found (more_digits 0 xs) → numeral (Some v) ≡ capped_found (more_digits 0 xs)
 unfolding numeral
 numeral_end xs i v h k e = let q : capped v ≡ v = omega arith in ap found (sym q) ∙ sym (digits_end xs i v h) ∙ e
 
 -- a byte that is no digit
-pub numeral_none : (xs : List ℕ) (i v c : ℕ) → i < length xs → c ≡ get_or xs i 0 → (c < 48) ⊎ (57 < c) → capped_found (more_digits v (drop i xs)) ≡ capped_found (more_digits 0 xs) → numeral false 0 ≡ capped_found (more_digits 0 xs)
+pub numeral_none : (xs : List ℕ) (i v : ℕ) → i < length xs → is_digit (get_or xs i 0) ≡ false → capped_found (more_digits v (drop i xs)) ≡ capped_found (more_digits 0 xs) → numeral None ≡ capped_found (more_digits 0 xs)
 unfolding numeral
-numeral_none xs i v c h d a e = sym (digits_none xs i v c h d a) ∙ e
+numeral_none xs i v h t e = sym (digits_none xs i v h t) ∙ e
 
 -- none
-pub numeral_nothing : (xs : List ℕ) → number xs ≡ nothing → numeral false 0 ≡ capped_found (number xs)
+pub numeral_nothing : (xs : List ℕ) → number xs ≡ nothing → numeral None ≡ capped_found (number xs)
 unfolding numeral capped_found
 numeral_nothing xs e = rw e
 
@@ -205,15 +191,15 @@ going_start line = record { seen = []; is = refl; counted = refl; five = refl; h
     zeros (suc (suc (suc (suc (suc i))))) = refl
 
 -- what a word's number says
-capped_found_lem : (r : Found) (v : ℕ) → numeral true v ≡ capped_found r → (n : ℕ) × (r ≡ found n) × (v ≡ capped n)
+capped_found_lem : (r : Found) (v : ℕ) → numeral (Some v) ≡ capped_found r → (n : ℕ) × (r ≡ found n) × (v ≡ capped n)
 unfolding numeral capped_found
-capped_found_lem nothing v e = absurd (let z : ◌≡◌ {A = ℕ} 0 1 = cc in omega arith)
+capped_found_lem nothing v e = absurd (cc)
 capped_found_lem (found n) v e = (n, refl, (cc))
 
-capped_none : (r : Found) (v : ℕ) → numeral false v ≡ capped_found r → r ≡ nothing
+capped_none : (r : Found) → numeral None ≡ capped_found r → r ≡ nothing
 unfolding numeral capped_found
-capped_none nothing v e = refl
-capped_none (found n) v e = absurd (let z : ◌≡◌ {A = ℕ} 0 1 = cc in omega arith)
+capped_none nothing e = refl
+capped_none (found n) e = absurd (cc)
 
 module _ {line : List ℕ} {at count : ℕ} {values : List ℕ} (G : Going line at count values) (e : ℕ) (d : e ≡ at + until 32 (drop at line)) where
   next_word : (r : Found) → number (take (e - at) (drop at line)) ≡ r → numbers_of (words_from line at) ≡ elim r [ nothing ↦ no_numbers | found n ↦ before n (numbers_of (words_from line (e + 1))) ]
@@ -225,10 +211,8 @@ module _ {line : List ℕ} {at count : ℕ} {values : List ℕ} (G : Going line 
   word_inside = (omega arith, (words_step line at e G.inside d).0)
 
   -- a word that is no number
-  pub going_none : (v : ℕ) (is : Bool) → is ≡ false → numeral is v ≡ capped_found (number (take (e - at) (drop at line))) → {k : ℕ} {vs : List ℕ} → Got (numbers_of (words line)) false k vs
-  going_none v is f h {k} {vs} =
-      let z : number (take (e - at) (drop at line)) ≡ nothing = capped_none _ v (rw f at h) in
-      rw (G.is ∙ ap (before_all G.seen) (next_word nothing z) ∙ before_none G.seen) none
+  pub going_none : numeral None ≡ capped_found (number (take (e - at) (drop at line))) → numbers_of (words line) ≡ no_numbers
+  going_none h = G.is ∙ ap (before_all G.seen) (next_word nothing (capped_none _ h)) ∙ before_none G.seen
 
   record More (v : ℕ) : Type 0 where
     more : List ℕ
@@ -237,9 +221,9 @@ module _ {line : List ℕ} {at count : ℕ} {values : List ℕ} (G : Going line 
     five : length (set values count v) ≡ 5
     held : (i : ℕ) → i < 5 → get_or (set values count v) i 0 ≡ capped (get_or more i 0)
 
-  going_on : (v : ℕ) (is : Bool) → is ≡ true → numeral is v ≡ capped_found (number (take (e - at) (drop at line))) → More v
-  going_on v is f h =
-      let w = capped_found_lem _ v (rw f at h) in
+  going_on : (v : ℕ) → numeral (Some v) ≡ capped_found (number (take (e - at) (drop at line))) → More v
+  going_on v h =
+      let w = capped_found_lem _ v h in
       let n = w.0 in
       record {
         more = G.seen ++ (n ∷ []);
@@ -259,16 +243,21 @@ module _ {line : List ℕ} {at count : ℕ} {values : List ℕ} (G : Going line 
           get_or-set_other values count i v 0 (λ z. omega arith) ∙ G.held i k ∙ ap capped (get_or-eq_default G.seen 0 (omega (arith, G.counted)) ∙ sym (get_or-eq_default (G.seen ++ (n ∷ [])) 0 (rw (length-append G.seen (n ∷ [])) (omega (arith, G.counted)))))
 
   -- a word more
-  pub going_more : (v : ℕ) (is : Bool) → is ≡ true → numeral is v ≡ capped_found (number (take (e - at) (drop at line))) → (e ≡ length line → ⊥) → {vs : List ℕ} → vs ≡ set values count v → Going line (e + 1) (count + 1) vs
-  going_more v is f h n {vs} q =
-      let M = going_on v is f h in
+  pub going_more : (v : ℕ) → numeral (Some v) ≡ capped_found (number (take (e - at) (drop at line))) → (e ≡ length line → ⊥) → {vs : List ℕ} → vs ≡ set values count v → Going line (e + 1) (count + 1) vs
+  going_more v h n {vs} q =
+      let M = going_on v h in
       let i = word_inside in
       let l : e < length line = split (ltb e (length line)) (λ t. ltb-true e (length line) t) (λ t. absurd (n (omega (arith, ltb-false e (length line) t)))) in
       record { seen = M.more; is = M.is; counted = M.counted; five = rw q M.five; held = λ j k. rw q (M.held j k); inside = omega arith; few = omega (arith, G.few) }
 
   -- the last word
-  pub going_done : (v : ℕ) (is : Bool) → is ≡ true → numeral is v ≡ capped_found (number (take (e - at) (drop at line))) → e ≡ length line → {vs : List ℕ} → vs ≡ set values count v → Got (numbers_of (words line)) true (count + 1) vs
+  pub going_done : (v : ℕ) → numeral (Some v) ≡ capped_found (number (take (e - at) (drop at line))) → e ≡ length line → {vs : List ℕ} → vs ≡ set values count v → Got (numbers_of (words line)) (count + 1) vs
   unfolding numbers_of
-  going_done v is f h n {vs} q =
-      let M = going_on v is f h in
-      rw (M.is ∙ ap (λ (r : List (List ℕ)). before_all M.more (numbers_of r)) (words_end line e n) ∙ before_end M.more) (some {ns = M.more} {values = vs} M.counted (λ j k. rw q (M.held j k)))
+  going_done v h n {vs} q =
+      let M = going_on v h in
+      record {
+        ns = M.more;
+        is = M.is ∙ ap (λ (r : List (List ℕ)). before_all M.more (numbers_of r)) (words_end line e n) ∙ before_end M.more;
+        counted = M.counted;
+        held = λ j k. rw q (M.held j k);
+      }

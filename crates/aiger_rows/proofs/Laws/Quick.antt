@@ -1,6 +1,7 @@
 -- A line of three numbers, read in one go: laws. Assumes nothing.
 use Prim.Native.Nat.{ℕ, suc, ◌+◌, ◌-◌, ◌*◌, ◌≤◌, ◌<◌}
 use mathlib.Core.Path.{◌≡◌, refl, sym, ap, ◌∙◌}
+use mathlib.Core.Bool.{true}
 use mathlib.Core.List.{List, [], ◌∷◌, ◌++◌, append_assoc}
 use native.Mathlib.Omega.{arith}
 use lib.ListN.{length, get_or, take, drop, length-append, length-drop}
@@ -11,7 +12,7 @@ use Rattle.rules.proofs.Lists.Members.{out_head, out_tail}
 use Rattle.aiger_form.specs.Text.{parts, words, is_digit, more_digits, number, numbers, before, numbers_of}
 use Rattle.aiger_form.proofs.Texts.{parts_one, every_append, out_digits, more_snoc, space_digit, feed_digit}
 use Rattle.aiger_rows.specs.Cursor.{until, Figured, Worded, Tripled}
-use Rattle.aiger_rows.proofs.Laws.Cursor.{is_digit_lem, number_digits}
+use Rattle.aiger_rows.proofs.Laws.Cursor.{number_digits}
 
 module _ (bytes : List ℕ) (at : ℕ) where
   -- no digit yet
@@ -31,16 +32,16 @@ module _ (bytes : List ℕ) (at : ℕ) where
         rw (s, take-suc (drop at bytes) (i - at) 0 (omega arith), g)
 
     -- one digit more
-    pub figured_more : i < length bytes → (c : ℕ) → c ≡ get_or bytes i 0 → 48 ≤ c → c ≤ 57 → Figured bytes at (i + 1) (10 * v + (c - 48))
+    pub figured_more : i < length bytes → is_digit (get_or bytes i 0) ≡ true → (d : ℕ) → d ≡ get_or bytes i 0 - 48 → Figured bytes at (i + 1) (10 * v + d)
     unfolding every
-    figured_more h c e a b =
-        let d = is_digit_lem c a b in
+    figured_more h t d q =
+        let c = get_or bytes i 0 in
         let o = one_more h in
         record {
           from = omega (arith, F.from);
           inside = omega arith;
-          is = rw (o, ← e) (more_snoc (take (i - at) (drop at bytes)) 0 v c F.is d);
-          digits = rw (o, ← e) (every_append is_digit (take (i - at) (drop at bytes)) (c ∷ []) F.digits (rw (d, every)));
+          is = rw (o, q) (more_snoc (take (i - at) (drop at bytes)) 0 v c F.is t);
+          digits = rw o (every_append is_digit (take (i - at) (drop at bytes)) (c ∷ []) F.digits (rw (t, every)));
         }
 
     -- digits that a byte ends are a number, where the first is no 0

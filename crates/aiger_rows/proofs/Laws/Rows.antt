@@ -1,6 +1,6 @@
 -- Laws of a line's items. Assumes nothing.
-use Prim.Native.Nat.{ℕ, ◌+◌, ◌-◌, ◌*◌, ◌%◌, ◌<◌, ◌≤◌}
-use mathlib.Core.Path.{◌≡◌, refl, sym, ap, ◌∙◌}
+use Prim.Native.Nat.{ℕ, ◌+◌, ◌-◌, ◌*◌, ◌<◌, ◌≤◌}
+use mathlib.Core.Path.{◌≡◌, refl, sym, ◌∙◌}
 use mathlib.Core.Logic.{◌⊎◌, inl, inr}
 use mathlib.Core.Bool.{Bool, true, false, ◌&&◌, ◌||◌}
 use mathlib.Core.List.{List, [], ◌∷◌}
@@ -13,11 +13,14 @@ use Rattle.rules.specs.Listing.{text}
 use Rattle.rules.specs.Graph.{inversion_of}
 use Rattle.rules.proofs.Lists.Members.{split}
 use Rattle.rules.proofs.Bools.{and_none}
-use Rattle.aiger_form.specs.Text.{Numbers?, number}
+use Rattle.aiger_form.specs.Text.{Numbers?, no_numbers, numbers_of, words, number}
 use Rattle.aiger_rows.proofs.Laws.Cursor.{parts_until, parts_rest}
 use Rattle.aiger_form.specs.Aag.{Header, symbol_count, symbol_item, symbol_word, symbol_number, Item, bad_text, skipped, input_line, latch_line, output_line, gate_line, or_bad, is_literal, is_variable, input_item, reset_right, latch_item, output_item, gate_item, numbers_item, line_item}
-use Rattle.aiger_rows.specs.Cursor.{until, cap, capped, capped_found, numeral, Got, none, some}
-use Rattle.aiger_rows.specs.Rows.{reset_in, head, item_at, stops_at}
+use Rattle.aiger_rows.specs.Cursor.{until, cap, capped, capped_found, numeral, Got}
+use Rattle.aiger_rows.specs.Rows.{said, reset_in, In, item_at, stops_at}
+use Rattle.std.specs.Prelude.{Some, None}
+use Rattle.aiger_rows.specs.declared.header.Section.{Section}
+use Rattle.aiger_rows.specs.declared.header.Section.TheVariants.{Inputs, Latches, Outputs, Gates, Symbols}
 
 -- a number in range is exact, and one that is not stays out of range
 data Exact (m l : ℕ) : Type 0 where
@@ -55,15 +58,6 @@ module _ (m : ℕ) (h : m ≤ 2147483647) where
   and_parts true false e = absurd (let z : ◌≡◌ {A = ℕ} 0 1 = cc in omega arith)
   and_parts false b e = absurd (let z : ◌≡◌ {A = ℕ} 0 1 = cc in omega arith)
 
-  -- a literal in range has 32 bits
-  literal_low : (l k : ℕ) → k ≡ l % 4294967296 → is_literal m l ≡ true → k ≡ l
-  unfolding is_literal
-  literal_low l k q e = omega (arith, leb-true l (2 * m + 1) e)
-
-  variable_low : (l k : ℕ) → k ≡ l % 4294967296 → is_variable m l ≡ true → k ≡ l
-  unfolding is_variable
-  variable_low l k q e = literal_low l k q (and_parts (eqb (inversion_of l) 0 && ltb 0 l) (is_literal m l) e).1
-
   literal_exact : (l : ℕ) → is_literal m l ≡ true → capped l ≡ l
   unfolding is_literal
   literal_exact l e = omega (arith, leb-true l (2 * m + 1) e)
@@ -72,64 +66,36 @@ module _ (m : ℕ) (h : m ≤ 2147483647) where
   unfolding is_variable
   variable_exact l e = literal_exact l (and_parts (eqb (inversion_of l) 0 && ltb 0 l) (is_literal m l) e).1
 
-  -- so a literal is exact in 32 bits, from a number that stops at the cap
-  literal_kept : (l v k : ℕ) → v ≡ capped l → k ≡ v % 4294967296 → is_literal m l ≡ true → k ≡ l
-  literal_kept l v k e q h = literal_low l k (q ∙ ap (λ (n : ℕ). n % 4294967296) (e ∙ literal_exact l h)) h
+  module _ {r : Numbers?} {count : ℕ} {values : List ℕ} (G : Got r count values) where
+    -- an input's line, by its numbers
+    pub input_is : numbers_item (input_item m) r ≡ or_bad (eqb count 1 && is_variable m (get_or values 0 0)) (input_line (get_or values 0 0))
+    unfolding input_item numbers_item
+    input_is =
+        let a = get_or G.ns 0 0 in
+        rw (G.is, numbers_item, ← G.counted, G.held 0 (omega arith), variable_same a)
+        (or_bad_same (eqb count 1 && is_variable m a) (input_line a) (input_line (capped a)) (λ t. rw (variable_exact a (and_parts (eqb count 1) (is_variable m a) t).1)))
 
-  variable_kept : (l v k : ℕ) → v ≡ capped l → k ≡ v % 4294967296 → is_variable m l ≡ true → k ≡ l
-  variable_kept l v k e q h = variable_low l k (q ∙ ap (λ (n : ℕ). n % 4294967296) (e ∙ variable_exact l h)) h
+    -- an output's
+    pub output_is : numbers_item (output_item m) r ≡ or_bad (eqb count 1 && is_literal m (get_or values 0 0)) (output_line (get_or values 0 0))
+    unfolding output_item numbers_item
+    output_is =
+        let a = get_or G.ns 0 0 in
+        rw (G.is, numbers_item, ← G.counted, G.held 0 (omega arith), literal_same a)
+        (or_bad_same (eqb count 1 && is_literal m a) (output_line a) (output_line (capped a)) (λ t. rw (literal_exact a (and_parts (eqb count 1) (is_literal m a) t).1)))
 
-  -- an input's line, by its numbers
-  pub input_is : {r : Numbers?} {is : Bool} {count : ℕ} {values : List ℕ} → Got r is count values → (k : ℕ) → k ≡ get_or values 0 0 % 4294967296 → or_bad (is && (eqb count 1 && is_variable m (get_or values 0 0))) (input_line k) ≡ numbers_item (input_item m) r
-  unfolding input_item numbers_item or_bad
-  input_is none k q = refl
-  input_is (some {ns = ns} {values = values} c v) k q =
-      let a = get_or ns 0 0 in
-      let va = v 0 (omega arith) in
-      rw (va, c, variable_same a)
-      (or_bad_same (eqb (length ns) 1 && is_variable m a) (input_line k) (input_line a) (λ t. ap input_line (variable_kept a (get_or values 0 0) k va q (and_parts (eqb (length ns) 1) (is_variable m a) t).1)))
-
-  -- an output's
-  pub output_is : {r : Numbers?} {is : Bool} {count : ℕ} {values : List ℕ} → Got r is count values → (k : ℕ) → k ≡ get_or values 0 0 % 4294967296 → or_bad (is && (eqb count 1 && is_literal m (get_or values 0 0))) (output_line k) ≡ numbers_item (output_item m) r
-  unfolding output_item numbers_item or_bad
-  output_is none k q = refl
-  output_is (some {ns = ns} {values = values} c v) k q =
-      let a = get_or ns 0 0 in
-      let va = v 0 (omega arith) in
-      rw (va, c, literal_same a)
-      (or_bad_same (eqb (length ns) 1 && is_literal m a) (output_line k) (output_line a) (λ t. ap output_line (literal_kept a (get_or values 0 0) k va q (and_parts (eqb (length ns) 1) (is_literal m a) t).1)))
-
-  -- three numbers of a gate, in 32 bits
-  pub gate_low : (a b c k l n : ℕ) → k ≡ a % 4294967296 → l ≡ b % 4294967296 → n ≡ c % 4294967296 → or_bad (is_variable m a && is_literal m b && is_literal m c) (gate_line k l n) ≡ or_bad (is_variable m a && is_literal m b && is_literal m c) (gate_line a b c)
-  gate_low a b c k l n p q r = or_bad_same (is_variable m a && is_literal m b && is_literal m c) (gate_line k l n) (gate_line a b c) (λ t.
-      let w = and_parts (is_variable m a && is_literal m b) (is_literal m c) t in
-      let u = and_parts (is_variable m a) (is_literal m b) w.0 in
-      rw (variable_low a k p u.0, literal_low b l q u.1, literal_low c n r w.1))
-
-  or_bad_and : (s t : Bool) (x : Item) → or_bad s (or_bad t x) ≡ or_bad (s && t) x
-  unfolding or_bad
-  or_bad_and true t x = refl
-  or_bad_and false t x = refl
-
-  and_four : (a b c d : Bool) → a && (b && c && d) ≡ a && b && c && d
-  and_four true b c d = refl
-  and_four false b c d = refl
-
-  -- a gate's line
-  pub gate_is : {r : Numbers?} {is : Bool} {count : ℕ} {values : List ℕ} → Got r is count values → or_bad (is && eqb count 3) (or_bad (is_variable m (get_or values 0 0) && is_literal m (get_or values 1 0) && is_literal m (get_or values 2 0)) (gate_line (get_or values 0 0) (get_or values 1 0) (get_or values 2 0))) ≡ numbers_item (gate_item m) r
-  unfolding gate_item numbers_item or_bad
-  gate_is none = refl
-  gate_is (some {ns = ns} n v) =
-      let a = get_or ns 0 0 in
-      let b = get_or ns 1 0 in
-      let c = get_or ns 2 0 in
-      rw (v 0 (omega arith), v 1 (omega arith), v 2 (omega arith), n, variable_same a, literal_same b, literal_same c)
-      (or_bad_and (eqb (length ns) 3) (is_variable m a && is_literal m b && is_literal m c) (gate_line (capped a) (capped b) (capped c)) ∙ rw (and_four (eqb (length ns) 3) (is_variable m a) (is_literal m b) (is_literal m c))
-      (or_bad_same (eqb (length ns) 3 && is_variable m a && is_literal m b && is_literal m c) (gate_line (capped a) (capped b) (capped c)) (gate_line a b c) (λ t.
-      let w = and_parts (eqb (length ns) 3 && is_variable m a && is_literal m b) (is_literal m c) t in
-      let u = and_parts (eqb (length ns) 3 && is_variable m a) (is_literal m b) w.0 in
-      let s = and_parts (eqb (length ns) 3) (is_variable m a) u.0 in
-      rw (variable_exact a s.1, literal_exact b u.1, literal_exact c w.1))))
+    -- a gate's
+    pub gate_is : numbers_item (gate_item m) r ≡ or_bad (eqb count 3 && is_variable m (get_or values 0 0) && is_literal m (get_or values 1 0) && is_literal m (get_or values 2 0)) (gate_line (get_or values 0 0) (get_or values 1 0) (get_or values 2 0))
+    unfolding gate_item numbers_item
+    gate_is =
+        let a = get_or G.ns 0 0 in
+        let b = get_or G.ns 1 0 in
+        let c = get_or G.ns 2 0 in
+        rw (G.is, numbers_item, ← G.counted, G.held 0 (omega arith), G.held 1 (omega arith), G.held 2 (omega arith), variable_same a, literal_same b, literal_same c)
+        (or_bad_same (eqb count 3 && is_variable m a && is_literal m b && is_literal m c) (gate_line a b c) (gate_line (capped a) (capped b) (capped c)) (λ t.
+        let w = and_parts (eqb count 3 && is_variable m a && is_literal m b) (is_literal m c) t in
+        let u = and_parts (eqb count 3 && is_variable m a) (is_literal m b) w.0 in
+        let s = and_parts (eqb count 3) (is_variable m a) u.0 in
+        rw (variable_exact a s.1, literal_exact b u.1, literal_exact c w.1)))
 
   -- where a latch's variable is in range, so is its reset
   variable_below : (l : ℕ) → is_variable m l ≡ true → l < 4294967296
@@ -159,9 +125,9 @@ module _ (m : ℕ) (h : m ≤ 2147483647) where
   or_parts true b e = inl refl
   or_parts false b e = inr e
 
-  reset_exact : (ns : List ℕ) → is_variable m (get_or ns 0 0) ≡ true → reset_right ns ≡ true → (k : ℕ) → k ≡ capped (get_or ns 2 0) % 4294967296 → k ≡ get_or ns 2 0
+  reset_exact : (ns : List ℕ) → is_variable m (get_or ns 0 0) ≡ true → reset_right ns ≡ true → capped (get_or ns 2 0) ≡ get_or ns 2 0
   unfolding reset_right
-  reset_exact ns l e k q =
+  reset_exact ns l e =
       let a = get_or ns 0 0 in
       let c = get_or ns 2 0 in
       let h = variable_below a l in
@@ -173,22 +139,39 @@ module _ (m : ℕ) (h : m ≤ 2147483647) where
         ]
       ]
 
-  -- a latch's line
-  pub latch_is : {r : Numbers?} {is : Bool} {count : ℕ} {values : List ℕ} → Got r is count values → (k l n : ℕ) → k ≡ get_or values 0 0 % 4294967296 → l ≡ get_or values 1 0 % 4294967296 → n ≡ get_or values 2 0 % 4294967296 → or_bad (is && (reset_in count (get_or values 0 0) (get_or values 2 0) && is_variable m (get_or values 0 0) && is_literal m (get_or values 1 0))) (latch_line k l n) ≡ numbers_item (latch_item m) r
-  unfolding latch_item numbers_item or_bad
-  latch_is none k l n p q s = refl
-  latch_is (some {ns = ns} {values = values} d v) k l n p q s =
-      let a = get_or ns 0 0 in
-      let b = get_or ns 1 0 in
-      let c = get_or ns 2 0 in
-      let va = v 0 (omega arith) in
-      let vb = v 1 (omega arith) in
-      let vc = v 2 (omega arith) in
-      rw (va, vb, vc, d, test_same ns)
-      (or_bad_same (reset_right ns && is_variable m a && is_literal m b) (latch_line k l n) (latch_line a b c) (λ t.
-      let w = and_parts (reset_right ns && is_variable m a) (is_literal m b) t in
-      let u = and_parts (reset_right ns) (is_variable m a) w.0 in
-      rw (reset_exact ns u.1 u.0 n (s ∙ ap (λ (x : ℕ). x % 4294967296) vc), variable_kept a (get_or values 0 0) k va p u.1, literal_kept b (get_or values 1 0) l vb q w.1)))
+  module _ {r : Numbers?} {count : ℕ} {values : List ℕ} (G : Got r count values) where
+    -- a latch's line
+    pub latch_is : numbers_item (latch_item m) r ≡ or_bad (reset_in count (get_or values 0 0) (get_or values 2 0) && is_variable m (get_or values 0 0) && is_literal m (get_or values 1 0)) (latch_line (get_or values 0 0) (get_or values 1 0) (get_or values 2 0))
+    unfolding latch_item numbers_item
+    latch_is =
+        let ns = G.ns in
+        let a = get_or ns 0 0 in
+        let b = get_or ns 1 0 in
+        rw (G.is, numbers_item, G.counted, G.held 0 (omega arith), G.held 1 (omega arith), G.held 2 (omega arith), test_same ns)
+        (or_bad_same (reset_right ns && is_variable m a && is_literal m b) (latch_line a b (get_or ns 2 0)) (latch_line (capped a) (capped b) (capped (get_or ns 2 0))) (λ t.
+        let w = and_parts (reset_right ns && is_variable m a) (is_literal m b) t in
+        let u = and_parts (reset_right ns) (is_variable m a) w.0 in
+        rw (variable_exact a u.1, literal_exact b w.1, reset_exact ns u.1 u.0)))
+
+    -- its reset is small
+    pub reset_fits : reset_in count (get_or values 0 0) (get_or values 2 0) ≡ true → is_variable m (get_or values 0 0) ≡ true → get_or values 2 0 < 4294967296
+    unfolding reset_in
+    reset_fits e v =
+        let a = get_or values 0 0 in
+        let c = get_or values 2 0 in
+        let h = variable_below a v in
+        elim (or_parts (eqb count 2) (eqb count 3 && (leb c 1 || eqb c a)) e) [
+          | inl two ↦ let p : length G.ns ≤ 2 = omega (arith, eqb-true count 2 two, G.counted) in let z : get_or G.ns 2 0 ≡ 0 = get_or-eq_default G.ns 0 p in omega (arith, G.held 2 (omega arith))
+          | inr rest ↦ elim (or_parts (leb c 1) (eqb c a) (and_parts (eqb count 3) (leb c 1 || eqb c a) rest).1) [
+            | inl bit ↦ omega (arith, leb-true c 1 bit)
+            | inr own ↦ omega (arith, eqb-true c a own)
+          ]
+        ]
+
+-- a line that is no numbers is bad
+pub no_line : (f : List ℕ → Item) (line : List ℕ) → numbers_of (words line) ≡ no_numbers → said None ≡ line_item f line
+unfolding line_item numbers_item said
+no_line f line e = rw e
 
 -- ---- symbols
 
@@ -207,20 +190,34 @@ symbol_cut h (c ∷ cs) e d k = rw (parts_rest 32 cs (omega arith))
 below_capped : (k n : ℕ) → n ≤ cap → ltb (capped k) n ≡ ltb k n
 below_capped k n h = split (ltb k n) (λ t. let q = ltb-true k n t in lt-ltb (capped k) n (omega arith) ∙ sym t) (λ t. let q = ltb-false k n t in le-ltb (capped k) n (omega arith) ∙ sym t)
 
-symbol_number_lem : (n v : ℕ) (is : Bool) (r : Found) → n ≤ cap → numeral is v ≡ capped_found r → or_bad (is && ltb v n) skipped ≡ symbol_number n r
-unfolding symbol_number numeral capped_found or_bad
-symbol_number_lem n v false nothing h e = refl
-symbol_number_lem n v false (found k) h e = absurd (let z : ◌≡◌ {A = ℕ} 0 1 = cc in omega arith)
-symbol_number_lem n v true nothing h e = absurd (let z : ◌≡◌ {A = ℕ} 0 1 = cc in omega arith)
-symbol_number_lem n v true (found k) h e = let q : v ≡ capped k = cc in rw (q, below_capped k n h)
+symbol_number_lem : (n v : ℕ) (r : Found) → n ≤ cap → numeral (Some v) ≡ capped_found r → or_bad (ltb v n) skipped ≡ symbol_number n r
+unfolding symbol_number numeral capped_found
+symbol_number_lem n v nothing h e = absurd (cc)
+symbol_number_lem n v (found k) h e = let q : v ≡ capped k = cc in rw (q, below_capped k n h)
 
--- a symbol
-pub symbol_is : (h : Header) (line : List ℕ) (e v n : ℕ) (is : Bool) → n ≡ symbol_count h (get_or line 0 0) → n ≤ cap → (length line ≡ 0 → ⊥) → e ≡ 1 + until 32 (drop 1 line) → e < length line → numeral is v ≡ capped_found (number (take (e - 1) (drop 1 line))) → or_bad (is && ltb v n) skipped ≡ symbol_item h line
-unfolding symbol_item symbol_word
-symbol_is h [] e v n is c k z d l r = absurd (z refl)
-symbol_is h (x ∷ xs) e v n is c k z d l r =
-    let q : e - 1 ≡ until 32 xs = omega arith in
-    rw (parts_until 32 xs (omega arith), ← c, ← q) (symbol_number_lem n v is _ k r)
+symbol_number_none : (n : ℕ) (r : Found) → numeral None ≡ capped_found r → bad_text ≡ symbol_number n r
+unfolding symbol_number numeral capped_found
+symbol_number_none n nothing e = refl
+symbol_number_none n (found k) e = absurd (cc)
+
+module _ (h : Header) (line : List ℕ) (e : ℕ) (z : length line ≡ 0 → ⊥) (d : e ≡ 1 + until 32 (drop 1 line)) (l : e < length line) where
+  -- a symbol
+  pub symbol_is : (v n : ℕ) → n ≡ symbol_count h (get_or line 0 0) → n ≤ cap → numeral (Some v) ≡ capped_found (number (take (e - 1) (drop 1 line))) → or_bad (ltb v n) skipped ≡ symbol_item h line
+  unfolding symbol_item symbol_word
+  symbol_is v n c k r = at line z d l c r
+    where
+      at : (line : List ℕ) → (length line ≡ 0 → ⊥) → e ≡ 1 + until 32 (drop 1 line) → e < length line → n ≡ symbol_count h (get_or line 0 0) → numeral (Some v) ≡ capped_found (number (take (e - 1) (drop 1 line))) → or_bad (ltb v n) skipped ≡ symbol_item h line
+      at [] z d l c r = absurd (z refl)
+      at (x ∷ xs) z d l c r = let q : e - 1 ≡ until 32 xs = omega arith in rw (parts_until 32 xs (omega arith), ← c, ← q) (symbol_number_lem n v _ k r)
+
+  -- no number is none
+  pub symbol_word_none : numeral None ≡ capped_found (number (take (e - 1) (drop 1 line))) → bad_text ≡ symbol_item h line
+  unfolding symbol_item symbol_word
+  symbol_word_none r = at line z d l r
+    where
+      at : (line : List ℕ) → (length line ≡ 0 → ⊥) → e ≡ 1 + until 32 (drop 1 line) → e < length line → numeral None ≡ capped_found (number (take (e - 1) (drop 1 line))) → bad_text ≡ symbol_item h line
+      at [] z d l r = absurd (z refl)
+      at (x ∷ xs) z d l r = let q : e - 1 ≡ until 32 xs = omega arith in rw (parts_until 32 xs (omega arith), ← q) (symbol_number_none _ _ r)
 
 -- a longer line is no comment
 pub comment_long : (line : List ℕ) → (length line ≡ 1 → ⊥) → false ≡ same_list line (text "c")
@@ -237,12 +234,6 @@ comment_is (x ∷ []) n = split (eqb x 99) (λ t. rw (t, same_list)) (λ t. rw (
 comment_is (x ∷ y ∷ xs) n = absurd (omega arith)
 
 -- ---- the line at a place
-
--- a symbol needs the counts alone
-pub symbol_head : (h : Header) (line : List ℕ) → symbol_item (head 0 h.inputs h.latches h.outputs 0) line ≡ symbol_item h line
-unfolding symbol_item symbol_count
-symbol_head h [] = refl
-symbol_head h (x ∷ xs) = refl
 
 module _ (h : Header) (i : ℕ) (line : List ℕ) where
   -- the line of an input
@@ -275,11 +266,19 @@ module _ (h : Header) (i : ℕ) (line : List ℕ) where
       (rw (t, item_at, u, v, w), rw (t, stops_at, u, v, w))
 
   -- of a symbol
-  pub at_symbol : h.inputs ≤ i → h.latches ≤ i - h.inputs → h.outputs ≤ i - h.inputs - h.latches → h.gates ≤ i - h.inputs - h.latches - h.outputs → (symbol_item (head 0 h.inputs h.latches h.outputs 0) line ≡ item_at h i line) × (same_list line (text "c") ≡ stops_at h i line)
+  pub at_symbol : h.inputs ≤ i → h.latches ≤ i - h.inputs → h.outputs ≤ i - h.inputs - h.latches → h.gates ≤ i - h.inputs - h.latches - h.outputs → (symbol_item h line ≡ item_at h i line) × (same_list line (text "c") ≡ stops_at h i line)
   unfolding item_at stops_at
   at_symbol a b c d =
       let t = le-ltb i h.inputs a in
       let u = le-ltb (i - h.inputs) h.latches b in
       let v = le-ltb (i - h.inputs - h.latches) h.outputs c in
       let w = le-ltb (i - h.inputs - h.latches - h.outputs) h.gates d in
-      (rw (t, item_at, u, v, w) (symbol_head h line), rw (t, stops_at, u, v, w))
+      (rw (t, item_at, u, v, w), rw (t, stops_at, u, v, w))
+
+  -- only a symbol's line can stop
+  pub no_stop : (s : Section) → In h i s → (s ≡ Symbols → ⊥) → false ≡ stops_at h i line
+  no_stop Inputs a n = (at_input a).1
+  no_stop Latches (a, b) n = (at_latch a b).1
+  no_stop Outputs (a, b, c) n = (at_output a b c).1
+  no_stop Gates (a, b, c, d) n = (at_gate a b c d).1
+  no_stop Symbols a n = absurd (n refl)

@@ -13,33 +13,26 @@ use Rattle.rules.proofs.Lists.Members.{split}
 use Rattle.rules.proofs.Bools.{and_right, and_none}
 use Rattle.aiger_form.specs.Text.{Line, ended}
 use Rattle.aiger_form.specs.Aag.{Header, body_size, is_comment, has_comment, is_cut}
-use Rattle.aiger_rows.specs.Rows.{stops_at}
+use Rattle.aiger_rows.specs.Rows.{In, stops_at}
+use Rattle.aiger_rows.specs.declared.header.Section.{Section}
+use Rattle.aiger_rows.specs.declared.header.Section.TheVariants.{Inputs, Latches, Outputs, Gates, Symbols}
 use Rattle.aiger_text.specs.Lines.{cut_from, Short}
 
 -- ---- the lines that the header counts
 
-module _ (h : Header) (i : ℕ) where
-  -- an input is counted
-  pub body_input : i < h.inputs → true ≡ ltb i (body_size h)
-  unfolding body_size
-  body_input a = sym (lt-ltb i (body_size h) (omega arith))
+-- a line behind is not counted
+pub body_behind : (h : Header) (i : ℕ) → In h i Symbols → false ≡ ltb i (body_size h)
+unfolding body_size
+body_behind h i a = sym (le-ltb i (body_size h) (omega arith))
 
-  -- a latch is
-  pub body_latch : h.inputs ≤ i → i - h.inputs < h.latches → true ≡ ltb i (body_size h)
-  unfolding body_size
-  body_latch a b = sym (lt-ltb i (body_size h) (omega arith))
-
-  -- an output is
-  pub body_output : h.inputs ≤ i → h.latches ≤ i - h.inputs → i - h.inputs - h.latches < h.outputs → true ≡ ltb i (body_size h)
-  unfolding body_size
-  body_output a b c = sym (lt-ltb i (body_size h) (omega arith))
-
-  -- a gate is, and nothing behind
-  pub body_gate : h.inputs ≤ i → h.latches ≤ i - h.inputs → h.outputs ≤ i - h.inputs - h.latches → ltb (i - h.inputs - h.latches - h.outputs) h.gates ≡ ltb i (body_size h)
-  unfolding body_size
-  body_gate a b c = split (ltb (i - h.inputs - h.latches - h.outputs) h.gates)
-      (λ t. let q = ltb-true (i - h.inputs - h.latches - h.outputs) h.gates t in rw t (sym (lt-ltb i (body_size h) (omega arith))))
-      (λ t. let q = ltb-false (i - h.inputs - h.latches - h.outputs) h.gates t in rw t (sym (le-ltb i (body_size h) (omega arith))))
+-- any other is
+pub body_inside : (h : Header) (i : ℕ) (s : Section) → In h i s → (s ≡ Symbols → ⊥) → true ≡ ltb i (body_size h)
+unfolding body_size
+body_inside h i Inputs a n = sym (lt-ltb i (body_size h) (omega arith))
+body_inside h i Latches a n = sym (lt-ltb i (body_size h) (omega arith))
+body_inside h i Outputs a n = sym (lt-ltb i (body_size h) (omega arith))
+body_inside h i Gates a n = sym (lt-ltb i (body_size h) (omega arith))
+body_inside h i Symbols a n = absurd (n refl)
 
 stops_body : (h : Header) (i : ℕ) (line : List ℕ) → i < body_size h → stops_at h i line ≡ false
 unfolding stops_at body_size
@@ -96,10 +89,6 @@ unfolding ended
 ended_last [] h = absurd (omega arith)
 ended_last (c ∷ []) h = refl
 ended_last (c ∷ d ∷ ds) h = let z : length (c ∷ d ∷ ds) - 1 ≡ suc (length (d ∷ ds) - 1) = omega arith in rw z (ended_last (d ∷ ds) (omega arith))
-
--- whether a file that ends behind i lines is cut
-pub short_body : (H : Header) (i : ℕ) (bytes : List ℕ) (t : Bool) → t ≡ ltb i (body_size H) → t ≡ true → Short H i bytes true
-short_body H i bytes t q p = let u : ltb i (body_size H) ≡ true = sym q ∙ p in record { is = rw u }
 
 -- or one that ends in the middle of a line
 pub short_end : (H : Header) (i : ℕ) (bytes : List ℕ) → 0 < length bytes → (t : Bool) → t ≡ ltb i (body_size H) → t ≡ false → Short H i bytes (not (eqb (get_or bytes (length bytes - 1) 0) 10))

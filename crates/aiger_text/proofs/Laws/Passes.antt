@@ -9,20 +9,23 @@ use lib.Dec.{eqb, leb, ltb}
 use lib.ListN.{length, get_or, set, take, drop, length-set, length-drop}
 use lib.Seq.{get_or-set_same, get_or-set_other, set_out, drop-drop, length-take-le}
 use borrow.Author.Tests.{eqb-true, eqb-false, le-leb, lt-leb, lt-ltb, le-ltb, ne_eqb, eq-eqb}
-use Rattle.rules.specs.Lists.{found, mem, every, keep, same_list}
+use Rattle.rules.specs.Lists.{mem, every, keep, same_list}
 use Rattle.rules.specs.Listing.{text}
 use Rattle.rules.specs.Graph.{pin_of}
 use Rattle.rules.proofs.Lists.Members.{split}
 use Rattle.aiger_form.specs.Text.{Line, placed, ended}
 use Rattle.aiger_form.specs.Aag.{Header, Item, bad_text, skipped, input_line, latch_line, output_line, gate_line, is_text, defines, uses, place_or, Spot, spots, line_item, input_item, latch_item, output_item, gate_item, symbol_item, symbol_lines, is_comment, gate_spots, output_spots, latch_spots, all_spots, body_size, is_cut}
 use Rattle.aiger_form.specs.Windows.{window}
-use Rattle.aiger_rows.specs.Rows.{item_at, stops_at, head}
+use Rattle.aiger_rows.specs.Rows.{row_item, item_at, stops_at}
+use Rattle.graph.specs.declared.Literal.{Literal}
+use Rattle.aiger_rows.specs.declared.rows.Row.{Row}
+use Rattle.aiger_rows.specs.declared.rows.Row.TheVariants.{Symbol, Input, Latch, Output, Gate}
 use Rattle.aiger_text.specs.Lines.{cut_from, NoLine, EndLine, NextLine, Short}
 use Rattle.aiger_text.specs.Passes.{spots_at, breadth, area, store_item, store_all, Marks, Marked, Passed, fresh_in, noted, pass_over, defined_onto, lines_from, Ready, Swept, Known, Set, Used, first_unknown_in}
 use Rattle.aiger_rows.specs.Cursor.{until}
 use Rattle.aiger_rows.proofs.Laws.Cursor.{until_length, parts_until, parts_rest}
 use Rattle.aiger_text.proofs.Laws.Cut.{cut_is}
-use Rattle.aiger_rows.proofs.Laws.Rows.{at_input, at_latch, at_output, at_gate, at_symbol, symbol_head}
+use Rattle.aiger_rows.proofs.Laws.Rows.{at_input, at_latch, at_output, at_gate, at_symbol}
 
 -- ---- marks
 
@@ -112,7 +115,7 @@ module _ (h : Header) where
       let w = at_symbol h i l.text (omega arith) (omega arith) (omega arith) (omega arith) in
       split (same_list l.text (text "c"))
       (λ t. let u : stops_at h i l.text ≡ true = sym w.1 ∙ t in rw (t, u, symbol_lines, spots_at))
-      (λ t. let u : stops_at h i l.text ≡ false = sym w.1 ∙ t in rw (t, u, symbol_lines, spots_at, ← w.0, symbol_head h l.text) (ap (λ (r : List Spot). record { at = l.at; item = symbol_item h l.text } ∷ r) (symbols (suc i) (omega arith) ls)))
+      (λ t. let u : stops_at h i l.text ≡ false = sym w.1 ∙ t in rw (t, u, symbol_lines, spots_at, ← w.0) (ap (λ (r : List Spot). record { at = l.at; item = symbol_item h l.text } ∷ r) (symbols (suc i) (omega arith) ls)))
 
   -- all lines, one after the other
   pub spots_all : (ls : List Line) → all_spots h ls ≡ spots_at h 0 ls
@@ -130,16 +133,6 @@ module _ (h : Header) where
       rw (s5, s4, s3, s2, s1) refl
 
 -- ---- line by line
-
--- the earlier place
-pub noted_first : (first at : ℕ) → first < at → first ≡ noted false first at
-unfolding noted
-noted_first first at h = omega arith
-
--- the later line is the first
-pub noted_at : (first at : ℕ) → at ≤ first → at ≡ noted false first at
-unfolding noted
-noted_at first at h = omega arith
 
 module _ (bytes : List ℕ) (at e : ℕ) (h : at ≤ length bytes) (d : e ≡ at + until 10 (drop at bytes)) where
   -- a line lies in the file
@@ -181,8 +174,8 @@ pub record Scan (H : Header) (start lo : ℕ) (bytes map₀ map w₀ w : List �
   pub wide : length w ≡ area
 
 -- before the first line
-pub scan_start : (H : Header) (m start lo : ℕ) (bytes map w : List ℕ) → Ready m start lo bytes map w → Scan H start lo bytes map map w w start 0 (length bytes)
-scan_start H m start lo bytes map w R = record { seen = []; marks = R.blank; here = refl; onto = refl; stored = refl; cut = cut_is H bytes (lines_from bytes start); some = omega (arith, R.some, R.inside); inside = R.inside; few = omega arith; len = refl; size = refl; wide = R.wide }
+pub scan_start : (H : Header) (start lo : ℕ) (bytes map w : List ℕ) → Ready start lo bytes map w → Scan H start lo bytes map map w w start 0 (length bytes)
+scan_start H start lo bytes map w R = record { seen = []; marks = R.blank; here = refl; onto = refl; stored = refl; cut = cut_is H bytes (lines_from bytes start); some = omega (arith, R.some, R.inside); inside = R.inside; few = omega arith; len = refl; size = refl; wide = R.wide }
 
 -- storing keeps the length
 pub store_length : (x : Item) (w : List ℕ) → length (store_item x w) ≡ length w
@@ -193,6 +186,15 @@ store_length (input_line l) w = refl
 store_length (latch_line l n r) w = refl
 store_length (output_line l) w = refl
 store_length (gate_line l a b) w = length-set (set w (2 * pin_of l) a) (2 * pin_of l + 1) b ∙ length-set w (2 * pin_of l) a
+
+-- a line of another kind is not stored
+pub store_other : (x : Row) (w : List ℕ) → ((l a b : Literal) → x ≡ Gate l a b → ⊥) → w ≡ store_item (row_item x) w
+unfolding row_item store_item
+store_other Symbol w n = refl
+store_other (Input l) w n = refl
+store_other (Latch l m r) w n = refl
+store_other (Output l) w n = refl
+store_other (Gate l a b) w n = absurd (n l a b refl)
 
 -- a gate of a pin that the area has no room for is not stored
 pub store_past : (w : List ℕ) (l a b p : ℕ) → p ≡ pin_of l → 65536 ≤ p → length w ≡ area → w ≡ store_item (gate_line l a b) w
@@ -310,8 +312,8 @@ pub record Look (H : Header) (start lo : ℕ) (bytes map : List ℕ) (at i : ℕ
   pub few : i ≤ at
 
 -- before the first line
-pub look_start : (H : Header) (m start lo : ℕ) (bytes map : List ℕ) → Set m start bytes map → Look H start lo bytes map start 0
-look_start H m start lo bytes map S = record { here = λ seen M. refl; inside = S.inside; few = omega arith }
+pub look_start : (H : Header) (start lo : ℕ) (bytes map : List ℕ) → Set start bytes map → Look H start lo bytes map start 0
+look_start H start lo bytes map S = record { here = λ seen M. refl; inside = S.inside; few = omega arith }
 
 module _ {H : Header} {start lo : ℕ} {bytes map : List ℕ} {at i : ℕ} (S : Look H start lo bytes map at i) where
   -- no line is left

@@ -1,23 +1,27 @@
 -- The verdict on a file: laws. Assumes nothing.
 use Prim.Native.Nat.{ℕ, zero, suc, ◌+◌, ◌-◌, ◌≤◌, ◌<◌}
 use mathlib.Core.Path.{◌≡◌, refl, sym, ap, ◌∙◌}
-use mathlib.Core.Bool.{Bool, true, false}
+use mathlib.Core.Bool.{true, false}
 use mathlib.Core.List.{List, [], ◌∷◌, ◌++◌}
 use native.Mathlib.Omega.{arith}
-use lib.Dec.{eqb, ltb}
+use lib.Dec.{ltb}
 use lib.ListN.{length, take, drop, length-drop}
 use borrow.Author.Tests.{lt-ltb, ltb-true, ltb-false}
 use Rattle.rules.specs.Lists.{Found, nothing, found}
-use Rattle.rules.proofs.Lists.Members.{split, true_false}
+use Rattle.rules.proofs.Lists.Members.{split}
 use Rattle.aiger_form.specs.Text.{Line, placed, parts}
-use Rattle.aiger_form.specs.Aag.{Header, Header?, no_header, header, header_of, Spot, spots, symbol_lines, gate_spots, output_spots, latch_spots, all_spots, body_size, is_cut, place_or, items, defined, defines, stands, first_again, first_bad, reset_of, first_reset, malformed, bad_reset, file, resets, judge, judged, body_of, lines_of, file_of}
-use Rattle.aiger_rows.specs.Rows.{head, HeadIs, no, yes}
+use Rattle.aiger_form.specs.Aag.{Header, Header?, no_header, header, header_of, Spot, spots, symbol_lines, gate_spots, output_spots, latch_spots, all_spots, body_size, is_cut, place_or, items, defined, defines, stands, first_again, first_bad, first_reset, malformed, bad_reset, resets, judge, judged, body_of, lines_of, file_of}
+use Rattle.aiger_rows.specs.Rows.{head_of, HeadIs, no, yes}
+use Rattle.aiger_rows.specs.declared.head.Head.{Head}
+use Rattle.std.specs.Prelude.{Result, Ok, Err, Some, None}
 use Rattle.aiger_text.specs.declared.passes.Sweep.{Sweep}
-use Rattle.aiger_text.specs.declared.file.Verdict.{Verdict}
-use Rattle.aiger_text.specs.Passes.{spots_at, lines_from, breadth, area, Behind}
+use Rattle.refusals.specs.declared.Refusal.TheVariants.{Malformed, BadReset}
+use Rattle.aiger_text.specs.declared.file.Body.{Body}
+use Rattle.aiger_text.specs.declared.file.Refused.{Refused}
+use Rattle.aiger_text.specs.Passes.{spots_at, lines_from, Behind}
 use Rattle.aiger_rows.specs.Cursor.{until, cap, capped}
-use Rattle.aiger_text.specs.Whole.{judged_at, Begun, First}
-use Rattle.aiger_text.specs.File.{head_of, spots_of, Resets, bad, reset, good, Refused, body_file, BodyJudged, FileJudged}
+use Rattle.aiger_text.specs.Whole.{judged_at, First}
+use Rattle.aiger_text.specs.File.{Resets, bad, reset, good, body_file, BodyJudged, FileJudged}
 use Rattle.aiger_text.proofs.Laws.Passes.{spots_all, line_last, line_next}
 use Rattle.aiger_text.proofs.Laws.Whole.{Within, none, one, within, total, total_parts}
 
@@ -40,76 +44,60 @@ bad_inside all seen (one {s = s} b w) p e = split (stands all seen s.item)
     (λ t. bad_inside all (defines s.item ++ seen) w p (rw (t, first_bad) at e))
     (λ t. let c : found s.at ≡ found p = rw (t, first_bad) at e in let z : s.at ≡ p = cc in omega arith)
 
-reset_inside : {N : ℕ} {ss : List Spot} → Within N ss → (p : ℕ) → first_reset ss ≡ found p → p < N
-unfolding first_reset
-reset_inside none p e = absurd (let z : ◌≡◌ {A = ℕ} 0 1 = cc in omega arith)
-reset_inside (one {s = s} b w) p e = split (eqb (reset_of s.item) 0)
-    (λ t. reset_inside w p (rw (t, first_reset) at e))
-    (λ t. let c : found s.at ≡ found p = rw (t, first_reset) at e in let z : s.at ≡ p = cc in omega arith)
-
 -- ---- behind the header
 
-module _ {H : Header} {start : ℕ} {bytes map map' w w' : List ℕ} {s : Sweep} (F : First H start bytes map map' w w' s) where
+module _ (x : Head) {start : ℕ} {bytes map map' w w' : List ℕ} {s : Sweep} (F : First (head_of x) start bytes map map' w w' s) where
   -- a cut file
-  pub body_cut : s.cut ≡ true → {r : Verdict} → Refused 12 s.first r → BodyJudged H start bytes map map' w w' r
+  pub body_cut : s.cut ≡ true → BodyJudged (head_of x) start bytes map map' w w' (Err (record { why = Malformed; at = s.first }))
   unfolding body_file judged_at
-  body_cut t {r} R =
+  body_cut t =
+      let H = head_of x in
       let u : is_cut H bytes (lines_from bytes start) ≡ true = sym F.cut ∙ t in
       let q : s.first ≡ place_or (length bytes) (first_again [] (spots_at H 0 (lines_from bytes start))) = rw u at F.first in
-      let e : body_file H start bytes ≡ malformed r.at = rw (body_file, u, R.place, q) in
-      record { len = F.len; size = F.size; is = bad R.what e; stored = λ y h. absurd (omega (arith, R.what)) }
+      let e : body_file H start bytes ≡ malformed s.first = rw (body_file, u, q) in
+      record { len = F.len; size = F.size; is = bad e; stored = tt }
 
-  body_whole : s.cut ≡ false → body_file H start bytes ≡ judge H.variables (spots_at H 0 (lines_from bytes start)) (first_bad (0 ∷ defined (items (spots_at H 0 (lines_from bytes start)))) [] (spots_at H 0 (lines_from bytes start)))
-  unfolding body_file judged
-  body_whole t = let u : is_cut H bytes (lines_from bytes start) ≡ false = sym F.cut ∙ t in rw (body_file, u)
+  module _ (t : s.cut ≡ false) where
+    body_whole : body_file (head_of x) start bytes ≡ judge x.variables (spots_at (head_of x) 0 (lines_from bytes start)) (first_bad (0 ∷ defined (items (spots_at (head_of x) 0 (lines_from bytes start)))) [] (spots_at (head_of x) 0 (lines_from bytes start)))
+    unfolding body_file judged
+    body_whole = let u : is_cut (head_of x) bytes (lines_from bytes start) ≡ false = sym F.cut ∙ t in rw (body_file, u)
 
-  first_whole : s.cut ≡ false → s.first ≡ place_or (length bytes) (first_bad (0 ∷ defined (items (spots_at H 0 (lines_from bytes start)))) [] (spots_at H 0 (lines_from bytes start)))
-  unfolding judged_at
-  first_whole t = let u : is_cut H bytes (lines_from bytes start) ≡ false = sym F.cut ∙ t in rw u at F.first
+    first_whole : s.first ≡ place_or (length bytes) (first_bad (0 ∷ defined (items (spots_at (head_of x) 0 (lines_from bytes start)))) [] (spots_at (head_of x) 0 (lines_from bytes start)))
+    unfolding judged_at
+    first_whole = let u : is_cut (head_of x) bytes (lines_from bytes start) ≡ false = sym F.cut ∙ t in rw u at F.first
 
-  -- a bad line
-  pub body_bad : s.cut ≡ false → s.first < length bytes → {r : Verdict} → Refused 12 s.first r → BodyJudged H start bytes map map' w w' r
-  unfolding judge
-  body_bad t k {r} R =
-      let ss = spots_at H 0 (lines_from bytes start) in
-      let f = first_bad (0 ∷ defined (items ss)) [] ss in
-      let q = first_whole t in
-      let g : f ≡ found r.at = place_found (length bytes) f (omega arith) ∙ ap found (sym q ∙ sym R.place) in
-      let e : body_file H start bytes ≡ malformed r.at = body_whole t ∙ (rw g) in
-      record { len = F.len; size = F.size; is = bad R.what e; stored = λ y h. absurd (omega (arith, R.what)) }
-
-  module _ (b : start ≤ length bytes) (t : s.cut ≡ false) (k : length bytes ≤ s.first) (p : ℕ) (S : Resets H start bytes p) where
-    body_fine : body_file H start bytes ≡ resets H.variables (spots_at H 0 (lines_from bytes start)) (first_reset (spots_at H 0 (lines_from bytes start)))
+    -- a bad line
+    pub body_bad : s.first < length bytes → BodyJudged (head_of x) start bytes map map' w w' (Err (record { why = Malformed; at = s.first }))
     unfolding judge
-    body_fine =
-        let ss = spots_at H 0 (lines_from bytes start) in
+    body_bad k =
+        let ss = spots_at (head_of x) 0 (lines_from bytes start) in
         let f = first_bad (0 ∷ defined (items ss)) [] ss in
-        let q = first_whole t in
-        let g : f ≡ nothing = place_nothing (length bytes) f (bad_inside (0 ∷ defined (items ss)) [] (within H start bytes b)) (omega arith) in
-        body_whole t ∙ (rw g)
+        let q = first_whole in
+        let g : f ≡ found s.first = place_found (length bytes) f (omega arith) ∙ ap found (sym q) in
+        let e : body_file (head_of x) start bytes ≡ malformed s.first = body_whole ∙ (rw g) in
+        record { len = F.len; size = F.size; is = bad e; stored = tt }
 
-    -- a reset value
-    pub body_reset : p < length bytes → {r : Verdict} → Refused 13 p r → BodyJudged H start bytes map map' w w' r
-    unfolding resets
-    body_reset j {r} R =
-        let ss = spots_at H 0 (lines_from bytes start) in
-        let q = S.is in
-        let g : first_reset ss ≡ found r.at = place_found (length bytes) (first_reset ss) (omega arith) ∙ ap found (sym q ∙ sym R.place) in
-        let e : body_file H start bytes ≡ bad_reset r.at = body_fine ∙ (rw g) in
-        record { len = F.len; size = F.size; is = reset R.what e; stored = λ y h. absurd (omega (arith, R.what)) }
+    module _ (b : start ≤ length bytes) (k : length bytes ≤ s.first) where
+      body_fine : body_file (head_of x) start bytes ≡ resets x.variables (spots_at (head_of x) 0 (lines_from bytes start)) (first_reset (spots_at (head_of x) 0 (lines_from bytes start)))
+      unfolding judge
+      body_fine =
+          let ss = spots_at (head_of x) 0 (lines_from bytes start) in
+          let f = first_bad (0 ∷ defined (items ss)) [] ss in
+          let q = first_whole in
+          let g : f ≡ nothing = place_nothing (length bytes) f (bad_inside (0 ∷ defined (items ss)) [] (within (head_of x) start bytes b)) (omega arith) in
+          body_whole ∙ (rw g)
 
-    -- none
-    pub body_good : length bytes ≤ p → (r : Verdict) → r.number ≡ 0 → r.start ≡ start → head_of r.head ≡ H → Behind r.head.variables r.start bytes → BodyJudged H start bytes map map' w w' r
-    unfolding resets
-    body_good j r z es eh B =
-        let ss = spots_at H 0 (lines_from bytes start) in
-        let q = S.is in
-        let g : first_reset ss ≡ nothing = place_nothing (length bytes) (first_reset ss) (reset_inside (within H start bytes b)) (omega arith) in
-        let l : spots_of r bytes ≡ ss = rw (eh, es) refl in
-        let v : r.head.variables ≡ H.variables = ap (λ (h : Header). h.variables) eh in
-        let e : body_file H start bytes ≡ file r.head.variables (items (spots_of r bytes)) = rw (l, v) (body_fine ∙ (rw g)) in
-        let c : is_cut (head_of r.head) bytes (lines_from bytes r.start) ≡ false = rw (eh, es) (sym F.cut ∙ t) in
-        record { len = F.len; size = F.size; is = good z B c e; stored = λ y h. rw l (F.stored (omega arith)) }
+      -- a reset value
+      pub body_reset : (at : ℕ) → Resets (head_of x) start bytes (Some at) → BodyJudged (head_of x) start bytes map map' w w' (Err (record { why = BadReset; at = at }))
+      unfolding resets
+      body_reset at g =
+          let e : body_file (head_of x) start bytes ≡ bad_reset at = body_fine ∙ (rw g) in
+          record { len = F.len; size = F.size; is = reset e; stored = tt }
+
+      -- none
+      pub body_good : Resets (head_of x) start bytes None → Behind start bytes → BodyJudged (head_of x) start bytes map map' w w' (Ok (record { start = start; head = x }))
+      unfolding resets
+      body_good g B = record { len = F.len; size = F.size; is = good B (sym F.cut ∙ t) (body_fine ∙ (rw g)); stored = F.stored }
 
 -- ---- the number of outputs is capped, and nothing changes
 
@@ -130,7 +118,7 @@ unfolding gate_spots spots symbol_lines
 gate_none h = rw (take_all h.gates [] (omega arith), drop_all h.gates [] (omega arith))
 
 abbrev with' : Header → ℕ → Header
-with' h o = head h.variables h.inputs h.latches o h.gates
+with' h o = record h { outputs = o }
 
 outputs_same : (h : Header) (o : ℕ) (ls : List Line) → length ls ≤ h.outputs → length ls ≤ o → output_spots (with' h o) ls ≡ output_spots h ls
 unfolding output_spots
@@ -163,24 +151,17 @@ lines_length bytes at = let p = placed_length at (parts 10 (drop at bytes)) in l
 
 -- ---- the header
 
-head_no : {r : Header?} {is : Bool} {m i l o a : ℕ} → HeadIs r is m i l o a → is ≡ false → r ≡ no_header
-head_no no e = refl
-head_no (yes h q1 q2 q3 q4 q5 q6) e = true_false refl e
+head_no : {r : Header?} → HeadIs r None → r ≡ no_header
+head_no no = refl
 
-record Heads (r : Header?) (m i l o a : ℕ) : Type 0 where
+record Heads (r : Header?) (x : Head) : Type 0 where
   h : Header
   is : r ≡ header h
-  same : head m i l o a ≡ with' h o
-  cap : o ≡ capped h.outputs
-  few : m ≤ 2147483647
+  same : head_of x ≡ with' h x.outputs
+  cap : x.outputs ≡ capped h.outputs
 
-head_yes : {r : Header?} {is : Bool} {m i l o a : ℕ} → HeadIs r is m i l o a → is ≡ true → Heads r m i l o a
-head_yes no e = true_false e refl
-head_yes (yes h q1 q2 q3 q4 q5 q6) e = record { h = h; is = refl; same = rw (q1, q2, q3, q5); cap = q4; few = q6 }
-
--- a header has few variables
-pub head_few : {r : Header?} {is : Bool} {m i l o a : ℕ} → HeadIs r is m i l o a → is ≡ true → m ≤ 2147483647
-head_few H e = (head_yes H e).few
+head_yes : {r : Header?} {x : Head} → HeadIs r (Some x) → Heads r x
+head_yes (yes h x q1 q2 q3 q4 q5) = record { h = h; is = refl; same = rw (q1, q2, q3, q5); cap = q4 }
 
 body_same : (h : Header) (o start : ℕ) (bytes : List ℕ) → is_cut (with' h o) bytes (lines_from bytes start) ≡ is_cut h bytes (lines_from bytes start) → all_spots h (lines_from bytes start) ≡ spots_at (with' h o) 0 (lines_from bytes start) → body_of bytes (lines_from bytes start) (header h) ≡ body_file (with' h o) start bytes
 unfolding body_of body_file
@@ -194,27 +175,24 @@ module _ (bytes : List ℕ) (e : ℕ) (d : e ≡ 0 + until 10 (drop 0 bytes)) wh
   file_lines_lem = refl
 
   -- no line at all
-  pub file_none : length bytes ≤ e → {w : List ℕ} {r : Verdict} → Refused 12 (length bytes) r → FileJudged bytes w w r
+  pub file_none : length bytes ≤ e → {w : List ℕ} → FileJudged bytes w w (Err (record { why = Malformed; at = length bytes }))
   unfolding lines_of
-  file_none k {w} R =
-      let q : file_of bytes ≡ malformed (length bytes) = file_lines_lem ∙ (rw (line_last bytes 0 e (omega arith) d k)) in
-      record { size = refl; is = bad R.what (q ∙ ap malformed (sym R.place)); stored = λ y h. absurd (omega (arith, R.what)) }
+  file_none k {w} = record { size = refl; is = bad (file_lines_lem ∙ (rw (line_last bytes 0 e (omega arith) d k))); stored = tt }
 
   file_first : e < length bytes → file_of bytes ≡ body_of bytes (lines_from bytes (e + 1)) (header_of (take (e - 0) (drop 0 bytes)))
   unfolding lines_of
   file_first k = file_lines_lem ∙ (rw (line_next bytes 0 e (omega arith) d k))
 
   -- no header
-  pub file_header : e < length bytes → (is : Bool) {m i l o a : ℕ} → HeadIs (header_of (take (e - 0) (drop 0 bytes))) is m i l o a → is ≡ false → {w : List ℕ} {r : Verdict} → Refused 12 0 r → FileJudged bytes w w r
+  pub file_header : e < length bytes → HeadIs (header_of (take (e - 0) (drop 0 bytes))) None → {w : List ℕ} → FileJudged bytes w w (Err (record { why = Malformed; at = 0 }))
   unfolding body_of
-  file_header k is H t {w} R =
-      let q : file_of bytes ≡ malformed 0 = file_first k ∙ (rw (head_no H t)) in
-      record { size = refl; is = bad R.what (q ∙ ap malformed (sym R.place)); stored = λ y h. absurd (omega (arith, R.what)) }
+  file_header k H {w} = record { size = refl; is = bad (file_first k ∙ (rw (head_no H))); stored = tt }
 
-  file_body : e < length bytes → length bytes ≤ cap → (is : Bool) {m i l o a : ℕ} → HeadIs (header_of (take (e - 0) (drop 0 bytes))) is m i l o a → is ≡ true → file_of bytes ≡ body_file (head m i l o a) (e + 1) bytes
-  file_body k b is {m} {i} {l} {o} {a} H t =
-      let Y = head_yes H t in
+  file_body : e < length bytes → length bytes ≤ cap → {x : Head} → HeadIs (header_of (take (e - 0) (drop 0 bytes))) (Some x) → file_of bytes ≡ body_file (head_of x) (e + 1) bytes
+  file_body k b {x} H =
+      let Y = head_yes H in
       let h = Y.h in
+      let o = x.outputs in
       let ls = lines_from bytes (e + 1) in
       let n = lines_length bytes (e + 1) in
       let s : all_spots h ls ≡ spots_at (with' h o) 0 ls = sym (spots_capped h o Y.cap ls (omega arith)) ∙ spots_all (with' h o) ls in
@@ -222,9 +200,5 @@ module _ (bytes : List ℕ) (e : ℕ) (d : e ≡ 0 + until 10 (drop 0 bytes)) wh
       file_first k ∙ (rw (Y.is, Y.same) (body_same h o (e + 1) bytes c s))
 
   -- what stands behind the header is judged
-  pub file_judged : e < length bytes → length bytes ≤ cap → (is : Bool) {m i l o a : ℕ} → HeadIs (header_of (take (e - 0) (drop 0 bytes))) is m i l o a → is ≡ true → {map map' w w' : List ℕ} {r : Verdict} → BodyJudged (head m i l o a) (e + 1) bytes map map' w w' r → FileJudged bytes w w' r
-  file_judged k b is H t B = record { size = B.size; is = rw (file_body k b is H t) B.is; stored = B.stored }
-
-  -- and can be
-  pub file_ahead : e < length bytes → (is : Bool) {m i l o a : ℕ} → HeadIs (header_of (take (e - 0) (drop 0 bytes))) is m i l o a → is ≡ true → {map w : List ℕ} → length map ≡ breadth → length w ≡ area → Begun m (e + 1) bytes map w
-  file_ahead k is H t v w = record { behind = record { few = head_few H t; some = omega arith; inside = omega arith }; wide = v; room = w }
+  pub file_judged : e < length bytes → length bytes ≤ cap → (x : Head) → HeadIs (header_of (take (e - 0) (drop 0 bytes))) (Some x) → {map map' w w' : List ℕ} {r : Result Body Refused} → BodyJudged (head_of x) (e + 1) bytes map map' w w' r → FileJudged bytes w w' r
+  file_judged k b x H B = record { size = B.size; is = rw (file_body k b H) B.is; stored = B.stored }

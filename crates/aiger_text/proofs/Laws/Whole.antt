@@ -19,7 +19,7 @@ use Rattle.aiger_form.specs.Windows.{stands_in, first_bad_in, earlier, under, wi
 use Rattle.aiger_form.proofs.Windows.{Rising, stop, step, bad_or, window_step, window_whole}
 use Rattle.aiger_form.proofs.Accepted.{fits, AllFit, all_fit}
 use Rattle.aiger_rows.specs.Rows.{stops_at}
-use Rattle.aiger_text.specs.Passes.{spots_at, fresh_in, first_again_in, breadth, area, lines_from, noted, store_item, store_all, Swept, Used, bad_in}
+use Rattle.aiger_text.specs.Passes.{spots_at, fresh_in, first_again_in, breadth, area, lines_from, store_item, store_all, Swept, Used, bad_in}
 use Rattle.aiger_text.specs.declared.passes.Sweep.{Sweep}
 use Rattle.aiger_text.specs.Whole.{judged_at, judged_in, Place, First}
 use Rattle.aiger_text.proofs.Laws.Passes.{spots_all, store_length}
@@ -263,9 +263,8 @@ sofar_start {H} {start} {bytes} {map₀} {map} {w₀} {w} {r} b k P =
     record { len = P.len ∙ b; room = ap length P.stored ∙ all_length ss w₀ ∙ k; cut_is = P.cut; is = omega arith; past = omega arith; same = λ h. refl }
 
 -- one window more
-pub sofar_step : {H : Header} {start lo first : ℕ} {bytes map map' w₀ w w' : List ℕ} {cut : Bool} {r : Sweep} {n : ℕ} → Sofar H start bytes map w₀ w cut lo first → lo ≤ H.variables → Place H start lo bytes map map' w w' r → n ≡ noted false first r.first → Sofar H start bytes map' w₀ w' cut (lo + 65536) n
-unfolding noted
-sofar_step {H} {start} {lo} {first} {bytes} {map} {map'} {w₀} {w} {w'} {cut} {r} {n} S h P e =
+pub sofar_step : {H : Header} {start lo first : ℕ} {bytes map map' w₀ w w' : List ℕ} {cut : Bool} {r : Sweep} {n : ℕ} → Sofar H start bytes map w₀ w cut lo first → lo ≤ H.variables → Place H start lo bytes map map' w w' r → n ≡ min first r.first → {lo' : ℕ} → lo' ≡ lo + 65536 → Sofar H start bytes map' w₀ w' cut lo' n
+sofar_step {H} {start} {lo} {first} {bytes} {map} {map'} {w₀} {w} {w'} {cut} {r} {n} S h P e {lo'} g =
     let ss = spots_at H 0 (lines_from bytes start) in
     let whole = not (is_cut H bytes (lines_from bytes start)) in
     let N = length bytes in
@@ -274,7 +273,7 @@ sofar_step {H} {start} {lo} {first} {bytes} {map} {map'} {w₀} {w} {w'} {cut} {
     let s = S.is in
     let v = window_step lo (lo + breadth) (omega arith) all (shown_rising whole (rising H start bytes)) in
     let q : min N (place_or N (first_bad_in (under (lo + breadth)) all [] (shown whole ss))) ≡ min first r.first = rw v (place_earlier N _ _ ∙ (rw (← p, ← s) refl)) in
-    record { len = P.len ∙ S.len; room = ap length P.stored ∙ all_length ss w ∙ S.room; cut_is = S.cut_is; is = e ∙ sym q; past = omega (arith, S.past); same = λ k. absurd (omega (arith, S.past)) }
+    rw g (record { len = P.len ∙ S.len; room = ap length P.stored ∙ all_length ss w ∙ S.room; cut_is = S.cut_is; is = e ∙ sym q; past = omega (arith, S.past); same = λ k. absurd (omega (arith, S.past)) })
 
 -- all windows
 pub sofar_end : {H : Header} {start lo first : ℕ} {bytes map₀ map₁ map w₀ w₁ w : List ℕ} {cut : Bool} {r : Sweep} → Sofar H start bytes map w₁ w cut lo first → Place H start 0 bytes map₀ map₁ w₀ w₁ r → length map₀ ≡ breadth → length w₀ ≡ area → H.variables < lo → start ≤ length bytes → First H start bytes map₀ map w₀ w (record { first = first; cut = cut })
@@ -296,7 +295,7 @@ not_cut : {H : Header} {start lo : ℕ} {bytes map₀ map w₀ w : List ℕ} {a 
 not_cut S b e = ap not (sym S.cut ∙ e)
 
 -- of a whole file
-pub place_whole : {H : Header} {start lo : ℕ} {bytes map₀ map map' w₀ w : List ℕ} {a : Sweep} {b n : ℕ} → length map ≡ length map₀ → Swept H start lo bytes map map' w₀ w a → a.cut ≡ false → Used H start lo bytes map' b → n ≡ noted false a.first b → Place H start lo bytes map₀ map' w₀ w (record { first = n; cut = false })
+pub place_whole : {H : Header} {start lo : ℕ} {bytes map₀ map map' w₀ w : List ℕ} {a : Sweep} {b n : ℕ} → length map ≡ length map₀ → Swept H start lo bytes map map' w₀ w a → a.cut ≡ false → Used H start lo bytes map' b → n ≡ min a.first b → Place H start lo bytes map₀ map' w₀ w (record { first = n; cut = false })
 unfolding judged_in bad_in
 place_whole {H} {start} {lo} {bytes} l S e U g = record { len = S.len ∙ l; cut = sym e ∙ S.cut; first = rw (not_cut S false e) (window_is S U g); stored = S.stored }
 

@@ -1,13 +1,11 @@
 -- A window's two passes find its first bad line. Assumes nothing.
-use Prim.Native.Nat.{ℕ, min, ◌+◌, ◌-◌, ◌≤◌, ◌<◌}
+use Prim.Native.Nat.{ℕ, zero, suc, min, ◌+◌, ◌-◌, ◌≤◌}
 use mathlib.Core.Path.{◌≡◌, refl, ap, ◌∙◌}
 use mathlib.Core.Bool.{Bool, true, false, ◌&&◌, ◌||◌}
 use mathlib.Core.List.{List, [], ◌∷◌, ◌++◌}
 use native.Mathlib.Omega.{arith}
-use lib.Dec.{eqb, ltb}
-use lib.ListN.{length, get_or, set, drop, get_or-eq_default}
-use lib.Seq.{get_or-set_same, get_or-set_other}
-use borrow.Author.Tests.{eqb-true, eqb-false, ltb-true, ltb-false}
+use lib.Dec.{eqb}
+use lib.ListN.{length, get_or, drop, replicate, length-replicate}
 use Rattle.rules.specs.Lists.{mem, every, keep}
 use Rattle.rules.proofs.Lists.Members.{split}
 use Rattle.aiger_form.specs.Text.{placed, parts}
@@ -116,10 +114,15 @@ unknown_same f xs ys e (s ∷ ss) =
 
 -- ---- the call
 
+zeros : (n k : ℕ) → ◌≡◌ {A = ℕ} (get_or (replicate n 0) k 0) 0
+zeros zero k = refl
+zeros (suc n) zero = refl
+zeros (suc n) (suc k) = zeros n k
+
 -- a cleared map has no mark
-pub blank_marks : (lo : ℕ) (map : List ℕ) → length map ≡ breadth → ((k : ℕ) → get_or map k 0 ≡ 0) → Marks lo [] map
+pub blank_marks : (lo : ℕ) {map : List ℕ} (n : ℕ) → map ≡ replicate n 0 → n ≡ breadth → Marks lo [] map
 unfolding mem
-blank_marks lo map w z = record { wide = w; are = λ v a b. rw (z (v - lo)) }
+blank_marks lo n e w = record { wide = ap length e ∙ length-replicate n 0 ∙ w; are = λ v a b. rw (e, zeros n (v - lo)) }
 
 -- places rise
 pub rising : (H : Header) (start : ℕ) (bytes : List ℕ) → Rising start (spots_at H 0 (lines_from bytes start))
@@ -127,8 +130,8 @@ unfolding lines_from
 rising H start bytes = rw (spots_all H (placed start (parts 10 (drop start bytes)))) at (all_rising H start (parts 10 (drop start bytes)))
 
 -- a window's two passes find its first bad line
-pub window_is : {H : Header} {start lo : ℕ} {bytes map₀ map w₀ w : List ℕ} {a : Sweep} {b r : ℕ} → Swept H start lo bytes map₀ map w₀ w a → Used H start lo bytes map b → r ≡ noted false a.first b → r ≡ bad_in H start lo bytes
-unfolding bad_in noted
+pub window_is : {H : Header} {start lo : ℕ} {bytes map₀ map w₀ w : List ℕ} {a : Sweep} {b r : ℕ} → Swept H start lo bytes map₀ map w₀ w a → Used H start lo bytes map b → r ≡ min a.first b → r ≡ bad_in H start lo bytes
+unfolding bad_in
 window_is {H} {start} {lo} {bytes} {map₀} {map} {w₀} {w} {a} {b} {r} S U e =
     let ss = spots_at H 0 (lines_from bytes start) in
     let f = window lo (lo + breadth) in
@@ -140,16 +143,3 @@ window_is {H} {start} {lo} {bytes} {map₀} {map} {w₀} {w} {a} {b} {r} S U e =
     omega arith
 
 -- ---- clearing
-
--- one byte more
-pub clear_more : (map : List ℕ) (i : ℕ) → i < length map → ((k : ℕ) → k < i → get_or map k 0 ≡ 0) → (k : ℕ) → k < i + 1 → get_or (set map i 0) k 0 ≡ 0
-clear_more map i h z k l = split (eqb k i)
-    (λ t. let q = eqb-true k i t in rw q (get_or-set_same map i 0 0 h))
-    (λ t. let q = eqb-false k i t in get_or-set_other map i k 0 0 q ∙ z k (lower k i l q))
-  where
-    lower : (a b : ℕ) → a < b + 1 → (a ≡ b → ⊥) → a < b
-    lower a b l q = split (ltb a b) (λ t. ltb-true a b t) (λ t. absurd (q (omega (arith, ltb-false a b t))))
-
--- all bytes
-pub clear_all : (map : List ℕ) (i : ℕ) → length map ≤ i → ((k : ℕ) → k < i → get_or map k 0 ≡ 0) → (k : ℕ) → get_or map k 0 ≡ 0
-clear_all map i h z k = split (ltb k i) (λ t. z k (ltb-true k i t)) (λ t. get_or-eq_default map 0 (omega (arith, ltb-false k i t)))

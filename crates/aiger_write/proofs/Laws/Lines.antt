@@ -15,7 +15,7 @@ use Rattle.rules.specs.Listing.{text, decimal, spaced}
 use Rattle.graph.proofs.Gates.{graph_at, drop_two}
 use Rattle.rules.proofs.Lists.Members.{split, true_false, count-append}
 use Rattle.aiger_form.specs.Text.{numbers_line}
-use Rattle.aiger_form.specs.Aag.{is_leaf_pin, header_line}
+use Rattle.aiger_form.specs.Aag.{header_line}
 use Rattle.aiger_write.specs.Lines.{is_input, gate_node, is_gate, row_text, input_text, latch_text, output_text, node_text, gate_text, head_text}
 use Rattle.listing_lines.specs.Laid.{Laid}
 use Rattle.listing_lines.proofs.Laws.Laid.{laid_none, laid_as, laid_more, laid_size}
@@ -102,16 +102,6 @@ unfolding row_text numbers_line spaced
 number_row l q e = rw (e, append-nil) refl
 
 module _ (gates marks : List ℕ) (p : ℕ) where
-  -- no leaf is no input
-  pub input_other : is_leaf_pin (graph_of gates) p ≡ false → false ≡ is_input gates marks p
-  unfolding is_input
-  input_other f = rw f refl
-
-  -- a leaf is one where it has no mark
-  pub input_mark : is_leaf_pin (graph_of gates) p ≡ true → (q : ℕ) → q ≡ p → eqb (get_or marks q 0) 0 ≡ is_input gates marks p
-  unfolding is_input
-  input_mark t q e = rw (t, e) refl
-
   -- no input has no line
   pub input_none : is_input gates marks p ≡ false → [] ≡ input_text gates marks p
   unfolding input_text

@@ -32,17 +32,13 @@ module _ (g : List Node) (p : ℕ) where
   pub leaf_zero : p ≡ 0 → false ≡ is_leaf_pin g p
   leaf_zero z = out_by (rw (le-ltb 0 p (omega arith)) refl) (get_or g p leaf) refl
 
-  -- nor is a pin above N
-  pub leaf_past : length g ≤ p → false ≡ is_leaf_pin g p
-  leaf_past h = out_by (rw (le-ltb p (length g) h) (and_none (ltb 0 p))) (get_or g p leaf) refl
-
   -- nor a gate's
   pub leaf_gate : {a b : ℕ} → gate a b ≡ get_or g p leaf → false ≡ is_leaf_pin g p
   leaf_gate {a} {b} e = sym (leaf_by (gate a b) (sym e))
 
-  -- any other is one
-  pub leaf_yes : (p ≡ 0 → ⊥) → p < length g → leaf ≡ get_or g p leaf → true ≡ is_leaf_pin g p
-  leaf_yes z h e = sym (leaf_by leaf (sym e) ∙ rw (lt-ltb 0 p (omega arith), lt-ltb p (length g) h) refl)
+  -- a leaf of the graph above pin 0 is one
+  pub leaf_is : 0 < p → leaf ≡ get_or g p leaf → ltb p (length g) ≡ is_leaf_pin g p
+  leaf_is h e = sym (leaf_by leaf (sym e) ∙ rw (lt-ltb 0 p h) refl)
 
   -- a leaf's pin is above 0 and at most N
   pub leaf_inside : is_leaf_pin g p ≡ true → p < length g

@@ -10,6 +10,10 @@ use Rattle.rules.specs.Records.{read}
 use Rattle.rules.specs.Checks.{refusal_of}
 use Rattle.rules.proofs.Lists.Members.{true_false, every_in}
 use Rattle.graph.proofs.Gates.{graph_length}
+use Rattle.std.specs.Prelude.{Result, Ok, Err, is_err}
+use Rattle.refusals.specs.declared.Refusal.{Refusal}
+use Rattle.refusals.proofs.Numbers.{number_above}
+use Rattle.checks.specs.Values.{Says}
 use Rattle.checks.specs.Passed.{Passed}
 use Rattle.checks.proofs.Laws.Passed.{passed}
 use Rattle.aiger_form.specs.Aag.{Netlist, any_height, checked, is_leaf_pin}
@@ -45,17 +49,25 @@ module _ (gates given records latches m m' : List ℕ) where
   judged_given h = judged_no (λ N. h (ap length N.none))
 
   -- a check that refuses
-  pub judged_checks : {k : ℕ} → k ≡ refusal_of any_height true gates given records → (k ≡ 0 → ⊥) → Judged given (netlist_of gates records latches) m false m'
+  pub judged_checks : {A : Type 0} {v : Result A Refusal} → Says (refusal_of any_height true gates given records) gates v → is_err v ≡ true → Judged given (netlist_of gates records latches) m false m'
   unfolding checked
-  judged_checks e h = judged_no (λ N. h (e ∙ ap (λ (v : List ℕ). refusal_of any_height true gates v records) N.none ∙ N.passes))
+  judged_checks {A} {v} S e = judged_no (λ N. some v S e (ap (λ (x : List ℕ). refusal_of any_height true gates x records) N.none ∙ N.passes))
+    where
+      some : (v : Result A Refusal) → Says (refusal_of any_height true gates given records) gates v → is_err v ≡ true → refusal_of any_height true gates given records ≡ 0 → ⊥
+      some (Ok x) S e z = absurd (cc)
+      some (Err r) S e z = omega (arith, S.number, number_above r)
 
   -- records of another shape
   pub judged_shape : shaped (length latches) records ≡ false → Judged given (netlist_of gates records latches) m false m'
   judged_shape f = judged_no (λ N. true_false (ap (λ (k : ℕ). shaped k records) (sym N.as_many) ∙ ap (shaped (length N.inputs)) (named_flat N) ∙ flat_shaped N.inputs N.outs) f)
 
-  module _ {k : ℕ} (none : length given ≡ 0) (e : k ≡ refusal_of any_height true gates given records) (z : k ≡ 0) (zeros : m ≡ replicate 65536 0) where
+  module _ {A : Type 0} {v : Result A Refusal} (none : length given ≡ 0) (S : Says (refusal_of any_height true gates given records) gates v) (e : is_err v ≡ false) (zeros : m ≡ replicate 65536 0) where
+    passes : (v : Result A Refusal) → Says (refusal_of any_height true gates given records) gates v → is_err v ≡ false → refusal_of any_height true gates given records ≡ 0
+    passes (Ok x) S e = sym S.number
+    passes (Err r) S e = absurd (cc)
+
     free : refusal_of any_height true gates [] records ≡ 0
-    free = ap (λ (v : List ℕ). refusal_of any_height true gates v records) (sym (no_list given none)) ∙ sym e ∙ z
+    free = ap (λ (v : List ℕ). refusal_of any_height true gates v records) (sym (no_list given none)) ∙ passes v S e
 
     -- each pin has a place for its mark
     pub marks_long : pin_count gates ≤ length m

@@ -1,7 +1,7 @@
 -- Flip-flops, and outputs behind them, tested number by number. Assumes nothing.
-use Prim.Native.Nat.{ℕ, zero, suc, ◌+◌, ◌-◌, ◌*◌, ◌≤◌, ◌<◌}
+use Prim.Native.Nat.{min, ℕ, zero, suc, ◌+◌, ◌-◌, ◌*◌, ◌≤◌, ◌<◌}
 use mathlib.Core.Path.{◌≡◌, refl, sym, ap, ◌∙◌}
-use mathlib.Core.Bool.{Bool, true, false, ◌&&◌}
+use mathlib.Core.Bool.{true, false, ◌&&◌}
 use mathlib.Core.List.{List, [], ◌∷◌, ◌++◌, map}
 use native.Mathlib.Omega.{arith}
 use lib.Dec.{ltb, eqb}
@@ -36,23 +36,7 @@ module _ (xs : List ℕ) (at : ℕ) where
   unfolding flip_at
   flip_enable k h = rw (lt-ltb 2 (length (drop at xs)) (omega (arith, length-drop at xs)), first, eq-eqb (get_or xs at 0) 2 k, get_or-drop at xs 1 0)
 
-  -- fewer than two numbers are no output
-  pub output_short : length xs - at < 2 → false ≡ output_at (drop at xs)
-  unfolding output_at
-  output_short h = rw (le-ltb 1 (length (drop at xs)) (omega (arith, length-drop at xs)))
-
-  -- the kind decides
-  pub output_kind : 2 ≤ length xs - at → eqb (get_or xs at 0) 1 ≡ output_at (drop at xs)
-  unfolding output_at
-  output_kind h = rw (lt-ltb 1 (length (drop at xs)) (omega (arith, length-drop at xs)), first)
-
 -- ---- record after record
-
-outputs_front : (xs : List ℕ) → 0 < length xs → outputs_only xs ≡ output_at xs && outputs_only (drop 2 xs)
-unfolding outputs_only output_at
-outputs_front [] h = absurd (omega arith)
-outputs_front (k ∷ []) h = refl
-outputs_front (k ∷ l ∷ xs) h = rw (lt-ltb 1 (suc (suc (length xs))) (omega arith)) refl
 
 flips_front : (n : ℕ) (xs : List ℕ) → shaped (suc n) xs ≡ flip_at xs && shaped n (drop 3 xs)
 unfolding shaped flip_at
@@ -65,57 +49,48 @@ flip_room : (xs : List ℕ) (at : ℕ) → flip_at (drop at xs) ≡ true → at 
 unfolding flip_at
 flip_room xs at t = omega (arith, length-drop at xs, ltb-true 2 (length (drop at xs)) (and_true (ltb 2 (length (drop at xs))) (eqb (get_or (drop at xs) 0 0) 2 && eqb (get_or (drop at xs) 1 0) 1) t).0)
 
-output_room : (xs : List ℕ) (at : ℕ) → output_at (drop at xs) ≡ true → at + 2 ≤ length xs
-unfolding output_at
-output_room xs at t = omega (arith, length-drop at xs, ltb-true 1 (length (drop at xs)) (and_true (ltb 1 (length (drop at xs))) (eqb (get_or (drop at xs) 0 0) 1) t).0)
+-- the chunk of two in front, which is short where less is left
+pub outputs_cut : (ys zs : List ℕ) → length ys ≡ min 2 (length (ys ++ zs)) → 0 < length (ys ++ zs) → outputs_only (ys ++ zs) ≡ output_at ys && outputs_only zs
+unfolding outputs_only output_at
+outputs_cut [] zs e h = absurd (omega arith)
+outputs_cut (k ∷ []) [] e h = refl
+outputs_cut (k ∷ []) (z ∷ zs) e h = absurd (omega arith)
+outputs_cut (k ∷ l ∷ []) zs e h = refl
+outputs_cut (k ∷ l ∷ m ∷ ys) zs e h = absurd (omega arith)
 
--- the outputs from an index on are those that are left
-pub record Left (whole : Bool) (xs : List ℕ) (at : ℕ) : Type 0 where
-  pub inside : at ≤ length xs
-  pub same : whole ≡ outputs_only (drop at xs)
+-- none is left
+pub outputs_end : (xs : List ℕ) → length xs ≡ 0 → true ≡ outputs_only xs
+unfolding outputs_only
+outputs_end [] e = refl
+outputs_end (x ∷ xs) e = absurd (omega arith)
 
-module _ {whole : Bool} {xs : List ℕ} {at : ℕ} (L : Left whole xs at) where
-  -- something that is no output
-  pub outputs_none : at < length xs → output_at (drop at xs) ≡ false → false ≡ whole
-  outputs_none h f = sym (L.same ∙ outputs_front (drop at xs) (omega (arith, length-drop at xs)) ∙ rw f refl)
+-- i flip-flops stand in front, and so many are left
+pub record Flips (n : ℕ) (xs : List ℕ) (i : ℕ) : Type 0 where
+  pub inside : 3 * i ≤ length xs
+  pub same : shaped n xs ≡ shaped (n - i) (drop (3 * i) xs)
 
-  -- one output more
-  pub outputs_more : at < length xs → output_at (drop at xs) ≡ true → Left whole xs (at + 2)
-  outputs_more h t = record {
-    inside = output_room xs at t;
-    same = L.same ∙ outputs_front (drop at xs) (omega (arith, length-drop at xs)) ∙ rw (t, drop-drop 2 at xs) refl;
-  }
+-- at first none does
+pub flips_start : (n : ℕ) (xs : List ℕ) → Flips n xs 0
+flips_start n xs = let e : n - 0 ≡ n = omega arith in record { inside = omega arith; same = rw e }
 
-  -- none is left
-  pub outputs_end : length xs ≤ at → true ≡ whole
-  unfolding outputs_only
-  outputs_end h = sym (L.same ∙ ap outputs_only (gone (drop at xs) (omega (arith, length-drop at xs))))
-    where
-      gone : (ys : List ℕ) → length ys ≡ 0 → ys ≡ []
-      gone [] e = refl
-      gone (y ∷ ys) e = absurd (omega arith)
+flips_step : {n : ℕ} {xs : List ℕ} {i : ℕ} → Flips n xs i → i < n → shaped n xs ≡ flip_at (drop (3 * i) xs) && shaped (n - (i + 1)) (drop 3 (drop (3 * i) xs))
+flips_step {n} {xs} {i} F h = let e : n - i ≡ suc (n - (i + 1)) = omega arith in F.same ∙ ap (λ (k : ℕ). shaped k (drop (3 * i) xs)) e ∙ flips_front (n - (i + 1)) (drop (3 * i) xs)
 
--- so many flip-flops are left from an index on
-pub record Flips (whole : Bool) (xs : List ℕ) (at left : ℕ) : Type 0 where
-  pub inside : at ≤ length xs
-  pub same : whole ≡ shaped left (drop at xs)
-
-flips_step : {whole : Bool} {xs : List ℕ} {at left : ℕ} → Flips whole xs at left → 0 < left → whole ≡ flip_at (drop at xs) && shaped (left - 1) (drop 3 (drop at xs))
-flips_step {whole} {xs} {at} {left} F h = let e : left ≡ suc (left - 1) = omega arith in F.same ∙ ap (λ (n : ℕ). shaped n (drop at xs)) e ∙ flips_front (left - 1) (drop at xs)
-
-module _ {whole : Bool} {xs : List ℕ} {at left : ℕ} (F : Flips whole xs at left) where
+module _ {n : ℕ} {xs : List ℕ} {i : ℕ} (F : Flips n xs i) where
   -- something that is no flip-flop
-  pub flips_none : 0 < left → flip_at (drop at xs) ≡ false → false ≡ whole
+  pub flips_none : i < n → flip_at (drop (3 * i) xs) ≡ false → false ≡ shaped n xs
   flips_none h f = sym (flips_step F h ∙ rw f refl)
 
   -- one flip-flop more
-  pub flips_more : 0 < left → flip_at (drop at xs) ≡ true → Flips whole xs (at + 3) (left - 1)
-  flips_more h t = record { inside = flip_room xs at t; same = flips_step F h ∙ rw (t, drop-drop 3 at xs) refl }
+  pub flips_more : i < n → flip_at (drop (3 * i) xs) ≡ true → Flips n xs (i + 1)
+  flips_more h t =
+      let e : 3 * (i + 1) ≡ 3 * i + 3 = omega arith in
+      record { inside = omega (arith, flip_room xs (3 * i) t); same = flips_step F h ∙ rw (t, drop-drop 3 (3 * i) xs, e) refl }
 
-  -- none is left: the outputs decide
-  pub flips_end : left ≤ 0 → outputs_only (drop at xs) ≡ whole
-  unfolding shaped
-  flips_end h = let e : left ≡ 0 = omega arith in sym (F.same ∙ ap (λ (n : ℕ). shaped n (drop at xs)) e)
+-- none is left: the outputs decide
+pub flips_end : {n : ℕ} {xs : List ℕ} → Flips n xs n → outputs_only (drop (3 * n) xs) ≡ shaped n xs
+unfolding shaped
+flips_end {n} {xs} F = let e : n - n ≡ 0 = omega arith in sym (F.same ∙ ap (λ (k : ℕ). shaped k (drop (3 * n) xs)) e)
 
 -- ---- and as lists
 

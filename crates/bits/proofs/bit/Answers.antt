@@ -3,4 +3,4 @@ use Rattle.bits.proofs.Laws.Fields.{bit_at}
 use Rattle.bits.proofs.bit.Goals as goal
 
 pub returns : goal.returns
-returns c = let a = c.args in cc (bit_at a.bytes.now a.at c.requires, c.wide.ensures)
+returns c = let a = c.args in cc (bit_at a.bytes.now a.at c.requires, c.from.ensures)

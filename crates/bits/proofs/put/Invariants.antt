@@ -4,6 +4,3 @@ use Rattle.bits.proofs.put.Given as goal
 
 abbrev pub invariant-loop-left : goal.invariant-loop-left
 invariant-loop-left l = Going l.n l.w l.left l.from l.at l.initial.bytes l.bytes
-
-abbrev pub decreases-loop-left : goal.decreases-loop-left
-decreases-loop-left l = l.left

@@ -4,11 +4,11 @@ use native.Mathlib.Omega.{arith}
 use Rattle.bits.proofs.Laws.Putting.{bit_put, bit_past}
 use Rattle.bits.proofs.put_bit.Goals as goal
 
-pub returns-then-bytes-i : goal.returns-then-bytes-i
-returns-then-bytes-i c = let a = c.args in bit_past a.bytes.now a.at a.b c.if-bytes-i.true
+pub returns-else-i-bytes : goal.returns-else-i-bytes
+returns-else-i-bytes c = let a = c.args in bit_past a.bytes.now a.at a.b c.if-i-bytes.false
 
 pub with_bit-requires : goal.with_bit-requires
-with_bit-requires c = record { byte = omega (arith, c.wide.ensures, c.slice_known-2-1.given (c.args.at / 8)); inside = omega arith; bit = c.requires }
+with_bit-requires c = record { byte = omega (arith, c.from.ensures, c.type_inv.bytes (c.args.at / 8)); inside = omega arith; bit = c.requires }
 
-pub returns : goal.returns
-returns c = let a = c.args in bit_put a.bytes.now a.at a.b _ c.if-bytes-i.false (rw c.wide.ensures at c.with_bit.ensures)
+pub returns-then-i-bytes : goal.returns-then-i-bytes
+returns-then-i-bytes c = let a = c.args in bit_put a.bytes.now a.at a.b _ c.if-i-bytes.true (rw c.from.ensures at c.with_bit.ensures)

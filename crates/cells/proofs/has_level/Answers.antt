@@ -7,4 +7,4 @@ pub returns-then-is_height : goal.returns-then-is_height
 returns-then-is_height c = sym (level_tested _ _ (sym c.is_height.ensures ∙ c.if-is_height.true))
 
 pub returns-else-is_height : goal.returns-else-is_height
-returns-else-is_height c = sym (level_none _ _ (sym c.is_height.ensures ∙ c.if-is_height.false))
+returns-else-is_height c = c.if-is_height.false ∙ sym (level_none _ _ (sym c.is_height.ensures ∙ c.if-is_height.false))

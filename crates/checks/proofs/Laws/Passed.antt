@@ -1,6 +1,6 @@
 -- What passing the checks 1, 2, 3, 23, 4, 5 gives. Assumes nothing.
 use Prim.Native.Nat.{ℕ, zero, suc, ◌+◌, ◌*◌, ◌%◌, ◌≤◌, ◌<◌}
-use mathlib.Core.Bool.{Bool, true, false, ◌&&◌}
+use mathlib.Core.Bool.{Bool, true, ◌&&◌}
 use mathlib.Core.Logic.{inl, inr}
 use mathlib.Core.List.{List, [], ◌∷◌}
 use mathlib.Core.Path.{◌≡◌, refl, sym, ap, ◌∙◌}
@@ -20,7 +20,7 @@ use Rattle.rules.proofs.Walk.Reverse.{below_in}
 use Rattle.records.specs.Values.{size_at, endpoint_at}
 use Rattle.graph.proofs.Gates.{graph_length}
 use Rattle.graph_loops.specs.Marks.{Inside}
-use Rattle.records.proofs.Reading.{read_step, read_end, read_cut, size_endpoints, endpoint_is}
+use Rattle.records.proofs.Reading.{Stands, standing, read_step, read_end, read_cut, size_endpoints, endpoint_is}
 use Rattle.checks.proofs.Laws.Refusing.{refusal_1, refusal_2, refusal_3, refusal_23, refusal_4, refusal_5}
 
 -- The checks after 1 ask for no height: any two heights get the same refusal.
@@ -153,6 +153,10 @@ module _ (xs : List ℕ) (at : ℕ) (gs : List Group) (e : read (drop at xs) ≡
   read_next h = split (whole_at (drop at xs))
       (λ t. let r = and_rest (group_at (drop at xs)) (read (drop (at + (1 + size_of (get_or xs at 0))) xs)) gs (sym (read_step xs at t) ∙ e) in record { whole = t; rest = r.0; these = r.1; others = r.2 })
       (λ t. absurd (let d : unreadable ≡ groups gs = sym (read_cut xs at h t) ∙ e in let z : ◌≡◌ {A = ℕ} 0 1 = cc in omega arith))
+
+  -- so a record stands there
+  pub read_stands : at < length xs → Stands xs at
+  read_stands h = standing xs at (read_next h).whole
 
   -- past the end no group is left to read
   pub read_last : length xs ≤ at → gs ≡ []

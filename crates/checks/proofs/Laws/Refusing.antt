@@ -1,8 +1,8 @@
 -- The first refusal that applies. Assumes nothing.
-use Prim.Native.Nat.{ℕ, ◌%◌, ◌≤◌, ◌<◌}
+use Prim.Native.Nat.{ℕ, ◌%◌}
 use mathlib.Core.Bool.{Bool, true, false, ◌&&◌}
 use mathlib.Core.List.{List}
-use mathlib.Core.Path.{◌≡◌, refl, sym, ◌∙◌, ap}
+use mathlib.Core.Path.{◌≡◌, sym, ◌∙◌, ap}
 use native.Mathlib.Omega.{arith}
 use lib.ListN.{length}
 use lib.Dec.{leb}
@@ -11,12 +11,14 @@ use Rattle.rules.specs.Cells.{is_height}
 use Rattle.rules.specs.Graph.{graph_of, pin_count}
 use Rattle.rules.specs.Checks.{nodes_right, graph_right, loops_right, records_right, given_right, refusal_of, pin_found, pin_shown}
 use Rattle.rules.specs.Loops.{loop_pin, is_nothing, loopless}
-use Rattle.rules.proofs.Lists.Members.{split, true_false}
+use Rattle.rules.proofs.Lists.Members.{split}
 use Rattle.graph.specs.declared.Pin.{Pin}
-use Rattle.graph_loops.specs.declared.Looped.{Looped}
-use Rattle.graph_loops.specs.declared.Looped.TheVariants.{At, Free}
+use Rattle.std.specs.Prelude.{Option, Some, None, Result, Err}
+use Rattle.refusals.specs.declared.Refusal.{Refusal}
+use Rattle.refusals.specs.declared.Refusal.TheVariants.{Loop}
+use Rattle.refusals.specs.Numbers.{number_said, pin_said}
+use Rattle.refusals.proofs.Numbers.{number_is}
 use Rattle.graph_loops.specs.Answers.{loop_for}
-use Rattle.checks.specs.declared.Verdict.{Verdict}
 use Rattle.checks.specs.Values.{graph_sized, graph_refusal, Says}
 
 module _ (gates : List ℕ) where
@@ -68,27 +70,31 @@ unfolding pin_shown
 pin_none_lem n gates h = rw (ne_eqb n 23 h, pin_shown)
 
 -- a number but 23 shows none
-pub says : (n k : ℕ) (gates : List ℕ) (r : Verdict) → r.number ≡ k → r.pin.0 ≡ 0 → k ≡ n → (k ≡ 23 → ⊥) → Says n gates r
-says n k gates r a b e h = record { number = a ∙ e; pin = b ∙ pin_none_lem n gates (λ z. h (e ∙ z)) }
+pub says : {A : Type 0} {n : ℕ} {gates : List ℕ} {r : Result A Refusal} → pin_said r ≡ 0 → (number_said r ≡ 23 → ⊥) → number_said r ≡ n → Says n gates r
+says {n = n} {gates = gates} p h e = record { number = e; pin = p ∙ pin_none_lem n gates (λ z. h (e ∙ z)) }
+
+-- what is refused has another number than 0
+pub refused : {A : Type 0} {n : ℕ} {gates : List ℕ} {e : Refusal} → Says {A = A} n gates (Err e) → n ≡ 0 → ⊥
+refused {e = e} S z = number_is e (S.number ∙ z)
 
 -- a verdict tells a number by any other name for it
-pub says_same : {n k : ℕ} {gates : List ℕ} {r : Verdict} → Says n gates r → n ≡ k → Says k gates r
+pub says_same : {n k : ℕ} {gates : List ℕ} {A : Type 0} {r : Result A Refusal} → Says n gates r → n ≡ k → Says k gates r
 says_same S e = rw e at S
 
 -- what the search for a loop tells
-module _ (gates : List ℕ) (r : Looped) (d : loop_for r ≡ loop_pin (graph_of gates)) where
+module _ (gates : List ℕ) (r : Option Pin) (d : loop_for r ≡ loop_pin (graph_of gates)) where
   -- no pin on a loop: the graph passes the check for loops
-  pub loops_none : r ≡ Free → loops_right gates ≡ true
+  pub loops_none : r ≡ None → loops_right gates ≡ true
   unfolding loops_right loopless loop_for is_nothing
   loops_none e = ap is_nothing (sym d ∙ ap loop_for e)
 
   -- a pin on a loop: the graph fails it
-  pub loops_some : (p : Pin) → r ≡ At p → loops_right gates ≡ false
+  pub loops_some : (p : Pin) → r ≡ Some p → loops_right gates ≡ false
   unfolding loops_right loopless loop_for is_nothing
   loops_some p e = ap is_nothing (sym d ∙ ap loop_for e)
 
   -- 23 is told with the smallest pin on a loop
-  pub says_looped : (n : ℕ) (p : Pin) → 23 ≡ n → r ≡ At p → Says n gates (record { number = 23; pin = p })
+  pub says_looped : {A : Type 0} (n : ℕ) (p : Pin) → 23 ≡ n → r ≡ Some p → Says {A = A} n gates (Err (Loop p))
   unfolding pin_shown pin_found loop_for
   says_looped n p e c = record { number = e; pin = rw (← e) (ap pin_found (ap loop_for (sym c) ∙ d)) }
 

@@ -2,10 +2,10 @@
 use Prim.Native.Nat.{ℕ, zero, suc, ◌+◌, ◌*◌, ◌≤◌, ◌<◌}
 use mathlib.Core.Bool.{Bool, true, false, not}
 use mathlib.Core.List.{List, [], ◌∷◌}
-use mathlib.Core.Path.{◌≡◌, refl, sym, ap, ◌∙◌}
+use mathlib.Core.Path.{◌≡◌, refl, sym, ◌∙◌}
 use native.Mathlib.Numerals.{add-one}
 use native.Mathlib.Omega.{arith}
-use lib.ListN.{length, get_or, drop}
+use lib.ListN.{get_or}
 use borrow.Author.Count.{below_more}
 use borrow.Author.Tests.{lt-ltb}
 use Rattle.rules.specs.Graph.{Node, leaf, gate, pin_of, node_of, graph_of, pin_count}
@@ -19,7 +19,6 @@ use Rattle.checks.specs.Values.{graph_sized, Rising}
 use Rattle.checks.proofs.Laws.Gates.{nodes_end}
 use Rattle.checks.proofs.Laws.Turns.{NodesLeft, nodes_begin, nodes_more, pins_are}
 use Rattle.checks.proofs.Laws.Refusing.{size_right}
-use Rattle.checks.specs.Passed.{Below}
 use Rattle.checks.proofs.Laws.Passed.{gate_below, gates_below, operand_above, inside}
 
 -- what is right among p pins is so among more

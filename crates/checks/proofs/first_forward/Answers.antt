@@ -1,4 +1,3 @@
-use Prim.Native.Nat.{◌-◌}
 use native.Mathlib.Omega.{arith}
 use Rattle.checks.proofs.Laws.Rising.{rising_begin, rising_more, rising, rising_end}
 use Rattle.checks.proofs.first_forward.Goals as goal

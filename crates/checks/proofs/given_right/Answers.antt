@@ -1,22 +1,22 @@
-use native.Mathlib.Omega.{arith}
-use Prim.Native.Nat.{◌-◌}
+-- `checks::given_right` meets its contract. Assumes nothing.
+use Prim.Native.Nat.{ℕ, ◌<◌}
+use mathlib.Core.Bool.{true}
+use mathlib.Core.Path.{◌≡◌}
+use lib.Dec.{ltb}
+use lib.ListN.{get_or, length}
+use borrow.Author.Rules.{rules}
+use borrow.Author.Tests.{lt-ltb, ltb-true}
 use Rattle.rules.specs.Checks.{given_right}
-use Rattle.checks.proofs.Laws.Turns.{every_begin, every_more, every_wrong, every_done}
+use Rattle.rules.proofs.Lists.Members.{every_told}
 use Rattle.checks.proofs.given_right.Goals as goal
+use Rattle.checks.proofs.given_right.Goals.{After-all}
 
-pub loop-i-init : goal.loop-i-init
-loop-i-init c = every_begin _ _
+to : (c : After-all) → c.all.result ≡ true → (k : ℕ) → k < length c.args.given.now → get_or c.args.given.now k 0 < c.args.pins
+to c = search rules
 
-pub returns-then-pins-wide : goal.returns-then-pins-wide
-unfolding given_right
-returns-then-pins-wide c = every_wrong _ _ _ c.loop-i.invariant c.loop-i-test.true (rw c.wide.ensures at c.if-pins-wide.true)
-
-pub loop-i-smaller : goal.loop-i-smaller
-loop-i-smaller c = omega arith
-
-pub loop-i-preserved : goal.loop-i-preserved
-loop-i-preserved c = every_more _ _ _ c.loop-i.invariant c.loop-i-test.true (rw c.wide.ensures at c.if-pins-wide.false)
+from : (c : After-all) → ((k : ℕ) → k < length c.args.given.now → get_or c.args.given.now k 0 < c.args.pins) → c.all.result ≡ true
+from c = search rules
 
 pub returns : goal.returns
 unfolding given_right
-returns c = every_done _ _ _ c.loop-i.invariant c.loop-i-test.false
+returns c = every_told (λ p. ltb p c.args.pins) _ _ (λ t k h. lt-ltb _ _ (to c t k h)) (λ a. from c (λ k h. ltb-true _ _ (a k h)))

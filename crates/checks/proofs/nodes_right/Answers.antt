@@ -1,4 +1,3 @@
-use Prim.Native.Nat.{◌-◌}
 use native.Mathlib.Omega.{arith}
 use Rattle.checks.proofs.Laws.Turns.{nodes_more, nodes_wrong, nodes_done}
 use Rattle.checks.proofs.Laws.Rising.{rising_left}

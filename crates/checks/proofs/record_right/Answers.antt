@@ -1,6 +1,5 @@
 use Rattle.checks.proofs.Laws.Turns.{pins_begin, pins_more, pins_wrong, pins_done}
 use native.Mathlib.Omega.{arith}
-use Prim.Native.Nat.{◌-◌}
 use Rattle.checks.proofs.record_right.Goals as goal
 
 pub loop-i-init : goal.loop-i-init

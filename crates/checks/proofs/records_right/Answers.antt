@@ -1,5 +1,4 @@
 use native.Mathlib.Omega.{arith}
-use Prim.Native.Nat.{◌-◌}
 use mathlib.Core.Path.{sym, ◌∙◌}
 use Rattle.rules.proofs.Bools.{no, yes}
 use Rattle.checks.proofs.Laws.Turns.{records_many, records_begin, records_cut, records_wrong, records_more, records_done}

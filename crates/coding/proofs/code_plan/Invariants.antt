@@ -1,11 +1,8 @@
-use Prim.Native.Nat.{◌-◌}
+use Prim.Native.Nat.{◌*◌}
 use Rattle.rules.specs.Graph.{graph_of}
 use Rattle.coding.proofs.Plans.{Reached}
 use Rattle.coding.proofs.code_plan.Given as goal
 
--- `coding::code_plan` meets its contract: the stages before `at` are coded. Assumes nothing.
+-- `coding::code_plan` meets its contract: the first k stages are coded. Assumes nothing.
 abbrev pub invariant-loop-k : goal.invariant-loop-k
-invariant-loop-k l = Reached l.height.0 l.n (graph_of l.gates) l.initial.plan l.k l.at l.plan
-
-abbrev pub decreases-loop-k : goal.decreases-loop-k
-decreases-loop-k l = l.n - l.k
+invariant-loop-k l = Reached l.height.0 l.n (graph_of l.gates) l.initial.plan l.k (l.k * l.size) l.plan

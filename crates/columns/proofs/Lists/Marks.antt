@@ -7,14 +7,13 @@ use Prim.Native.Nat.{ℕ, ◌+◌, ◌*◌, ◌<◌, ◌≤◌}
 use native.Mathlib.Omega.{arith}
 use native.Mathlib.Decide.{ℕ_discrete}
 use lib.Dec.{eqb}
-use lib.ListN.{length, get_or, set, length-set, replicate, length-replicate, get_or-replicate}
+use lib.ListN.{length, get_or, set, length-set}
 use Rattle.rules.specs.Lists.{mem, insert, In, Out, nobody}
 use Rattle.rules.proofs.Lists.Members.{in_insert}
 use Rattle.rules.proofs.Written.Words.{once_insert}
-use Rattle.columns.specs.Area.{put, Room, Frame, among}
+use Rattle.columns.specs.Area.{Room, Frame, among}
 use Rattle.columns.specs.Lists.{list, bit, Marks, Marked, EnlistAt, Enlisted}
 use Rattle.columns.proofs.Area.Columns.{inside, at_set, at_set_past, at_set_other}
-use Rattle.columns.proofs.Area.Puts.{at_put}
 use Rattle.columns.proofs.Area.Frames.{among_first, among_second, frame_none, frame_then, frame_set}
 use Rattle.columns.proofs.Lists.Swap.{insert_old, insert_new, mem_insert}
 use Rattle.columns.proofs.Lists.Entries.{holds_none, holds_room, holds_push, holds_other, holds_frame}

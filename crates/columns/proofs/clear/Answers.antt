@@ -5,4 +5,4 @@ use Rattle.columns.proofs.Area.Lent.{lent_fill}
 use Rattle.columns.proofs.clear.Goals as goal
 
 pub returns : goal.returns
-returns c = let a = c.args in lent_fill (a.size - 0) a.size 0 a.work.now _ (omega arith) (omega arith) c.fill_part.ensures
+returns c = let a = c.args in lent_fill (a.size - 0) a.size 0 a.work.now _ (omega arith) (omega arith) (c.fill.ensures.after (λ y e. e))

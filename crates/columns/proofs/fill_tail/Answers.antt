@@ -4,4 +4,4 @@ use Rattle.columns.proofs.Area.Lent.{lent_tail}
 use Rattle.columns.proofs.fill_tail.Goals as goal
 
 pub returns : goal.returns
-returns c = lent_tail _ _ _ _ _ (omega arith) c.fill_part.ensures
+returns c = lent_tail _ _ _ _ _ (omega arith) (c.fill.ensures.after (λ y e. e))

@@ -2,21 +2,19 @@
 use mathlib.Core.Path.{◌≡◌, refl, ap, ◌∙◌}
 use mathlib.Core.Bool.{false}
 use mathlib.Core.List.{List, ◌++◌, append-nil}
-use Prim.Native.Nat.{ℕ, ◌+◌, ◌-◌, ◌*◌, ◌^◌, ◌<◌, ◌≤◌}
+use Prim.Native.Nat.{ℕ, ◌+◌, ◌-◌, ◌<◌, ◌≤◌}
 use native.Mathlib.Omega.{arith}
 use lib.Pow.{pow_pos}
-use lib.ListN.{length, replicate, get_or-replicate, length-replicate}
+use lib.ListN.{length}
 use Rattle.rules.specs.Cells.{word_limit}
-use Rattle.rules.specs.Graph.{pin_count}
 use Rattle.rules.specs.Records.{Group, groups_of}
-use Rattle.rules.specs.Checks.{work_size}
 use Rattle.rules.specs.Inside.Some.{Every}
 use Rattle.checks.proofs.Laws.Passed.{read_last}
 use Rattle.records.specs.Values.{size_at}
 use Rattle.placer_start.specs.declared.reservation.Count.{Count}
-use Rattle.placer_start.specs.Reservation.{Counts, CountAt, Counted, Judged, ReserveAt}
+use Rattle.placer_start.specs.Reservation.{CountAt, Counted, Judged, ReserveAt}
 use Rattle.placer_start.proofs.Laws.Reserving.{Reserving, reserving_small, reserving_more}
-use Rattle.depth.specs.Walks.{WalkAt, MeasureAt, Totalled}
+use Rattle.depth.specs.Walks.{WalkAt, Totalled}
 
 -- no height has a word limit of 0, so a count that is judged by 0 is never over
 never : (c : Count) → Judged c 0 false

@@ -1,9 +1,8 @@
 -- The whole call: what the checks say, and the part of the work area that counts. Assumes nothing.
-use Prim.Native.Nat.{ℕ, zero, suc, ◌+◌, ◌-◌, ◌*◌, ◌/◌, ◌≤◌}
+use Prim.Native.Nat.{ℕ, zero, suc, ◌+◌, ◌-◌, ◌*◌, ◌/◌, ◌≤◌, ◌<◌}
 use mathlib.Core.Bool.{Bool}
 use mathlib.Core.List.{List, ◌++◌}
-use mathlib.Core.Logic.{◌≢◌}
-use mathlib.Core.Path.{◌≡◌, refl, sym, ap, ◌∙◌}
+use mathlib.Core.Path.{◌≡◌, sym, ap, ◌∙◌}
 use native.Mathlib.Omega.{arith}
 use lib.Dec.{leb}
 use lib.ListN.{length, take, drop, replicate}
@@ -13,10 +12,13 @@ use Rattle.rules.specs.Lists.{laid_over}
 use Rattle.rules.specs.Graph.{pin_count}
 use Rattle.rules.specs.Checks.{work_size, refusal_of, pin_shown}
 use Rattle.rules.proofs.Lists.Parts.{part_laid}
-use Rattle.sizes.specs.declared.Left.TheVariants.{Room}
-use Rattle.sizes.specs.Values.{less, fits}
-use Rattle.sizes.proofs.Rooms.{less_fits}
-use Rattle.checks.specs.declared.Verdict.{Verdict}
+use Rattle.std.specs.Prelude.{Some, Result, Ok, Err}
+use Rattle.std.specs.Option.{is_some}
+use Rattle.sizes.specs.Values.{less}
+use Rattle.sizes.proofs.Rooms.{less_is_some}
+use Rattle.refusals.specs.declared.Refusal.{Refusal}
+use Rattle.refusals.specs.Numbers.{number_of, pin_of}
+use Rattle.refusals.proofs.Numbers.{number_above}
 use Rattle.checks.specs.Values.{Says}
 use Rattle.checks.specs.Passed.{Passed}
 use Rattle.checks.proofs.Laws.Passed.{passed}
@@ -24,25 +26,25 @@ use Rattle.depth.specs.Calls.{Said, SizeAt, telling, tell_refusal, teller}
 use Rattle.depth.specs.Walks.{MeasureAt}
 
 -- by the size that the code finds
-pub said : (w : List ℕ) (b : Bool) {gates given records : List ℕ} {v : Verdict} → b ≡ fits (less (Room (length w)) (16 * (length gates / 2) + 8 * length records + 512)) → Says (refusal_of 6 b gates given records) gates v → Said gates given records w v
+pub said : {A : Type 0} (w : List ℕ) (b : Bool) (gates given records : List ℕ) {r : Result A Refusal} → b ≡ is_some (less (Some (length w)) (16 * (length gates / 2) + 8 * length records + 512)) → Says (refusal_of 6 b gates given records) gates r → Said gates given records w r
 unfolding tell_refusal work_size pin_count
-said w b {gates} {given} {records} e S =
-    let s : b ≡ leb (work_size gates records) (length w) = e ∙ less_fits (length w) (16 * (length gates / 2) + 8 * length records + 512) in
-    record { number = rw s at S.number; pin = S.pin ∙ ap (λ (n : ℕ). pin_shown n gates) (sym S.number) }
+said w b gates given records e S =
+    let s : b ≡ leb (work_size gates records) (length w) = e ∙ less_is_some (length w) (16 * (length gates / 2) + 8 * length records + 512) in
+    record { says = rw s at S }
 
-refused_at_lem : {A : Type 0} (none some : A) (gates given records w : List ℕ) (n : ℕ) → n ≡ tell_refusal gates given records w → n ≢ 0 → (p : ℕ) → p ≡ pin_shown n gates → telling n none p w ≡ teller none some gates given records w
+refused_at_lem : {A : Type 0} (none some : A) (gates given records w : List ℕ) (n : ℕ) → n ≡ tell_refusal gates given records w → 0 < n → (p : ℕ) → p ≡ pin_shown n gates → telling n none p w ≡ teller none some gates given records w
 unfolding teller
-refused_at_lem none some gates given records w zero e h p d = absurd (h refl)
+refused_at_lem none some gates given records w zero e h p d = absurd (omega arith)
 refused_at_lem none some gates given records w (suc n) e h p d = rw (← e, teller, d)
 
-module _ {gates given records w : List ℕ} {v : Verdict} (S : Said gates given records w v) where
+module _ {gates given records w : List ℕ} where
   -- what the checks refuse changes nothing
-  pub told_refused : {A : Type 0} (none some : A) → v.number ≢ 0 → telling v.number none v.pin.0 w ≡ teller none some gates given records w
-  told_refused none some h = refused_at_lem none some gates given records w v.number S.number h v.pin.0 S.pin
+  pub told_refused : {A B : Type 0} {r : Refusal} → Said {B = B} gates given records w (Err r) → (none some : A) → telling (number_of r) none (pin_of r) w ≡ teller none some gates given records w
+  told_refused {r = r} S none some = refused_at_lem none some gates given records w (number_of r) S.says.number (number_above r) (pin_of r) (S.says.pin ∙ ap (λ (n : ℕ). pin_shown n gates) (sym S.says.number))
 
-  module _ (z : v.number ≡ 0) where
+  module _ {B : Type 0} {x : B} (S : Said gates given records w (Ok x)) where
     none_refused : tell_refusal gates given records w ≡ 0
-    none_refused = sym S.number ∙ z
+    none_refused = sym S.says.number
 
     passes : Passed 6 (leb (work_size gates records) (length w)) gates given records
     unfolding tell_refusal

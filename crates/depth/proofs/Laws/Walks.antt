@@ -14,11 +14,11 @@ use Rattle.stage_walk.specs.Stands.{Context}
 use Rattle.stage_walk.specs.Machine.{TraverseAt, Traversed}
 use Rattle.stage_walk.proofs.traversal.Loops.{begun_reads, begun_frame}
 use Rattle.stage_levels.specs.Levels.{LevelsAt, Levels}
-use Rattle.placer_start.specs.Given.{GivenAt, Given}
+use Rattle.placer_start.specs.Given.{Given}
 use Rattle.placer_start.specs.Waiting.{WaitAllAt, AllWait}
 use Rattle.placer_start.specs.Opening.{Opens, First}
 use Rattle.placer_start.proofs.Laws.Chains.{touched_none}
-use Rattle.placer_start.proofs.Laws.Opening.{given_at, opened_room, opened_places, first_stage, begin_opens}
+use Rattle.placer_start.proofs.Laws.Opening.{opened_room, opened_places, first_stage, begin_opens}
 use Rattle.placer_start.proofs.Laws.First.{readable, first_context, first_setting, first_begun}
 use Rattle.depth.specs.Walks.{WalkAt, MeasureAt}
 use Rattle.depth.proofs.Laws.Deepest.{most_remains}
@@ -29,10 +29,6 @@ module _ {m : ℕ} {gates given records w : List ℕ} (A : WalkAt m gates given 
 
   O : Opens m given w
   O = begin_opens A.begin
-
-  -- the given pins may be marked
-  pub walk_given : GivenAt m given w
-  walk_given = given_at O {e = 0} touched_none
 
   module _ {w₁ : List ℕ} (G : Given m given w w₁) where
     -- with the given pins marked the endpoints may wait

@@ -1,12 +1,6 @@
 -- `depth::walk` meets its contract: each walk leaves what the next asks, and the greatest level is D. Assumes nothing.
-use Rattle.depth.proofs.Laws.Walks.{walk_given, walk_wait, walked, walk_traverse, walk_levels, walk_deepest}
+use Rattle.depth.proofs.Laws.Walks.{walked, walk_traverse, walk_levels, walk_deepest}
 use Rattle.depth.proofs.walk.Goals as goal
-
-pub mark_given-requires : goal.mark_given-requires
-mark_given-requires c = walk_given c.requires
-
-pub wait_all-n-requires : goal.wait_all-n-requires
-wait_all-n-requires c = walk_wait c.requires c.mark_given.ensures
 
 pub traverse-k-requires : goal.traverse-k-requires
 traverse-k-requires c = let A = c.requires in record { it = walked A c.mark_given.ensures c.wait_all-n.ensures; at = walk_traverse A c.mark_given.ensures c.wait_all-n.ensures }

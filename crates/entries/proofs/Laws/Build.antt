@@ -6,8 +6,7 @@ use mathlib.Core.Logic.{◌≢◌}
 use lib.ListN.{length}
 use Rattle.rules.specs.Traversal.{needed_runs}
 use Rattle.rules.specs.Build as rules
-use Rattle.placer.specs.declared.Answer.{Answer}
-use Rattle.placer.specs.Answers.{told, areas, outcome}
+use Rattle.placer.specs.Answers.{areas}
 use Rattle.entries.specs.Entry.{Entry, entry, written}
 use Rattle.entries.specs.Build.{rest, built, built_by}
 use Rattle.entries.specs.Rule.{Rule?, refusal_of}
@@ -15,10 +14,10 @@ use Rattle.entries.proofs.Laws.Entry.{entry_told, ruled_away, ruled_on}
 
 module _ (K : ℕ) (gates given records pl ws cs w xs : List ℕ) where
   -- the build, its reply written
-  pub entry_built : 6 ≤ length xs → (a : Answer) (pl' ws' cs' w' ys : List ℕ) (n i : ℕ) → outcome a pl' ws' cs' w' ≡ rules.placer needed_runs K gates given records (areas pl ws cs w) → n ≡ a.number → i ≡ a.pin.0
-      → ys ≡ written (n ∷ a.stages ∷ a.words ∷ a.stage ∷ i ∷ a.cells ∷ []) xs → entry a.number (areas pl' ws' cs' w') ys ≡ built K gates given records (areas pl ws cs w) xs
-  unfolding built rest outcome told
-  entry_built h a pl' ws' cs' w' ys n i e p q d = rw (← e) (entry_told (areas pl ws cs w) (areas pl' ws' cs' w') a.number (a.stages ∷ a.words ∷ a.stage ∷ a.pin.0 ∷ a.cells ∷ []) xs h (rw (p, q) at d))
+  pub entry_built : 6 ≤ length xs → (o : rules.Outcome) → o ≡ rules.placer needed_runs K gates given records (areas pl ws cs w) → {n : ℕ} → n ≡ o.reply.number → {ys : List ℕ}
+      → ys ≡ written (o.reply.number ∷ rest o.reply) xs → entry n o.areas ys ≡ built K gates given records (areas pl ws cs w) xs
+  unfolding built rest
+  entry_built h o e p d = rw (← e, p) (entry_told (areas pl ws cs w) o.areas o.reply.number (rest o.reply) xs h d)
 
   -- the rule that is asked for
   module _ (r : Rule?) {k : ℕ} (e : k ≡ refusal_of r) where

@@ -7,9 +7,7 @@ use lib.ListN.{length}
 use Rattle.rules.specs.Traversal.{needed_runs}
 use Rattle.rules.specs.Build as rules
 use Rattle.placer.specs.Answers as placer
-use Rattle.why_form.specs.Why.{explainer}
-use Rattle.explain_stages.specs.declared.Explanation.{Explanation}
-use Rattle.explain.specs.Answers.{explained}
+use Rattle.why_form.specs.Why.{Explained, explainer}
 use Rattle.entries.specs.Entry.{Entry, entry, written}
 use Rattle.entries.specs.Explain.{Lent, lent_to, told, build_explained, build_explained_by}
 use Rattle.entries.specs.Rule.{Rule?, refusal_of}
@@ -17,11 +15,11 @@ use Rattle.entries.proofs.Laws.Entry.{entry_told, ruled_away, ruled_on}
 
 module _ (K : ℕ) (gates given records pl ws cs w list xs : List ℕ) where
   -- the explanation, its reply written
-  pub entry_explained : 7 ≤ length xs → (a : Explanation) (pl' ws' cs' w' list' ys : List ℕ) (n i : ℕ) → explained a pl' ws' cs' w' list' ≡ explainer needed_runs K gates given records list (placer.areas pl ws cs w) →
-      n ≡ a.answer.number → i ≡ a.answer.pin.0 → ys ≡ written (n ∷ a.answer.stages ∷ a.answer.words ∷ a.answer.stage ∷ i ∷ a.answer.cells ∷ a.lines ∷ []) xs →
-      entry a.answer.number (lent_to pl' ws' cs' w' list') ys ≡ build_explained K gates given records (lent_to pl ws cs w list) xs
-  unfolding build_explained lent_to told explained placer.told
-  entry_explained h a pl' ws' cs' w' list' ys n i e p q d = rw (← e) (entry_told (lent_to pl ws cs w list) (lent_to pl' ws' cs' w' list') a.answer.number (a.answer.stages ∷ a.answer.words ∷ a.answer.stage ∷ a.answer.pin.0 ∷ a.answer.cells ∷ a.lines ∷ []) xs h (rw (p, q) at d))
+  pub entry_explained : 7 ≤ length xs → (o : Explained) → o ≡ explainer needed_runs K gates given records list (placer.areas pl ws cs w) → {ys : List ℕ}
+      → ys ≡ written (o.reply.number ∷ told o.reply o.lines) xs
+      → entry o.reply.number (record { areas = o.areas; list = o.list }) ys ≡ build_explained K gates given records (lent_to pl ws cs w list) xs
+  unfolding build_explained lent_to told
+  entry_explained h o e d = rw (← e) (entry_told (lent_to pl ws cs w list) (record { areas = o.areas; list = o.list }) o.reply.number (told o.reply o.lines) xs h d)
 
   -- the rule that is asked for
   module _ (r : Rule?) {k : ℕ} (e : k ≡ refusal_of r) where

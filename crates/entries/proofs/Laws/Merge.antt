@@ -5,10 +5,8 @@ use mathlib.Core.Path.{◌≡◌, ◌∙◌}
 use mathlib.Core.Logic.{◌≢◌}
 use lib.ListN.{length}
 use Rattle.rules.specs.Traversal.{needed_runs}
-use Rattle.rules.specs.Merge.{refuse_merge, merger}
+use Rattle.rules.specs.Merge.{MergeOutcome, refuse_merge, merger}
 use Rattle.merge_checks.specs.Values.{group_list, areas}
-use Rattle.merge.specs.declared.Answer.{Answer}
-use Rattle.merge.specs.Merge.{told, outcome}
 use Rattle.entries.specs.Entry.{Entry, entry, written}
 use Rattle.entries.specs.Merge.{Lent, lent, rest, merged, merged_by}
 use Rattle.entries.specs.Rule.{Rule?, refusal_of}
@@ -16,11 +14,11 @@ use Rattle.entries.proofs.Laws.Entry.{entry_told, ruled_away, ruled_on}
 
 module _ (K : ℕ) (gates given records xs ls st : List ℕ) (extra : ℕ) (pl ws cs w ys : List ℕ) where
   -- the merge, its reply written
-  pub entry_merged : 9 ≤ length ys → (a : Answer) (xs' ls' st' pl' ws' cs' w' zs : List ℕ) (n i : ℕ) → outcome a xs' ls' st' pl' ws' cs' w' ≡ merger needed_runs K gates given records (group_list xs ls st) extra (areas pl ws cs w) → n ≡ a.number → i ≡ a.pin.0
-      → zs ≡ written (n ∷ a.stages ∷ a.words ∷ a.stage ∷ a.partitions ∷ a.trials ∷ a.refused ∷ i ∷ a.cells ∷ []) ys → entry a.number (lent xs' ls' st' pl' ws' cs' w') zs ≡ merged K gates given records extra (lent xs ls st pl ws cs w) ys
-  unfolding merged rest lent outcome told
-  entry_merged h a xs' ls' st' pl' ws' cs' w' zs n i e p q d =
-      rw (← e) (entry_told (lent xs ls st pl ws cs w) (lent xs' ls' st' pl' ws' cs' w') a.number (a.stages ∷ a.words ∷ a.stage ∷ a.partitions ∷ a.trials ∷ a.refused ∷ a.pin.0 ∷ a.cells ∷ []) ys h (rw (p, q) at d))
+  pub entry_merged : 9 ≤ length ys → (o : MergeOutcome) → o ≡ merger needed_runs K gates given records (group_list xs ls st) extra (areas pl ws cs w) → {zs : List ℕ}
+      → zs ≡ written (o.reply.number ∷ rest o.reply) ys
+      → entry o.reply.number (record { groups = o.groups; areas = o.areas }) zs ≡ merged K gates given records extra (lent xs ls st pl ws cs w) ys
+  unfolding merged rest lent
+  entry_merged h o e d = rw (← e) (entry_told (lent xs ls st pl ws cs w) (record { groups = o.groups; areas = o.areas }) o.reply.number (rest o.reply) ys h d)
 
   -- the rule that is asked for
   module _ (r : Rule?) {k : ℕ} (e : k ≡ refusal_of r) where

@@ -53,22 +53,22 @@ pub record Says (C : Call) : Type 0 where
   pub tells : Tells (built_for C) (lines_for C)
 
 module _ (C : Call) (F : Fine C) where
-  number_is : C.answer.answer.number ≡ (explainer needed_runs C.height C.gates C.given C.records C.list C.entry).reply.number
+  number_is : (told C.answer.answer).number ≡ (explainer needed_runs C.height C.gates C.given C.records C.list C.entry).reply.number
   unfolding explained told
   number_is = ap (λ (e : why.Explained). e.reply.number) C.met
 
   -- 21 is given exactly where the list is too short for the lines
-  pub short_refused : length C.list < 6 * length (lines_for C) → C.answer.answer.number ≡ 21
+  pub short_refused : length C.list < 6 * length (lines_for C) → (told C.answer.answer).number ≡ 21
   unfolding lines_for
   short_refused h = number_is ∙ short_given needed_runs C.height C.gates C.given C.records C.list C.entry F.none h
 
   -- and nowhere else
-  pub refused_short : C.answer.answer.number ≡ 21 → length C.list < 6 * length (lines_for C)
+  pub refused_short : (told C.answer.answer).number ≡ 21 → length C.list < 6 * length (lines_for C)
   unfolding lines_for
   refused_short e = given_short needed_runs C.height C.gates C.given C.records C.list C.entry F.none (sym number_is ∙ e)
 
   -- never where there is room for K - 1 lines a room and one more
-  pub long_enough : 6 * (rooms C.height (length C.entry.plan) * (C.height - 1) + 1) ≤ length C.list → C.answer.answer.number ≢ 21
+  pub long_enough : 6 * (rooms C.height (length C.entry.plan) * (C.height - 1) + 1) ≤ length C.list → (told C.answer.answer).number ≢ 21
   long_enough h e = never_short needed_runs C.height C.gates C.given C.records C.list C.entry F.none h (sym number_is ∙ e)
 
   -- a list that is long enough holds the explanation

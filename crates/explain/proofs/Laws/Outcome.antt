@@ -1,14 +1,12 @@
 -- The whole call: what the checks say, and the parts of the areas that count. Assumes nothing.
-use Prim.Native.Nat.{ℕ, zero, suc, ◌+◌, ◌-◌, ◌*◌, ◌≤◌, ◌<◌}
+use Prim.Native.Nat.{ℕ, zero, suc, ◌-◌, ◌*◌, ◌≤◌, ◌<◌}
 use mathlib.Core.Path.{◌≡◌, refl, sym, ap, ◌∙◌}
-use mathlib.Core.Logic.{◌≢◌}
-use mathlib.Core.Bool.{Bool, true, false}
+use mathlib.Core.Bool.{Bool}
 use mathlib.Core.List.{List, [], ◌++◌}
 use native.Mathlib.Omega.{arith}
 use lib.Dec.{leb}
 use lib.ListN.{length, take, drop, replicate}
 use borrow.Author.Tests.{leb-true, leb-false}
-use Rattle.graph.specs.declared.Pin.{Pin}
 use Rattle.rules.specs.Lists.{padded, laid_over}
 use Rattle.rules.specs.Cells.{empty, word_limit, rooms, is_height}
 use Rattle.rules.specs.Graph.{graph_of}
@@ -18,12 +16,15 @@ use Rattle.rules.specs.Build as rules
 use Rattle.rules.proofs.Lists.Members.{split}
 use Rattle.rules.proofs.Lists.Parts.{part_laid}
 use Rattle.cells.specs.Answers.{or_zero}
-use Rattle.checks.specs.declared.Verdict.{Verdict}
+use Rattle.std.specs.Prelude.{Err}
+use Rattle.refusals.specs.declared.Refusal.{Refusal}
+use Rattle.refusals.specs.Numbers.{number_of, pin_of}
+use Rattle.refusals.proofs.Numbers.{number_is}
 use Rattle.checks.specs.Values.{Says}
 use Rattle.placer.specs.Answers.{told, areas}
 use Rattle.placer.specs.Build.{Filled}
 use Rattle.placer.proofs.Laws.Outcome.{Checked, words_inside, counts_inside, work_inside, place_at}
-use Rattle.why_form.specs.Why.{Line, numbers_of, why_of, explainer}
+use Rattle.why_form.specs.Why.{Line, why_of, explainer}
 use Rattle.explain_stages.specs.declared.Explanation.{Explanation}
 use Rattle.explain.specs.Call.{Ends}
 use Rattle.explain.specs.Answers.{explained}
@@ -32,16 +33,16 @@ module _ (rule : WordRule) (K : ℕ) (gates given records pl ws cs w list : List
   abbrev sized : Bool
   sized = areas_sized K (work_size gates records) (length pl) (length ws) (length cs) (length w)
 
-  refused_at_lem : (n : ℕ) → n ≡ refusal_of K sized gates given records → n ≢ 0 → (p : Pin) → p.0 ≡ pin_shown n gates →
-      explained (record { answer = record { number = n; stages = 0; words = 0; stage = 0; pin = p; cells = 0 }; lines = 0 }) pl ws cs w list ≡ explainer rule K gates given records list (areas pl ws cs w)
+  refused_at_lem : (why : Refusal) (n : ℕ) → n ≡ number_of why → n ≡ refusal_of K sized gates given records → pin_of why ≡ pin_shown n gates →
+      explained (record { answer = Err (record { why = why; stage = 0 }); lines = 0 }) pl ws cs w list ≡ explainer rule K gates given records list (areas pl ws cs w)
   unfolding explained told areas explainer rules.sizes_right rules.refuse_checked
-  refused_at_lem zero e h p d = absurd (h refl)
-  refused_at_lem (suc n) e h p d = rw (← e, explainer, d)
+  refused_at_lem why zero q e d = absurd (number_is why (sym q))
+  refused_at_lem why (suc n) q e d = rw (← e, explainer, d, ← q)
 
   -- what the checks refuse changes nothing
-  pub outcome_refused : (v : Verdict) → Says (refusal_of K sized gates given records) gates v → v.number ≢ 0 →
-      explained (record { answer = record { number = v.number; stages = 0; words = 0; stage = 0; pin = v.pin; cells = 0 }; lines = 0 }) pl ws cs w list ≡ explainer rule K gates given records list (areas pl ws cs w)
-  outcome_refused v S h = refused_at_lem v.number S.number h v.pin (S.pin ∙ ap (λ (n : ℕ). pin_shown n gates) (sym S.number))
+  pub outcome_refused : (why : Refusal) → Says {A = Unit {0}} (refusal_of K sized gates given records) gates (Err why) →
+      explained (record { answer = Err (record { why = why; stage = 0 }); lines = 0 }) pl ws cs w list ≡ explainer rule K gates given records list (areas pl ws cs w)
+  outcome_refused why S = refused_at_lem why (number_of why) refl S.number (S.pin ∙ ap (λ (n : ℕ). pin_shown n gates) (sym S.number))
 
 module _ {K : ℕ} {gates given records : List ℕ} (pl ws cs w : List ℕ) (H : Checked K gates given records (length pl) (length ws) (length cs) (length w)) {limit rms need : ℕ} (el : limit ≡ or_zero (is_height K) (word_limit K))
     (er : rms ≡ or_zero (is_height K) (rooms K (length pl))) (en : need ≡ work_size gates records) {pl' ys zs vs : List ℕ} (ly : length ys ≡ length (take (limit - 0) ws)) (lz : length zs ≡ length (take (rms - 0) cs)) (lv : length vs ≡ length (take (need - 0) w)) where

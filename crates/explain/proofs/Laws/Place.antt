@@ -1,5 +1,5 @@
 -- The list measured, then told; the plan coded. Assumes nothing.
-use Prim.Native.Nat.{ℕ, zero, suc, ◌+◌, ◌-◌, ◌*◌, ◌^◌, ◌≤◌, ◌<◌}
+use Prim.Native.Nat.{ℕ, ◌+◌, ◌-◌, ◌*◌, ◌≤◌, ◌<◌}
 use mathlib.Core.Path.{◌≡◌, refl, sym, ap, ◌∙◌}
 use mathlib.Core.Bool.{Bool, true, false}
 use mathlib.Core.List.{List, [], ◌∷◌, ◌++◌}
@@ -7,23 +7,25 @@ use native.Mathlib.Omega.{arith}
 use native.Mathlib.Nat.{mul-le-mul_left}
 use lib.Dec.{ltb}
 use lib.Pow.{pow_mono}
-use lib.ListN.{length, take, drop, replicate, length-replicate}
+use lib.ListN.{length, take, drop, replicate}
 use borrow.Author.Tests.{ltb-true, ltb-false, le-ltb}
-use Rattle.rules.specs.Lists.{padded, laid_over}
+use Rattle.rules.specs.Lists.{padded}
 use Rattle.rules.specs.Cells.{empty, stage_size, rooms}
-use Rattle.rules.specs.Graph.{graph_of}
+use Rattle.rules.specs.Graph.{Node, graph_of}
 use Rattle.rules.specs.Records.{groups_of}
 use Rattle.rules.specs.Build as rules
 use Rattle.rules.specs.Traversal.{needed_runs}
 use Rattle.cells.proofs.Heights.{tall_height}
 use Rattle.coding.specs.Stages.{PlanAt, coded_plan}
-use Rattle.placer.specs.declared.Answer.{Answer}
+use Rattle.std.specs.Prelude.{Result, Ok, Err}
+use Rattle.placer.specs.declared.Built.{Built}
+use Rattle.placer.specs.declared.Refused.{Refused}
+use Rattle.refusals.specs.declared.Refusal.TheVariants.{ShortLines}
 use Rattle.placer.specs.Answers.{told}
-use Rattle.placer.specs.Stages.{Kept}
-use Rattle.placer.specs.Build.{PlaceAt, Emptied, Filled, Laid, Placed}
+use Rattle.placer.specs.Build.{PlaceAt, Emptied, Laid}
 use Rattle.placer.proofs.Laws.Laying.{padded_none}
 use Rattle.placer.proofs.Laws.Coding.{code_at, placed}
-use Rattle.why_form.specs.Why.{Line, numbers_of, why, why_of}
+use Rattle.why_form.specs.Why.{Line, why_of}
 use Rattle.why_form.proofs.Lines.{why_few}
 use Rattle.explain_lines.specs.Lines.{put_lines}
 use Rattle.explain_lines.proofs.Lines.{lines_all}
@@ -81,6 +83,12 @@ module _ {K : ℕ} {gates given records pl ws cs w : List ℕ} (A : PlaceAt K ga
           Measured ls pl ws cs w list (ltb (length list) (6 * e.lines)) pl' ws' cs' w' (take 0 list ++ (part' ++ drop (0 - 0) (drop 0 list)))
       measured list z a c d f = record { is = rw E.count refl; same = no_part list part' z; kept = record { plan = a; words = c; counts = d; work = f } }
 
+-- a refused build has no stages to code
+pub uncoded : (a : Result Built Refused) → ((x : Built) → a ≡ Ok x → ⊥) → (K : ℕ) (g : List Node) (pl : List ℕ) → pl ≡ coded_plan (told a).stages K g pl
+unfolding told coded_plan
+uncoded (Ok x) h K g pl = absurd (h x refl)
+uncoded (Err x) h K g pl = refl
+
 -- ---- both together
 
 module _ {K : ℕ} {gates given records pl ws cs w : List ℕ} (A : PlaceAt K gates given records pl ws cs w) {list : List ℕ} {r : Bool} {pl₁ ws₁ cs₁ w₁ list₁ : List ℕ}
@@ -92,12 +100,12 @@ module _ {K : ℕ} {gates given records pl ws cs w : List ℕ} (A : PlaceAt K ga
   es = why_of needed_runs K gates given records (length pl)
 
   -- too short: 21, and every area is empty
-  pub ends_short : r ≡ true → {a : Answer} {pl₂ ws₂ cs₂ w₂ : List ℕ} → told a ≡ rules.refuse 21 0 → Emptied pl₁ ws₁ cs₁ w₁ pl₂ ws₂ cs₂ w₂ → Ends (graph_of gates) b es K pl ws cs w list (record { answer = a; lines = 0 }) pl₂ ws₂ cs₂ w₂ list₁
-  unfolding rules.cells_of rules.words_of rules.counts_of
-  ends_short e t E =
+  pub ends_short : r ≡ true → {pl₂ ws₂ cs₂ w₂ : List ℕ} → Emptied pl₁ ws₁ cs₁ w₁ pl₂ ws₂ cs₂ w₂ → Ends (graph_of gates) b es K pl ws cs w list (record { answer = Err (record { why = ShortLines; stage = 0 }); lines = 0 }) pl₂ ws₂ cs₂ w₂ list₁
+  unfolding told rules.refuse rules.cells_of rules.words_of rules.counts_of
+  ends_short e E =
       let h : length list < 6 * length es = ltb-true (length list) (6 * length es) (sym M.is ∙ e) in
       record {
-        short = λ z. t;
+        short = λ z. refl;
         short_lines = λ z. refl;
         short_list = λ z. M.same;
         short_areas = λ z. record {
@@ -131,11 +139,11 @@ module _ {K : ℕ} {gates given records pl ws cs w : List ℕ} (A : PlaceAt K ga
         }
 
     -- its stages may be coded
-    pub again_code : length pl₂ ≡ length pl → PlanAt K e.answer.stages pl₂
+    pub again_code : length pl₂ ≡ length pl → PlanAt K (told e.answer).stages pl₂
     again_code l = code_at A needed_runs laid_there l
 
     -- the whole plan, and its lines
-    pub ends_told : {pl₃ : List ℕ} → pl₃ ≡ coded_plan e.answer.stages K (graph_of gates) pl₂ → Ends (graph_of gates) b es K pl ws cs w list e pl₃ ws₂ cs₂ w₂ list₂
+    pub ends_told : {pl₃ : List ℕ} → pl₃ ≡ coded_plan (told e.answer).stages K (graph_of gates) pl₂ → Ends (graph_of gates) b es K pl ws cs w list e pl₃ ws₂ cs₂ w₂ list₂
     ends_told c =
         let h : 6 * length es ≤ length list = ltb-false (length list) (6 * length es) (sym M.is ∙ f) in
         record {

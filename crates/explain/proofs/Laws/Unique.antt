@@ -2,15 +2,15 @@
 use Prim.Native.Nat.{ℕ}
 use mathlib.Core.List.{List}
 use mathlib.Core.Path.{◌≡◌, sym, ap, ◌∙◌}
-use Rattle.rules.specs.Build.{Reply, Areas}
-use Rattle.placer.specs.Answers.{told, areas}
+use Rattle.placer.specs.Answers.{areas}
+use Rattle.placer.proofs.Laws.Unique.{one_answer}
 use Rattle.explain_stages.specs.declared.Explanation.{Explanation}
 use Rattle.why_form.specs.Why.{Explained}
 use Rattle.explain.specs.Answers.{explained}
 
 -- two answers, their lists and their areas agree in everything
 pub record Same (e e' : Explanation) (pl ws cs w l pl' ws' cs' w' l' : List ℕ) : Type 0 where
-  pub reply : told e.answer ≡ told e'.answer
+  pub answer : e.answer ≡ e'.answer
   pub lines : e.lines ≡ e'.lines
   pub list : l ≡ l'
   pub plan : pl ≡ pl'
@@ -24,7 +24,7 @@ unfolding explained areas
 one_outcome O e e' pl ws cs w l pl' ws' cs' w' l' d c =
     let q : explained e pl ws cs w l ≡ explained e' pl' ws' cs' w' l' = d ∙ sym c in
     record {
-      reply = ap (λ (x : Explained). x.reply) q;
+      answer = one_answer e.answer e'.answer (ap (λ (x : Explained). x.reply) q);
       lines = ap (λ (x : Explained). x.lines) q;
       list = ap (λ (x : Explained). x.list) q;
       plan = ap (λ (x : Explained). x.areas.plan) q;

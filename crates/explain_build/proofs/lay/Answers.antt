@@ -17,4 +17,4 @@ pub shape_of-counts : goal.shape_of-counts
 shape_of-counts c = c.counts-3-1.given ∙ c.counts-2-1.given ∙ c.counts-1.given
 
 pub returns : goal.returns
-returns c = explained c.requires c.empty_all.ensures c.attempt-e.ensures c.tidy.ensures c.plan-1.given
+returns c = explained c.requires c.empty_all.ensures c.attempt-e.ensures c.is_ok.ensures.value c.tidy.ensures c.plan-1.given

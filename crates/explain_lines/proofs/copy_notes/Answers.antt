@@ -1,4 +1,5 @@
 use mathlib.Core.Path.{refl}
+use native.Mathlib.Omega.{arith}
 use Rattle.explain_lines.proofs.Copies.{copying_none, copying_next, copying_more, all_copied}
 use borrow.Author.Rules.{rules}
 use Rattle.explain_lines.proofs.copy_notes.Goals as goal
@@ -13,4 +14,4 @@ pub loop-h-preserved : goal.loop-h-preserved
 loop-h-preserved c = (copying_more c.loop-h.invariant.0 c.loop-h-test.true c.copy_note-lines.ensures, search rules, search rules)
 
 pub returns : goal.returns
-returns c = all_copied c.loop-h.invariant.0 c.loop-h-test.false
+returns c = all_copied c.loop-h.invariant.0 (omega (arith, c.loop-h-test.false))

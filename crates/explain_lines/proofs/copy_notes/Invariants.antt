@@ -6,6 +6,3 @@ use Rattle.explain_lines.proofs.copy_notes.Given as goal
 
 abbrev pub invariant-loop-h : goal.invariant-loop-h
 invariant-loop-h l = Copying l.m l.stage l.n l.initial.work l.initial.list l.h l.lines l.work l.list × (length l.work ≡ length l.initial.work) × (length l.list ≡ length l.initial.list)
-
-abbrev pub decreases-loop-h : goal.decreases-loop-h
-decreases-loop-h l = l.h

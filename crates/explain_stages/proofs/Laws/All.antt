@@ -1,24 +1,25 @@
 -- All stages with their lines. Assumes nothing.
-use Prim.Native.Nat.{ℕ, zero, suc, ◌+◌, ◌-◌, ◌*◌, ◌≤◌, ◌<◌}
-use mathlib.Core.Path.{◌≡◌, refl, sym, ap, ◌∙◌}
+use Prim.Native.Nat.{ℕ, zero, suc, ◌+◌, ◌-◌, ◌≤◌, ◌<◌}
+use mathlib.Core.Path.{◌≡◌, refl, sym, ◌∙◌}
 use mathlib.Core.Logic.{◌≢◌}
-use mathlib.Core.List.{List, [], ◌∷◌, ◌++◌}
+use mathlib.Core.List.{List, [], ◌∷◌}
 use native.Mathlib.Omega.{arith}
 use native.Mathlib.Numerals.{add-one}
 use lib.ListN.{length}
 use Rattle.rules.specs.Lists.{count}
 use Rattle.rules.specs.Cells.{filled}
 use Rattle.rules.specs.States.{state, after_from}
-use Rattle.rules.specs.Build.{Reply, refusal, refuse, reply, stages_of}
 use Rattle.rules.proofs.Stage.Fuel.{count-length}
-use Rattle.placer.specs.declared.Answer as code
-use Rattle.placer.specs.Answers.{told}
-use Rattle.placer.specs.Stages.{Course, answer, Kept, OneAt, StagesAt, Whole}
-use Rattle.placer.proofs.Laws.Course.{next_at, rooms_nine, whole_told, whole_stands}
-use Rattle.why_form.specs.Why.{Line, why_from}
+use Rattle.std.specs.Prelude.{Ok, Err}
+use Rattle.refusals.specs.declared.Refusal.TheVariants.{NoRoom}
+use Rattle.stage.specs.declared.finish.Outcome.{Outcome}
+use Rattle.stage.specs.declared.finish.Stopped.{Stopped}
+use Rattle.stage.specs.Stopped.{refusal_of}
+use Rattle.placer.specs.Stages.{Course, Kept, StagesAt}
+use Rattle.placer.proofs.Laws.Course.{next_at, rooms_nine, refused_told, no_pin, whole_told, whole_stands}
+use Rattle.why_form.specs.Why.{why_from}
 use Rattle.explain_lines.specs.Lines.{put_lines}
 use Rattle.explain_stages.specs.declared.Step.{Step}
-use Rattle.explain_stages.specs.declared.Explanation.{Explanation}
 use Rattle.explain_stages.specs.Telling.{lines_after, TellAt, Tells, AllAt, AllTold}
 use Rattle.explain_stages.proofs.Laws.Telling.{after_lines}
 
@@ -50,37 +51,33 @@ module _ {C : Course} {m K half : ℕ} {rooms k at n room lines : ℕ} {list₀ 
   ends e = (sym (A.same ∙ rw e refl), sym (A.count ∙ rw e (omega arith)))
 
   -- pins that wait without a room left
-  pub told_nine : {pl₀ ws₀ cs₀ w₀ : List ℕ} {r : code.Answer} → 0 < n → k ≡ rooms → told r ≡ refuse 9 (k + 1) → Kept pl₀ ws₀ cs₀ w₀ pl ws cs w → AllTold C pl₀ ws₀ cs₀ w₀ list₀ (record { answer = r; lines = lines }) pl ws cs w list
-  unfolding reply told refuse
-  told_nine {r = r} h e t kp =
+  pub told_nine : {pl₀ ws₀ cs₀ w₀ : List ℕ} → 0 < n → k ≡ rooms → Kept pl₀ ws₀ cs₀ w₀ pl ws cs w → AllTold C pl₀ ws₀ cs₀ w₀ list₀ (record { answer = Err (record { why = NoRoom; stage = k + 1 }); lines = lines }) pl ws cs w list
+  told_nine h e kp =
       let q = ends (no_rooms C k S.now.reached (omega (arith, S.all))) in
-      record { kept = kp; reply = t ∙ rw (rooms_nine S h e, add-one k, reply) refl; whole = λ z. absurd (let y : r.number ≡ 9 = ap (λ (x : Reply). x.number) t in omega arith); lines = q.0; count = q.1 }
+      record { kept = kp; reply = refused_told C k NoRoom refl (rooms_nine S h e); whole = tt; lines = q.0; count = q.1 }
 
   -- no pin left: a whole plan
-  pub told_whole : {pl₀ ws₀ cs₀ w₀ : List ℕ} → n ≡ 0 → {t : ℕ} → t ≡ count filled pl → Kept pl₀ ws₀ cs₀ w₀ pl ws cs w → AllTold C pl₀ ws₀ cs₀ w₀ list₀ (record { answer = record { number = 0; stages = k; words = at; stage = 0; pin = record { 0 = 0 }; cells = t }; lines = lines }) pl ws cs w list
+  pub told_whole : {pl₀ ws₀ cs₀ w₀ : List ℕ} → n ≡ 0 → {t : ℕ} → t ≡ count filled pl → Kept pl₀ ws₀ cs₀ w₀ pl ws cs w → AllTold C pl₀ ws₀ cs₀ w₀ list₀ (record { answer = Ok (record { stages = k; words = at; cells = t }); lines = lines }) pl ws cs w list
   told_whole z e kp =
       let q = ends (no_pins C k S.now.done S.now.waiting _ S.now.reached (omega (arith, S.now.work.waiting.held.count))) in
-      record { kept = kp; reply = whole_told S z e; whole = λ y. whole_stands S z; lines = q.0; count = q.1 }
+      record { kept = kp; reply = whole_told S z e; whole = whole_stands S z; lines = q.0; count = q.1 }
 
   module _ {s : Step} {pl1 ws1 cs1 w1 list1 : List ℕ} (T : Tells C m k at lines pl ws cs w list s pl1 ws1 cs1 w1 list1) where
-    -- a refused stage ends the build
-    pub told_refused : {pl₀ ws₀ cs₀ w₀ : List ℕ} {r : code.Answer} → s.number ≢ 0 → told r ≡ refuse s.number (k + 1) → Kept pl₀ ws₀ cs₀ w₀ pl1 ws1 cs1 w1 → AllTold C pl₀ ws₀ cs₀ w₀ list₀ (record { answer = r; lines = s.lines }) pl1 ws1 cs1 w1 list1
-    unfolding reply told refuse
-    told_refused {r = r} h t kp =
-        let p : 0 < s.number = omega arith in
-        record { kept = kp; reply = t ∙ rw (T.refused p, add-one k, reply) refl; whole = λ z. absurd (let y : r.number ≡ s.number = ap (λ (x : Reply). x.number) t in omega arith); lines = T.last p ∙ sym A.same; count = T.last_count p ∙ sym A.count }
+    -- a stage that was stopped ends the build
+    pub told_refused : {pl₀ ws₀ cs₀ w₀ : List ℕ} {e : Stopped} → s.outcome ≡ Err e → Kept pl₀ ws₀ cs₀ w₀ pl1 ws1 cs1 w1 → AllTold C pl₀ ws₀ cs₀ w₀ list₀ (record { answer = Err (record { why = refusal_of e; stage = k + 1 }); lines = s.lines }) pl1 ws1 cs1 w1 list1
+    told_refused {e = e} z kp = record { kept = kp; reply = refused_told C k (refusal_of e) (no_pin e) (rw z at T.refused); whole = tt; lines = (rw z at T.last) ∙ sym A.same; count = (rw z at T.last_count) ∙ sym A.count }
 
-    module _ (z : s.number ≡ 0) where
+    module _ {o : Outcome} (z : s.outcome ≡ Ok o) where
       -- after a whole stage the build goes on with the next
-      pub all_on : {spent : ℕ} → spent ≡ at + s.words → AllAt C m K half rooms (k + 1) spent s.waiting room s.lines list₀ gates pl1 ws1 cs1 w1 list1
+      pub all_on : {spent : ℕ} → spent ≡ at + o.words → AllAt C m K half rooms (k + 1) spent o.waiting room s.lines list₀ gates pl1 ws1 cs1 w1 list1
       all_on e = rw (e, add-one k) (record {
-        stands = record { known = S.known; now = T.on z; all = S.all; short = S.short; left = S.left };
-        bare = T.bare z;
-        few = T.few z;
-        same = A.same ∙ T.next z;
-        count = A.count ∙ T.next_count z;
+        stands = record { known = S.known; now = rw z at T.on; all = S.all; short = S.short; left = S.left };
+        bare = rw z at T.bare;
+        few = rw z at T.few;
+        same = A.same ∙ (rw z at T.next);
+        count = A.count ∙ (rw z at T.next_count);
       })
 
       -- with the stage's the filled cells are no more than the plan has
-      pub cells_told : {t : ℕ} → t ≡ count filled pl → t + s.cells ≤ length pl
-      cells_told e = omega (arith, T.more z, T.kept.plan, count-length filled pl1)
+      pub cells_told : {t : ℕ} → t ≡ count filled pl → t + o.cells ≤ length pl
+      cells_told e = omega (arith, rw z at T.more, T.kept.plan, count-length filled pl1)

@@ -1,12 +1,10 @@
 -- One stage with its lines: what it notes is copied, and a refusal's line stands behind it. Assumes nothing.
-use Prim.Native.Nat.{ℕ, zero, suc, ◌+◌, ◌-◌, ◌*◌, ◌≤◌, ◌<◌}
+use Prim.Native.Nat.{ℕ, suc, ◌+◌, ◌-◌, ◌*◌, ◌≤◌, ◌<◌}
 use mathlib.Core.Path.{◌≡◌, refl, sym, ap, ◌∙◌}
 use mathlib.Core.Logic.{◌≢◌}
 use mathlib.Core.List.{List, [], ◌∷◌, ◌++◌}
 use native.Mathlib.Omega.{arith}
-use native.Mathlib.Numerals.{add-one}
 use lib.ListN.{length, length-append}
-use Rattle.rules.specs.Lists.{In}
 use Rattle.rules.specs.Cells.{word_limit}
 use Rattle.rules.specs.Graph.{Node}
 use Rattle.rules.specs.Traversal.{WordRule, Setting, setting}
@@ -18,7 +16,7 @@ use Rattle.rules.specs.Inside.Walks.{rank}
 use Rattle.rules.proofs.Demand.{graph}
 use Rattle.rules.proofs.Needed.Needs.{falls_always}
 use Rattle.rules.proofs.Stage.Staged.{remaining_least}
-use Rattle.rules.proofs.Stage.Depth.{stage_cases, Shallow, shallow}
+use Rattle.rules.proofs.Stage.Depth.{stage_cases, shallow}
 use Rattle.rules.proofs.Build.Bounds.{depth_rank}
 use Rattle.columns.proofs.Area.Frames.{frame_room}
 use Rattle.columns.proofs.Lists.Marks.{marks_frame}
@@ -27,21 +25,22 @@ use Rattle.columns.proofs.Lists.Clears.{clear_frame}
 use Rattle.stage_walk.specs.Stands.{Context}
 use Rattle.stage_walk.proofs.Contexts.{context, work, unfold_empty}
 use Rattle.stage_notes.specs.Taken.{Taken, taken_back}
-use Rattle.stage_notes.specs.Notes.{notes, stage_notes, notes_down, lean_backs}
+use Rattle.stage_notes.specs.Notes.{notes, notes_down}
 use Rattle.stage_notes.proofs.Noting.{notes_length}
 use Rattle.stage_notes.proofs.Reading.{stage_read}
 use Rattle.stage_notes.proofs.Same.{lean_taken}
+use Rattle.std.specs.Prelude.{Result, Ok, Err}
 use Rattle.stage.specs.declared.finish.Outcome.{Outcome}
-use Rattle.placer.specs.Stages.{Course, Between, Underway, Kept, OneAt, StageTold, One}
+use Rattle.stage.specs.declared.finish.Stopped.{Stopped}
+use Rattle.placer.specs.Stages.{Course, Between, Underway, Kept, StageTold, One}
 use Rattle.placer.proofs.Laws.Course.{after_more, after_stage, limit_small}
 use Rattle.why_form.specs.Why.{Line, back_lines, over_line, why_from, numbers}
 use Rattle.explain_lines.specs.Lines.{put_six, put_lines}
-use Rattle.explain_lines.specs.Copies as copies
 use Rattle.explain_lines.specs.Copies.{NotesAt, AllCopied}
 use Rattle.explain_lines.proofs.Lines.{lines_more, lines_length}
 use Rattle.explain_stages.specs.Over.{OverAt, over_six}
 use Rattle.explain_stages.specs.Telling.{lines_at, lines_after, TellAt, Tells}
-use Rattle.explain_stages.proofs.Laws.Over.{over_six_lem}
+use Rattle.explain_stages.proofs.Laws.Over.{few_of, over_six_lem}
 
 -- ---- the lines, stage by stage
 
@@ -111,8 +110,8 @@ module _ {C : Course} {m K half : ℕ} {k n at room lines : ℕ} {gates pl ws cs
   lines_here : lines_after C k ≡ why_from C.rule C.K C.g (suc (C.rooms - suc k)) (suc k) U.done U.waiting room
   lines_here = after_lines C k here ∙ rw rooms_left refl
 
-  module _ {s : Outcome} {pl1 ws1 cs1 w1 : List ℕ} (O : One C m k at pl ws cs w s.number s.words s.cells s.waiting pl1 ws1 cs1 w1) where
-    T : StageTold X m room w s.number s.words s.cells s.waiting w1
+  module _ {r : Result Outcome Stopped} {pl1 ws1 cs1 w1 : List ℕ} (O : One C m k at pl ws cs w r pl1 ws1 cs1 w1) where
+    T : StageTold X m room w r w1
     T = O.told U.done U.waiting room here
 
     -- the notes may be copied
@@ -161,9 +160,9 @@ module _ {C : Course} {m K half : ℕ} {k n at room lines : ℕ} {gates pl ws cs
 
       -- ---- a whole stage
 
-      module _ (z : s.number ≡ 0) where
+      module _ {s : Outcome} (z : r ≡ Ok s) where
         abbrev N : Underway C m (suc k) (at + s.words) s.waiting pl1 ws1 cs1 w1
-        N = O.on z
+        N = (rw z at O.on)
 
         on_still : Underway C m (suc k) (at + s.words) s.waiting pl1 ws1 cs1 w2
         on_still = record {
@@ -202,53 +201,56 @@ module _ {C : Course} {m K half : ℕ} {k n at room lines : ℕ} {gates pl ws cs
             none_after i e = let d = sym (after_refused C.rule C.K C.g (C.rooms - suc k) (suc k) U.done U.waiting room waits e) ∙ there in let y : ◌≡◌ {A = ℕ} 0 1 = cc in omega arith
 
         -- it goes on, with its lines told
-        pub tells_on : Tells C m k at lines pl ws cs w list (record { number = 0; words = s.words; waiting = s.waiting; cells = s.cells; lines = told }) pl1 ws1 cs1 w2 list1
-        tells_on = record {
+        pub tells_on : Tells C m k at lines pl ws cs w list (record { outcome = r; lines = told }) pl1 ws1 cs1 w2 list1
+        tells_on = rw z (record {
           kept = lengths;
           size = rw copied_lines (lines_length lines (back_lines (suc k) (taken_back X)) list);
-          refused = λ h. absurd (omega arith);
-          last = λ h. absurd (omega arith);
-          last_count = λ h. absurd (omega arith);
-          on = λ h. on_still;
-          more = λ h. O.more z;
-          bare = λ h. D.bare;
-          few = λ h. told_few;
-          next = λ h. ap (λ (ls : List Line). put_lines lines ls list) lines_next ∙ lines_more lines (back_lines (suc k) (taken_back X)) (lines_after C (suc k)) list ∙ rw (← copied_lines, ← copied_count) refl;
-          next_count = λ h. ap (λ (ls : List Line). lines + length ls) lines_next ∙ rw (length-append (back_lines (suc k) (taken_back X)) (lines_after C (suc k))) (omega (arith, copied_count));
-        }
+          refused = tt;
+          last = tt;
+          last_count = tt;
+          on = on_still;
+          more = rw z at O.more;
+          bare = D.bare;
+          few = told_few;
+          next = ap (λ (ls : List Line). put_lines lines ls list) lines_next ∙ lines_more lines (back_lines (suc k) (taken_back X)) (lines_after C (suc k)) list ∙ rw (← copied_lines, ← copied_count) refl;
+          next_count = ap (λ (ls : List Line). lines + length ls) lines_next ∙ rw (length-append (back_lines (suc k) (taken_back X)) (lines_after C (suc k))) (omega (arith, copied_count));
+        })
 
-      -- ---- a refused one
+      -- ---- one that was stopped
 
-      module _ (h : 0 < s.number) where
+      module _ {s : Stopped} (z : r ≡ Err s) where
+        stopped_told : StageTold X m room w (Err s) w1
+        stopped_told = rw z at T
+
         -- its line may be made
-        pub over_at : {left : ℕ} → left ≡ room → OverAt K left s.words s.cells s.waiting
+        pub over_at : {left : ℕ} → left ≡ room → OverAt K left s
         unfolding word_limit
-        over_at e = rw e (record { low = omega (arith, A.one.known.height, C.low); high = omega (arith, A.one.known.height, C.high); left = omega (arith, A.one.left, C.limit, limit_small C.K C.high); few = T.few h; small = T.small h })
+        over_at e = rw e (record { low = omega (arith, A.one.known.height, C.low); high = omega (arith, A.one.known.height, C.high); left = omega (arith, A.one.left, C.limit, limit_small C.K C.high); few = few_of X (filled_plan X) s stopped_told.refuses.tells })
 
         lines_last : lines_after C k ≡ back_lines (suc k) (taken_back X) ++ (over_line X (suc k) room (filled_plan X) ∷ [])
         unfolding setting
-        lines_last = lines_here ∙ why_refused C.rule C.K C.g (C.rooms - suc k) (suc k) U.done U.waiting room waits (T.refused h)
+        lines_last = lines_here ∙ why_refused C.rule C.K C.g (C.rooms - suc k) (suc k) U.done U.waiting room waits stopped_told.refuses.is
 
         -- it ends the build, with its lines told
-        pub tells_over : {list2 six : List ℕ} {stage left : ℕ} → list2 ≡ put_six told six list1 → six ≡ over_six K stage left s.number s.words s.cells s.waiting → stage ≡ suc k → left ≡ room →
-            Tells C m k at lines pl ws cs w list (record { number = s.number; words = 0; waiting = 0; cells = 0; lines = told + 1 }) pl1 ws1 cs1 w2 list2
+        pub tells_over : {list2 six : List ℕ} {stage left : ℕ} → list2 ≡ put_six told six list1 → six ≡ over_six K stage left s → stage ≡ suc k → left ≡ room →
+            Tells C m k at lines pl ws cs w list (record { outcome = r; lines = told + 1 }) pl1 ws1 cs1 w2 list2
         unfolding put_lines
         tells_over {list2} {six} e e2 e3 e4 =
-            let q : six ≡ over_six K (suc k) room s.number s.words s.cells s.waiting = e2 ∙ rw (e3, e4) refl in
+            let q : six ≡ over_six K (suc k) room s = e2 ∙ rw (e3, e4) refl in
             let x : Line = over_line X (suc k) room (filled_plan X) in
-            let o : numbers x ≡ over_six K (suc k) room s.number s.words s.cells s.waiting = over_six_lem C.rule C.K C.g (rank C.g) (graph C.g C.valid) C.low (unfold_empty (length C.g) C.small) U.done U.waiting U.ready room (suc k) T h ∙ ap (λ (i : ℕ). over_six i (suc k) room s.number s.words s.cells s.waiting) (sym A.one.known.height) in
+            let o : numbers x ≡ over_six K (suc k) room s = over_six_lem C.rule C.K C.g (rank C.g) (graph C.g C.valid) C.low (unfold_empty (length C.g) C.small) U.done U.waiting U.ready room (suc k) stopped_told ∙ ap (λ (i : ℕ). over_six i (suc k) room s) (sym A.one.known.height) in
             let b : List Line = back_lines (suc k) (taken_back X) in
             let l : list2 ≡ put_lines lines (lines_after C k) list = e ∙ ap (λ (xs : List ℕ). put_six told xs list1) q ∙ sym (ap (λ (ls : List Line). put_lines lines ls list) lines_last ∙ lines_more lines b (x ∷ []) list ∙ rw (← copied_lines, ← copied_count, o) refl) in
-            record {
+            rw z (record {
               kept = lengths;
               size = rw l (lines_length lines (lines_after C k) list);
-              refused = λ y. O.refused h;
-              last = λ y. l;
-              last_count = λ y. sym (ap (λ (ls : List Line). lines + length ls) lines_last ∙ rw (length-append b (x ∷ [])) (omega (arith, copied_count)));
-              on = λ y. absurd (omega arith);
-              more = λ y. absurd (omega arith);
-              bare = λ y. absurd (omega arith);
-              few = λ y. absurd (omega arith);
-              next = λ y. absurd (omega arith);
-              next_count = λ y. absurd (omega arith);
-            }
+              refused = rw z at O.refused;
+              last = l;
+              last_count = sym (ap (λ (ls : List Line). lines + length ls) lines_last ∙ rw (length-append b (x ∷ [])) (omega (arith, copied_count)));
+              on = tt;
+              more = tt;
+              bare = tt;
+              few = tt;
+              next = tt;
+              next_count = tt;
+            })

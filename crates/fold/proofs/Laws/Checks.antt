@@ -1,5 +1,5 @@
 -- Sizes, refusals, and what passing them gives. Assumes nothing.
-use Prim.Native.Nat.{ℕ, zero, suc, ◌+◌, ◌-◌, ◌%◌, ◌^◌, ◌≤◌, ◌<◌}
+use Prim.Native.Nat.{ℕ, zero, suc, ◌+◌, ◌%◌, ◌^◌, ◌≤◌, ◌<◌}
 use mathlib.Core.Path.{◌≡◌, refl, sym, ◌∙◌, ap}
 use mathlib.Core.Bool.{true, false, ◌&&◌}
 use mathlib.Core.List.{List, ◌++◌}
@@ -16,8 +16,11 @@ use Rattle.rules.specs.Coded.{fold_cells, fold_sized, fold_refusal, folder}
 use Rattle.rules.proofs.Lists.Members.{split, and_true}
 use Rattle.rules.proofs.Stage.Staged.{two_step}
 use Rattle.cells.proofs.Heights.{tall}
-use Rattle.fold.specs.declared.Answer.{Answer}
-use Rattle.fold.specs.Answers.{number_for, outcome}
+use Rattle.std.specs.Prelude.{Ok, Err}
+use Rattle.refusals.specs.declared.Refusal.{Refusal}
+use Rattle.refusals.specs.Numbers.{number_of}
+use Rattle.refusals.proofs.Numbers.{number_above}
+use Rattle.fold.specs.Answers.{outcome}
 use Rattle.fold.specs.Stages.{PlanAt}
 
 -- ---- the number, by what the code tests
@@ -64,19 +67,19 @@ module _ (K : ℕ) (plan bits result work : List ℕ) where
   abbrev number : ℕ
   number = fold_refusal K (length plan) (length result) (length work)
 
-  refused_with_lem : (n : ℕ) → n ≡ number → (n ≡ 0 → ⊥) → (a : Answer) → number_for a ≡ n → outcome a result work ≡ folder K plan bits result work
-  unfolding outcome folder
-  refused_with_lem zero e z a d = absurd (z refl)
-  refused_with_lem (suc n) e z a d = rw (← e, folder, d) refl
-
   -- a refusal changes nothing
-  pub fold_refused : (a : Answer) → number_for a ≡ number → (number_for a ≡ 0 → ⊥) → outcome a result work ≡ folder K plan bits result work
-  fold_refused a t z = refused_with_lem (number_for a) t z a refl
+  pub fold_refused : (A : Type 0) (e : Refusal) → number_of e ≡ number → outcome {A = A} (Err e) result work ≡ folder K plan bits result work
+  unfolding outcome folder
+  fold_refused A e t = more (number_of e) (number_above e) refl t
+    where
+      more : (n : ℕ) → 0 < n → number_of e ≡ n → n ≡ number → record { number = number_of e; result = result; work = work } ≡ folder K plan bits result work
+      more zero h d t = absurd (omega arith)
+      more (suc n) h d t = rw (← t, folder, d) refl
 
   -- a fold that nothing refuses leaves the bits, and 0 in the work area
-  pub fold_done : (a : Answer) → number_for a ≡ number → number ≡ 0 → (r w : List ℕ) → r ≡ laid_over (fold_cells K plan bits) result → w ≡ laid_over (replicate 65536 0) work → outcome a r w ≡ folder K plan bits result work
+  pub fold_done : {A : Type 0} (x : A) → 0 ≡ number → (r w : List ℕ) → r ≡ laid_over (fold_cells K plan bits) result → w ≡ laid_over (replicate 65536 0) work → outcome (Ok x) r w ≡ folder K plan bits result work
   unfolding outcome folder
-  fold_done a t e r w d f = rw (t, e, folder, d, f) refl
+  fold_done x t r w d f = rw (← t, folder, d, f) refl
 
 -- ---- what passing the tests gives
 

@@ -5,8 +5,8 @@ use mathlib.Core.Bool.{Bool, true, false, not}
 use mathlib.Core.List.{List, ◌∷◌}
 use native.Mathlib.Omega.{arith}
 use lib.Dec.{eqb}
-use lib.ListN.{length, get_or, set, take, drop, length-set, length-take, length-map, get_or-eq_default}
-use lib.Seq.{get_or-set_same, get_or-set_other, get_or-take, drop-cons}
+use lib.ListN.{length, get_or, set, take, drop, length-set, length-map, get_or-eq_default}
+use lib.Seq.{get_or-set_same, get_or-set_other, drop-cons}
 use borrow.Author.Tests.{eq-eqb, ne_eqb}
 use Rattle.rules.specs.Lists.{found}
 use Rattle.rules.specs.Cells.{empty, filled}
@@ -39,17 +39,11 @@ pub own_constant : (bits : List ℕ) (p : ℕ) → p ≡ 0 → false ≡ own_bit
 unfolding own_bit
 own_constant bits p e = rw e
 
--- any other pin's own bit is the one handed in
-pub own_other : (bits : List ℕ) (p : ℕ) → (p ≡ 0 → ⊥) → not (eqb (get_or bits p 0) 0) ≡ own_bit bits p
-unfolding own_bit
+-- any other pin's own bit is the one handed in, 0 past them
+pub own_other : (bits : List ℕ) (p : ℕ) → (p ≡ 0 → ⊥) → held bits p ≡ own_bit bits p
+unfolding own_bit held
 own_other bits zero n = absurd (n refl)
 own_other bits (suc p) n = refl
-
--- a pin past the bits has none
-pub own_past : (bits : List ℕ) (n p : ℕ) → p ≡ n → length bits ≤ p → false ≡ own_bit bits n
-unfolding own_bit
-own_past bits zero p e h = refl
-own_past bits (suc n) p e h = rw (get_or-eq_default bits 0 {n = suc n} (omega arith))
 
 -- an empty cell loads 0
 pub load_empty : (load : ℕ → Bool) (c : ℕ) → filled c ≡ false → false ≡ load_cell load c

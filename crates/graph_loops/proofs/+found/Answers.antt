@@ -13,11 +13,8 @@ unmark-requires-clause-by_index t c = c.all_rise.ensures c.if-all_rise.true
 pub unmark-requires-clause-kept : goal.unmark-requires-clause-kept
 unmark-requires-clause-kept t c = all_kept _ _ c.requires refl
 
-pub returns-in-Free : goal.returns-in-Free
-returns-in-Free t c = ap loop_for (sym c.in-Free.is) ∙ c.found-answer.ensures
-
 pub returns-then-index-pin_count : goal.returns-then-index-pin_count
-returns-then-index-pin_count t c = ap loop_for (sym c.in-At.is) ∙ c.found-answer.ensures
+returns-then-index-pin_count t c = ap loop_for (sym c.in_ok-p.was) ∙ c.found.ensures
 
 pub returns-else-index-pin_count : goal.returns-else-index-pin_count
-returns-else-index-pin_count t c = absurd (found_past _ c.requires _ c.found-answer.ensures _ c.in-At.is _ _ c.index.ensures c.pin_count.ensures c.if-index-pin_count.false)
+returns-else-index-pin_count t c = absurd (found_past _ c.requires _ c.found.ensures _ c.in_ok-p.was _ _ c.index.ensures c.pin_count.ensures c.if-index-pin_count.false)

@@ -16,8 +16,7 @@ use Rattle.rules.proofs.Loops.{Answered, none, least, loop_answered, loop_there,
 use borrow.Author.Tests.{ltb-true, ltb-false, ne_eqb}
 use Rattle.rules.specs.Checks.{pin_found}
 use Rattle.graph.proofs.Gates.{graph_length}
-use Rattle.graph_loops.specs.declared.Looped.{Looped}
-use Rattle.graph_loops.specs.declared.Looped.TheVariants.{At}
+use Rattle.std.specs.Prelude.{Option, Some}
 use Rattle.graph_loops.specs.Answers.{loop_for}
 use Rattle.graph_loops.specs.Marks.{Kept, Inside, Step, Spread, Under}
 use Rattle.graph_loops.proofs.Laws.Reaching.{nat_cases}
@@ -96,6 +95,6 @@ found_inside g _ (none h) p e l = true_false (refl {a = true}) (sym (ap is_nothi
 found_inside g _ (least {k = k} m i h) p e l = let z : p ≡ k = ap pin_found e in absurd (omega arith)
 
 -- no pin past the graph's end is found
-pub found_past : (gates : List ℕ) → Inside gates → (r : Looped) → loop_for r ≡ loop_pin (graph_of gates) → (p : Pin) → r ≡ At p → (q n : ℕ) → q ≡ p.0 → n ≡ pin_count gates → n ≤ q → ⊥
+pub found_past : (gates : List ℕ) → Inside gates → (r : Option Pin) → loop_for r ≡ loop_pin (graph_of gates) → (p : Pin) → r ≡ Some p → (q n : ℕ) → q ≡ p.0 → n ≡ pin_count gates → n ≤ q → ⊥
 unfolding loop_for
 found_past gates I r d p c q n e m l = found_inside (graph_of gates) (loop_pin (graph_of gates)) (loop_answered (graph_of gates) (λ i x j. rw (graph_length gates) (I.pins i x j))) p.0 (ap loop_for (sym c) ∙ d) (omega (arith, graph_length gates))

@@ -1,4 +1,3 @@
-use Prim.Native.Nat.{◌-◌}
 use mathlib.Core.Path.{refl}
 use native.Mathlib.Omega.{arith}
 use borrow.Author.Count.{below_more}
@@ -17,4 +16,4 @@ pub loop-p-preserved : goal.loop-p-preserved
 loop-p-preserved c = (search rules, search rules, below_more _ _ c.loop-p.invariant.2 (c.rises.ensures (not-false _ c.if-not-rises.false-raw)))
 
 pub returns : goal.returns
-returns c = λ e p h. c.loop-p.invariant.2 p (omega (arith, c.index.ensures, c.loop-p-test.false, c.loop-p.invariant.0))
+returns c = λ e p h. c.loop-p.invariant.2 p (omega (arith, c.loop-p-test.false, c.loop-p.invariant.0))

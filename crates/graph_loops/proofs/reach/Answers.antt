@@ -6,7 +6,7 @@ pub returns-in-Leaf : goal.returns-in-Leaf
 returns-in-Leaf c = reach_leaf _ _ _ c.node_at.ensures _ c.in-Leaf.is
 
 pub returns-then-x : goal.returns-then-x
-returns-then-x c = let d = c in reach_true _ _ _ d.node_at.ensures _ _ d.in-Gate.is c.reach_one-x.ensures c.reach_one-y.ensures c.if-x.true
+returns-then-x c = let d = c in rw c.if-x.true (reach_true _ _ _ d.node_at.ensures _ _ d.in-Gate.is c.reach_one-x.ensures c.reach_one-y.ensures c.if-x.true)
 
 pub returns-else-x : goal.returns-else-x
 returns-else-x c = let d = c in reach_rest _ _ _ d.node_at.ensures _ _ d.in-Gate.is c.reach_one-x.ensures c.reach_one-y.ensures c.if-x.false

@@ -1,5 +1,3 @@
-use Prim.Native.Nat.{◌-◌}
-use mathlib.Core.Bool.{false}
 use mathlib.Core.Path.{sym, ◌∙◌}
 use native.Mathlib.Omega.{arith}
 use borrow.Author.Count.{below_more}
@@ -14,11 +12,11 @@ loop-p-init c = (search rules, search rules, λ q h. absurd (omega arith))
 
 pub returns-then-is_looped : goal.returns-then-is_looped
 unfolding loop_for
-returns-then-is_looped c = search_found _ _ _ (graph_length _) c.loop-p.invariant.2 (omega (arith, c.index.ensures, c.loop-p-test.true, c.loop-p.invariant.0)) (sym c.is_looped.ensures ∙ c.if-is_looped.true)
+returns-then-is_looped c = search_found _ _ _ (graph_length _) c.loop-p.invariant.2 (omega (arith, c.loop-p-test.true, c.loop-p.invariant.0)) (sym c.is_looped.ensures ∙ c.if-is_looped.true)
 
 pub loop-p-preserved : goal.loop-p-preserved
 loop-p-preserved c = (search rules, search rules, below_more _ _ c.loop-p.invariant.2 (sym c.is_looped.ensures ∙ c.if-is_looped.false))
 
 pub returns : goal.returns
 unfolding loop_for
-returns c = search_nothing _ _ _ (graph_length _) c.loop-p.invariant.2 (omega (arith, c.index.ensures, c.loop-p-test.false, c.loop-p.invariant.0))
+returns c = search_nothing _ _ _ (graph_length _) c.loop-p.invariant.2 (omega (arith, c.loop-p-test.false, c.loop-p.invariant.0))

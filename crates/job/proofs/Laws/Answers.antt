@@ -2,7 +2,7 @@
 use mathlib.Core.Path.{◌≡◌, sym, ◌∙◌}
 use mathlib.Core.Bool.{Bool, true, false, ◌&&◌}
 use mathlib.Core.List.{List}
-use Prim.Native.Nat.{ℕ, ◌+◌, ◌-◌, ◌*◌, ◌<◌, ◌≤◌}
+use Prim.Native.Nat.{ℕ, ◌+◌, ◌*◌, ◌<◌, ◌≤◌}
 use native.Mathlib.Omega.{arith}
 use lib.Dec.{leb}
 use lib.ListN.{length, drop}
@@ -12,25 +12,10 @@ use Rattle.rules.specs.Lists.{laid_over}
 use Rattle.rules.specs.Graph.{pin_count}
 use Rattle.rules.specs.Job.{Job, Job?, no_job, job, got, read_fields, is_padding, fits_program, accept, read_job}
 use Rattle.rules.proofs.Lists.Members.{split, and_true}
-use Rattle.rules.proofs.Bools.{and_none}
 use Rattle.rules.proofs.Job.Fields.{no_cut}
 use Rattle.bits.specs.Fields.{bits_in}
 use Rattle.job.specs.Walk.{Met, Measured, MeasuredIn, Walked, sized, accepts}
 use Rattle.job.specs.Answers.{Outcome, refused, room_for, laid, read_into}
-
--- ---- has it room
-
--- an area too short for the gates: no room
-pub room_gates : (a b c d e f : ℕ) → d < a → false ≡ (leb a d && leb b e && leb c f)
-room_gates a b c d e f h = sym (rw (lt-leb a d h))
-
--- an area too short for the given pins: no room
-pub room_given : (a b c d e f : ℕ) → e < b → false ≡ (leb a d && leb b e && leb c f)
-room_given a b c d e f h = sym (rw (lt-leb b e h, and_none (leb a d)))
-
--- with room for gates and given pins, the records' area decides
-pub room_records : (a b c d e f : ℕ) → a ≤ d → b ≤ e → leb c f ≡ (leb a d && leb b e && leb c f)
-room_records a b c d e f h k = sym (rw (le-leb a d h, le-leb b e k))
 
 -- ---- is it a job
 
@@ -40,7 +25,7 @@ unfolding read_job
 too_long xs h = rw (lt-leb (length xs) 8192 h, read_job)
 
 fits_sized : {xs : List ℕ} {at K ng nv nc : ℕ} (m : Met xs at K ng nv nc) → fits_program m.J ≡ sized K ng nc
-unfolding fits_program sized pin_count
+unfolding fits_program pin_count
 fits_sized m = rw (← m.height, ← m.gates, ← m.records)
 
 module _ {xs : List ℕ} {at K ng nv nc : ℕ} (small : length xs ≤ 8192) (M : Measured xs at K ng nv nc) where

@@ -10,8 +10,6 @@ use borrow.Author.Tests.{eq-eqb, ne_eqb}
 use Rattle.rules.specs.Cells.{empty}
 use Rattle.rules.specs.Records.{size_of}
 use Rattle.rules.specs.Job.{got, next, fields, number_width, read_pin, read_record}
-use Rattle.records.specs.Values.{known}
-use Rattle.records.proofs.Reading.{known_size}
 use Rattle.bits.specs.Fields.{bits_in, FieldIs}
 use Rattle.bits.proofs.Laws.Fields.{field_there, field_lost}
 use Rattle.job.specs.Steps.{one_field, At, FieldsAt, Took, Counted}
@@ -70,10 +68,6 @@ module _ {at s : ℕ} {xs : List ℕ} (A : At at s xs) where
         }
 
 -- ---- a record
-
--- the size by what the kind's functions answer
-pub size_is : (k : ℕ) {size kind : ℕ} → size ≡ size_of kind → kind ≡ known k → size ≡ size_of k
-size_is k e d = e ∙ ap size_of d ∙ known_size k
 
 module _ {at s : ℕ} {xs : List ℕ} (A : At at s xs) where
   -- too few bits left for a kind: cut

@@ -2,7 +2,7 @@
 use mathlib.Core.Path.{◌≡◌, refl, sym, ap, ◌∙◌}
 use mathlib.Core.Bool.{Bool, true, false, ◌&&◌}
 use mathlib.Core.List.{List, [], ◌∷◌, ◌++◌}
-use Prim.Native.Nat.{ℕ, ◌+◌, ◌-◌, ◌*◌, ◌/◌, ◌<◌, ◌≤◌}
+use Prim.Native.Nat.{ℕ, ◌+◌, ◌-◌, ◌*◌, ◌<◌, ◌≤◌}
 use native.Mathlib.Omega.{arith}
 use lib.Dec.{leb, eqb}
 use lib.ListN.{length, set, take, drop, length-set, length-drop}
@@ -12,7 +12,7 @@ use Rattle.rules.specs.Cells.{empty}
 use Rattle.rules.specs.Lists.{every}
 use Rattle.rules.specs.Job.{Job, Read, cut, got, next, field, fields, number_of, read_pins, read_records, read_fields, is_padding}
 use Rattle.rules.proofs.Lists.Members.{split, eqb_true, eqb_false}
-use Rattle.rules.proofs.Bools.{and_right, and_none}
+use Rattle.rules.proofs.Bools.{and_right}
 use Rattle.bits.specs.Fields.{bits_in, FieldIs}
 use Rattle.bits.proofs.Laws.Fields.{field_there, field_lost, bits_length}
 use Rattle.bits.proofs.Laws.Putting.{none_back}
@@ -127,21 +127,6 @@ padding_is {at} {xs} {n} h F =
     let l = length-drop at (bits_in xs) in
     let t : take (8 * length xs - at) bs ≡ bs = take_all (8 * length xs - at) bs (omega (arith, bits_length xs)) in
     rw (F.is, t, zero_number bs 0, lt-ltb (length bs) 8 (omega (arith, bits_length xs)))
-
--- a height above 10 is over the program's sizes
-pub size_height : (K ng nc : ℕ) → 10 < K → false ≡ sized K ng nc
-unfolding sized
-size_height K ng nc h = sym (rw (lt-leb K 10 h))
-
--- more than 500 pins are over the program's sizes
-pub size_pins : (K ng nc : ℕ) → 501 < ng / 2 → false ≡ sized K ng nc
-unfolding sized
-size_pins K ng nc h = sym (rw (lt-leb (ng / 2) 501 h, and_none (leb K 10)))
-
--- with height and pins right, the count of record numbers decides
-pub size_numbers : (K ng nc : ℕ) → K ≤ 10 → ng / 2 ≤ 501 → leb nc 512 ≡ sized K ng nc
-unfolding sized
-size_numbers K ng nc h k = sym (rw (le-leb K 10 h, le-leb (ng / 2) 501 k))
 
 -- a cut file is not accepted
 pub accepts_lost : (xs : List ℕ) (at K ng nc : ℕ) → 8 * length xs < at → false ≡ accepts xs at K ng nc

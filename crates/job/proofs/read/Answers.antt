@@ -1,5 +1,5 @@
 -- `job::read` meets its contract: the first walk measures, the second stores. Assumes nothing.
-use Rattle.rules.proofs.Bools.{no, yes}
+use mathlib.Core.Path.{sym, ◌∙◌}
 use Rattle.job.specs.Answers.{outcome, refused}
 use Rattle.job.proofs.Laws.Answers.{too_long, no_job_lem, as_before, refuses_bytes, refuses_room, reads}
 use Rattle.job.proofs.read.Goals as goal
@@ -10,12 +10,12 @@ returns-then-bytes-gt8192 c = refuses_bytes _ _ _ _ (too_long c.args.bytes.now c
 
 pub returns-then-not-is_job : goal.returns-then-not-is_job
 unfolding outcome refused
-returns-then-not-is_job c = let M = c.measure-m.ensures in as_before M _ _ (refuses_bytes _ _ _ _ (no_job_lem c.if-bytes-gt8192.false M.measured (no c.is_job.ensures c.if-not-is_job.true-raw)))
+returns-then-not-is_job c = let M = c.measure-m.ensures in as_before M _ _ (refuses_bytes _ _ _ _ (no_job_lem c.if-bytes-gt8192.false M.measured (sym c.is_job.ensures ∙ c.if-not-is_job.true)))
 
 pub returns-then-not-has_room : goal.returns-then-not-has_room
 unfolding outcome refused
-returns-then-not-has_room c = let M = c.measure-m.ensures in as_before M _ _ (refuses_room c.if-bytes-gt8192.false M.measured (yes c.is_job.ensures c.if-not-is_job.false-raw) _ _ _ (no c.has_room.ensures c.if-not-has_room.true-raw))
+returns-then-not-has_room c = let M = c.measure-m.ensures in as_before M _ _ (refuses_room c.if-bytes-gt8192.false M.measured (sym c.is_job.ensures ∙ c.if-not-is_job.false) _ _ _ (sym c.has_room.ensures ∙ c.if-not-has_room.true))
 
 pub returns : goal.returns
 unfolding outcome refused
-returns c = let M = c.measure-m.ensures in as_before M _ _ (reads c.walk-w.ensures c.if-bytes-gt8192.false M.measured (yes c.is_job.ensures c.if-not-is_job.false-raw) (yes c.has_room.ensures c.if-not-has_room.false-raw))
+returns c = let M = c.measure-m.ensures in as_before M _ _ (reads c.walk-w.ensures c.if-bytes-gt8192.false M.measured (sym c.is_job.ensures ∙ c.if-not-is_job.false) (sym c.has_room.ensures ∙ c.if-not-has_room.false))

@@ -7,7 +7,8 @@ use native.Mathlib.Omega.{arith}
 use lib.Dec.{leb}
 use lib.ListN.{length}
 use borrow.Author.Tests.{le-leb, lt-leb, leb-true}
-use Rattle.rules.specs.Records.{read, groups_of}
+use Rattle.std.specs.Prelude.{None}
+use Rattle.rules.specs.Records.{groups_of}
 use Rattle.rules.specs.Job.{Job, File?, no_file, file, bytes_of, job_bits, write_job}
 use Rattle.rules.proofs.Job.Bits.{Bytes, bytes_length}
 use Rattle.rules.proofs.Job.Files.{Written, written, is_written, byte_length}
@@ -24,10 +25,10 @@ without no_file h = refl
 without (file bs) h = absurd (h bs refl)
 
 -- a job that fits no file is refused with 11
-pub refuses_job : {J : Job} {r : ℕ} → Judged J r → r ≡ 0 → (xs : List ℕ) → refused 11 xs ≡ write_into (write_job J) xs
+pub refuses_job : {J : Job} → Judged J None → (xs : List ℕ) → refused 11 xs ≡ write_into (write_job J) xs
 unfolding write_into
-refuses_job {J} R e xs =
-    let n : write_job J ≡ no_file = without (write_job J) (λ bs w. let W = written J bs w in R.none e W.gs W.held W.fits) in
+refuses_job {J} R xs =
+    let n : write_job J ≡ no_file = without (write_job J) (λ bs w. let W = written J bs w in R W.gs W.held W.fits) in
     rw n
 
 module _ {J : Job} {n : ℕ} (F : Fitting J n) where

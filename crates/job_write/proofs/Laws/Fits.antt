@@ -3,12 +3,14 @@ use mathlib.Core.Path.{◌≡◌, refl, sym, ap, ◌∙◌}
 use mathlib.Core.Logic.{◌≢◌}
 use mathlib.Core.Bool.{Bool, true, false, ◌&&◌}
 use mathlib.Core.List.{List, [], ◌∷◌}
-use Prim.Native.Nat.{ℕ, zero, suc, ◌+◌, ◌-◌, ◌*◌, ◌/◌, ◌%◌, ◌^◌, ◌<◌, ◌≤◌}
+use Prim.Native.Nat.{ℕ, suc, ◌+◌, ◌-◌, ◌*◌, ◌/◌, ◌%◌, ◌^◌, ◌<◌, ◌≤◌}
 use native.Mathlib.Omega.{arith}
 use lib.Dec.{leb, ltb, eqb}
 use lib.ListN.{length, get_or, take, drop, length-drop}
 use lib.Seq.{drop-cons}
 use borrow.Author.Tests.{le-leb, lt-leb, lt-ltb, le-ltb, eq-eqb, ne_eqb}
+use Rattle.std.specs.Prelude.{Option, Some, None}
+use Rattle.std.specs.List.{list_all}
 use Rattle.rules.specs.Lists.{every}
 use Rattle.rules.specs.Cells.{empty}
 use Rattle.rules.specs.Graph.{node_of, graph_of, pin_count}
@@ -19,25 +21,16 @@ use Rattle.rules.proofs.Bools.{and_none}
 use Rattle.rules.proofs.Job.Kinds.{not_groups}
 use Rattle.rules.proofs.Job.Fields.{fits_in}
 use Rattle.rules.proofs.Job.Records.{plain_at}
-use Rattle.rules.specs.Inside.Files.{Held}
 use Rattle.records.specs.Values.{size_at}
-use Rattle.records.proofs.Reading.{every_step, every_end, read_step, read_end, read_cut, size_none, Stands, stands}
-use Rattle.job_write.specs.Fits.{counted, behind, RecordIs, Fitting, Judged}
+use Rattle.records.proofs.Reading.{read_step, read_end, read_cut, size_none, Stands, stands}
+use Rattle.job_write.specs.Fits.{counted, behind, RecordFits, RecordIs, Judged}
 
 -- ---- numbers below a limit
 
-module _ (limit : ℕ) (xs : List ℕ) (i : ℕ) (inv : every (λ x. ltb x limit) xs ≡ every (λ x. ltb x limit) (drop i xs)) where
-  -- a number at the limit or above decides: not all fit
-  pub number_above : i < length xs → limit ≤ get_or xs i 0 → false ≡ every (λ x. ltb x limit) xs
-  number_above h k = sym (inv ∙ every_step (λ x. ltb x limit) xs i h ∙ rw (le-ltb (get_or xs i 0) limit k))
-
-  -- a number below it: those behind it decide
-  pub number_below : i < length xs → get_or xs i 0 < limit → every (λ x. ltb x limit) xs ≡ every (λ x. ltb x limit) (drop (i + 1) xs)
-  number_below h k = inv ∙ every_step (λ x. ltb x limit) xs i h ∙ rw (lt-ltb (get_or xs i 0) limit k)
-
-  -- no number left: all fit
-  pub numbers_below : length xs ≤ i → true ≡ every (λ x. ltb x limit) xs
-  numbers_below h = sym (inv ∙ every_end (λ x. ltb x limit) xs i h)
+pub all_every : (f : ℕ → Bool) (xs : List ℕ) → list_all f xs ≡ every f xs
+unfolding every
+all_every f [] = refl
+all_every f (x ∷ xs) = split (f x) (λ t. rw (t, every) (all_every f xs)) (λ t. rw (t, every))
 
 -- ---- pins
 
@@ -146,13 +139,13 @@ gates_rest xs o h e d = sym (rw (eq-eqb (length xs % 2) 0 (split (eqb (length xs
 
 -- ---- records
 
-counted_then : (g : Group) (r : Groups?) (b : Bool) → group_fits g ≡ b → counted (and_then g r) ≡ elim b [ true ↦ behind 1 (counted r) | false ↦ 0 ]
+counted_then : (g : Group) (r : Groups?) (b : Bool) → group_fits g ≡ b → counted (and_then g r) ≡ elim b [ true ↦ behind 1 (counted r) | false ↦ None ]
 unfolding counted and_then behind groups_fit
 counted_then g unreadable true e = refl
 counted_then g unreadable false e = refl
 counted_then g (groups gs) true e =
-    let d : suc (suc (length gs)) ≡ 1 + suc (length gs) = omega arith in
-    rw (e, counted) (split (groups_fit gs) (λ t. rw (t, counted) d) (λ t. rw (t, counted)))
+    let d : suc (length gs) ≡ 1 + length gs = omega arith in
+    rw (e, counted) (split (groups_fit gs) (λ t. rw (t, counted) (ap Some d)) (λ t. rw (t, counted)))
 counted_then g (groups gs) false e = rw (e, counted)
 
 module _ (xs : List ℕ) (at : ℕ) where
@@ -163,9 +156,9 @@ module _ (xs : List ℕ) (at : ℕ) where
       rw (d, s) (plain_at (get_or xs at 0) (drop (at + 1) xs) (rw (d, s) at t)).fits
 
   -- where no whole record stands, none fits
-  pub record_none : at < length xs → size_at xs at ≡ 0 → RecordIs xs at 0
+  pub record_none : at < length xs → size_at xs at ≡ 0 → RecordIs xs at None
   unfolding counted
-  record_none h e = record { none = λ _. rw (read_cut xs at h (size_none xs at e)); some = λ k. absurd (omega arith); inside = omega arith }
+  record_none h e = rw (read_cut xs at h (size_none xs at e))
 
   module _ (h : at < length xs) (n : ℕ) (size : n ≡ size_at xs at) (some : n ≢ 0) where
     there : Stands xs at
@@ -182,21 +175,17 @@ module _ (xs : List ℕ) (at : ℕ) where
         group_fits_lem h T.is ∙ sym (rw (m, l) at e)
 
     -- a number too great for its field: the record does not fit
-    pub record_unfit : (limit : ℕ) → limit ≡ 2 ^ number_width (get_or xs at 0) → every (λ x. ltb x limit) (take (at + 1 + n - (at + 1)) (drop (at + 1) xs)) ≡ false → RecordIs xs at 0
-    record_unfit limit l e = record {
-      none = λ _. ap counted (read_step xs at there.is) ∙ counted_then (group_at (drop at xs)) (read (drop (at + (1 + size_of (get_or xs at 0))) xs)) false (numbers_fit limit l (sym e));
-      some = λ k. absurd (omega arith);
-      inside = omega arith;
-    }
+    pub record_unfit : (limit : ℕ) → limit ≡ 2 ^ number_width (get_or xs at 0) → every (λ x. ltb x limit) (take (at + 1 + n - (at + 1)) (drop (at + 1) xs)) ≡ false → RecordIs xs at None
+    record_unfit limit l e = ap counted (read_step xs at there.is) ∙ counted_then (group_at (drop at xs)) (read (drop (at + (1 + size_of (get_or xs at 0))) xs)) false (numbers_fit limit l (sym e))
 
     -- all numbers below the limit: the record fits, and takes so many numbers
-    pub record_fit : (limit : ℕ) → limit ≡ 2 ^ number_width (get_or xs at 0) → every (λ x. ltb x limit) (take (at + 1 + n - (at + 1)) (drop (at + 1) xs)) ≡ true → RecordIs xs at (1 + n)
+    pub record_fit : (limit : ℕ) → limit ≡ 2 ^ number_width (get_or xs at 0) → every (λ x. ltb x limit) (take (at + 1 + n - (at + 1)) (drop (at + 1) xs)) ≡ true → RecordIs xs at (Some (1 + n))
     record_fit limit l e =
         let T = there in
         let m : n ≡ size_of (get_or xs at 0) = size ∙ T.size in
         record {
-          none = λ z. absurd (omega arith);
-          some = λ _. rw m (ap counted (read_step xs at T.is) ∙ counted_then (group_at (drop at xs)) (read (drop (at + (1 + size_of (get_or xs at 0))) xs)) true (numbers_fit limit l (sym e)));
+          some = omega arith;
+          is = rw m (ap counted (read_step xs at T.is) ∙ counted_then (group_at (drop at xs)) (read (drop (at + (1 + size_of (get_or xs at 0))) xs)) true (numbers_fit limit l (sym e)));
           inside = omega (arith, T.inside);
         }
 
@@ -216,20 +205,17 @@ pub record Counting (xs : List ℕ) (i count : ℕ) : Type 0 where
   pub few : count ≤ i
   pub upto : i ≤ length xs
 
-behind_none : (z : ℕ) → z ≡ behind 0 z
+behind_none : (z : Option ℕ) → z ≡ behind 0 z
 unfolding behind
-behind_none zero = refl
-behind_none (suc z) = omega arith
+behind_none None = refl
+behind_none (Some m) = let e : m ≡ 0 + m = omega arith in ap Some e
 
-behind_more : (n z : ℕ) → behind n (behind 1 z) ≡ behind (n + 1) z
+behind_more : (n : ℕ) (z : Option ℕ) → behind n (behind 1 z) ≡ behind (n + 1) z
 unfolding behind
-behind_more n zero = refl
-behind_more n (suc z) =
-    let e : 1 + suc z ≡ suc (suc z) = omega arith in
-    let d : n + suc (suc z) ≡ n + 1 + suc z = omega arith in
-    ap (behind n) e ∙ d
+behind_more n None = refl
+behind_more n (Some m) = let e : n + (1 + m) ≡ n + 1 + m = omega arith in ap Some e
 
-behind_lost : (n : ℕ) → behind n 0 ≡ 0
+behind_lost : (n : ℕ) → behind n None ≡ None
 unfolding behind
 behind_lost n = refl
 
@@ -239,53 +225,47 @@ counting_none xs = record { is = behind_none (counted (read xs)); few = omega ar
 
 module _ {xs : List ℕ} {i count : ℕ} (C : Counting xs i count) where
   -- a record that does not fit: no count
-  pub counting_lost : {r : ℕ} → RecordIs xs i r → r ≡ 0 → 0 ≡ counted (read xs)
-  counting_lost R e = sym (C.is ∙ rw (R.none e) (behind_lost count))
+  pub counting_lost : RecordIs xs i None → None ≡ counted (read xs)
+  counting_lost R = sym (C.is ∙ rw R (behind_lost count))
 
   -- a record that fits counts one more
-  pub counting_more : {r : ℕ} → RecordIs xs i r → r ≢ 0 → Counting xs (i + r) (count + 1)
-  counting_more {r} R e =
-      let k : 0 < r = split (eqb r 0) (λ t. absurd (e (eqb_true r 0 t))) (λ t. let k = eqb_false r 0 t in omega arith) in
-      record { is = C.is ∙ rw (R.some k) (behind_more count (counted (read (drop (i + r) xs)))); few = omega (arith, C.few); upto = R.inside }
+  pub counting_more : {r : ℕ} → RecordFits xs i r → Counting xs (i + r) (count + 1)
+  counting_more {r} R = record { is = C.is ∙ rw R.is (behind_more count (counted (read (drop (i + r) xs)))); few = omega (arith, C.few, R.some); upto = R.inside }
 
-  -- at the end all groups are counted, and one more says that they fit
-  pub counting_done : length xs ≤ i → count + 1 ≡ counted (read xs)
+  -- at the end all groups are counted
+  pub counting_done : length xs ≤ i → Some count ≡ counted (read xs)
   unfolding counted groups_fit behind
-  counting_done h = sym (C.is ∙ rw (read_end xs i h))
+  counting_done h = let z : count + 0 ≡ count = omega arith in sym (C.is ∙ rw (read_end xs i h, z))
 
 -- ---- the job
 
--- a job that no file can hold is judged 0
-pub unfit : {J : Job} → ((gs : List Group) → Held J gs → fits_program J ≡ true → ⊥) → Judged J 0
-unfit f = record { none = λ _. f; some = λ n e. absurd (omega arith) }
-
 -- a height above 10 is over the program's sizes
-pub high : (J : Job) → 10 < J.height → Judged J 0
+pub high : (J : Job) → 10 < J.height → Judged J None
 unfolding fits_program
-high J h = unfit (λ gs H e. true_false e (rw (lt-leb J.height 10 h)))
+high J h = λ gs H e. true_false e (rw (lt-leb J.height 10 h))
 
 -- more than 500 pins are over the program's sizes
-pub many_pins : (J : Job) → 501 < length J.gates / 2 → Judged J 0
+pub many_pins : (J : Job) → 501 < length J.gates / 2 → Judged J None
 unfolding fits_program pin_count
-many_pins J h = unfit (λ gs H e. true_false e (rw (lt-leb (length J.gates / 2) 501 h, and_none (leb J.height 10))))
+many_pins J h = λ gs H e. true_false e (rw (lt-leb (length J.gates / 2) 501 h, and_none (leb J.height 10)))
 
 -- more than 512 record numbers are over the program's sizes
-pub many_numbers : (J : Job) → 512 < length J.records → Judged J 0
+pub many_numbers : (J : Job) → 512 < length J.records → Judged J None
 unfolding fits_program
-many_numbers J h = unfit (λ gs H e. true_false e (rw (lt-leb (length J.records) 512 h, and_none (leb J.height 10 && leb (pin_count J.gates) 501))))
+many_numbers J h = λ gs H e. true_false e (rw (lt-leb (length J.records) 512 h, and_none (leb J.height 10 && leb (pin_count J.gates) 501)))
 
 -- a count of given pins must fit 16 bits
-pub many_given : (J : Job) → 65536 ≤ length J.given → Judged J 0
-many_given J h = unfit (λ gs H e. true_false H.few (le-ltb (length J.given) 65536 h))
+pub many_given : (J : Job) → 65536 ≤ length J.given → Judged J None
+many_given J h = λ gs H e. true_false H.few (le-ltb (length J.given) 65536 h)
 
 -- gates that do not fit are judged 0
-pub bad_gates : (J : Job) → gates_fit J.gates ≡ false → Judged J 0
-bad_gates J d = unfit (λ gs H e. true_false H.gates d)
+pub bad_gates : (J : Job) → gates_fit J.gates ≡ false → Judged J None
+bad_gates J d = λ gs H e. true_false H.gates d
 
 -- given pins that do not fit are judged 0
-pub bad_given : (J : Job) → every (λ x. ltb x 65536) J.given ≡ false → Judged J 0
+pub bad_given : (J : Job) → every (λ x. ltb x 65536) J.given ≡ false → Judged J None
 unfolding pin_fits
-bad_given J d = unfit (λ gs H e. true_false H.given d)
+bad_given J d = λ gs H e. true_false H.given d
 
 module _ (J : Job) (height : J.height ≤ 10) (pins : length J.gates / 2 ≤ 501) (numbers : length J.records ≤ 512) (few : length J.given < 65536) (gates : gates_fit J.gates ≡ true)
     (given : every (λ x. ltb x 65536) J.given ≡ true) where
@@ -295,20 +275,13 @@ module _ (J : Job) (height : J.height ≤ 10) (pins : length J.gates / 2 ≤ 501
 
   by_read : (r : Groups?) → read J.records ≡ r → Judged J (counted r)
   unfolding counted groups_of pin_fits
-  by_read unreadable e = unfit (λ gs H _. not_groups (sym e ∙ H.read))
+  by_read unreadable e = λ gs H _. not_groups (sym e ∙ H.read)
   by_read (groups xs) e = split (groups_fit xs)
-      (λ t. rw (t, counted) (record {
-        none = λ z. absurd (omega arith);
-        some = λ n z.
-            let o : groups_of J.records ≡ xs = rw (groups_of, e) in
-            record { held = record { read = rw o e; gates = gates; few = lt-ltb (length J.given) 65536 few; given = given; groups = rw o t }; fits = sized; count = rw o (omega arith) };
-      }))
-      (λ t. rw (t, counted) (unfit (λ gs H _. let o : gs ≡ xs = let q = sym H.read ∙ e in cc in true_false H.groups (rw o t))))
+      (λ t. rw (t, counted)
+      (let o : groups_of J.records ≡ xs = rw (groups_of, e) in
+      record { held = record { read = rw o e; gates = gates; few = lt-ltb (length J.given) 65536 few; given = given; groups = rw o t }; fits = sized; count = rw o }))
+      (λ t. rw (t, counted) (λ gs H _. let o : gs ≡ xs = let q = sym H.read ∙ e in cc in true_false H.groups (rw o t)))
 
   -- with all but the records right, the count of groups is the judgement
-  pub judged : {r : ℕ} → r ≡ counted (read J.records) → Judged J r
+  pub judged : {r : Option ℕ} → r ≡ counted (read J.records) → Judged J r
   judged e = rw e (by_read (read J.records) refl)
-
--- a judgement above 0 is that of a job that fits, and one more than its groups
-pub fitting : {J : Job} {r : ℕ} → Judged J r → r ≢ 0 → Fitting J (r - 1)
-fitting {J} {r} R e = R.some (r - 1) (split (eqb r 0) (λ t. absurd (e (eqb_true r 0 t))) (λ t. let k = eqb_false r 0 t in omega arith))

@@ -1,16 +1,15 @@
 -- A text where it fits, and where it does not. Assumes nothing.
-use mathlib.Core.Path.{◌≡◌, refl, sym, ◌∙◌, ap}
+use mathlib.Core.Path.{◌≡◌, refl, ◌∙◌, ap}
 use mathlib.Core.List.{List, [], ◌∷◌, ◌++◌}
 use Prim.Native.Nat.{ℕ, suc, ◌+◌, ◌≤◌, ◌<◌}
-use native.Mathlib.Numerals.{add-one}
 use native.Mathlib.Omega.{arith}
 use lib.Dec.{leb, ltb}
-use lib.ListN.{length, take, drop, get_or, set, length-set}
-use lib.Seq.{sets, sets-eq, take-suc, take_all}
-use borrow.Author.Tests.{ltb-true, ltb-false, leb-true, leb-false, lt-ltb, le-ltb, le-leb}
+use lib.ListN.{length, drop, set}
+use lib.Seq.{sets, sets-eq}
+use borrow.Author.Tests.{ltb-true, ltb-false, leb-true, leb-false, le-leb}
 use Rattle.rules.specs.Lists.{laid_over}
 use Rattle.rules.proofs.Lists.Members.{split}
-use Rattle.listing_lines.specs.Laid.{step, along, over, Laid}
+use Rattle.listing_lines.specs.Laid.{along, over, Laid}
 use Rattle.listing_lines.proofs.Laws.Laid.{step_in, step_out}
 use Rattle.listing.specs.Listing.{Outcome, outcome, written}
 

@@ -7,6 +7,3 @@ use Rattle.listing_lines.proofs.cell_lines.Given as goal
 
 abbrev pub invariant-loop-p : goal.invariant-loop-p
 invariant-loop-p l = (l.p ≤ length l.cells) × Laid l.limit l.at (cell_lines 0 (take l.p l.cells)) l.initial.out l.now l.out
-
-abbrev pub decreases-loop-p : goal.decreases-loop-p
-decreases-loop-p l = length l.cells - l.p

@@ -6,8 +6,5 @@ use Rattle.rules.specs.Lists.{count}
 use Rattle.rules.specs.Cells.{filled}
 use Rattle.listing_lines.proofs.filled.Given as goal
 
-abbrev pub invariant-loop-i : goal.invariant-loop-i
-invariant-loop-i l = (l.i ≤ length l.cells) × (l.n ≤ l.i) × (l.n ≡ count filled (take l.i l.cells))
-
-abbrev pub decreases-loop-i : goal.decreases-loop-i
-decreases-loop-i l = length l.cells - l.i
+abbrev pub invariant-loop-c : goal.invariant-loop-c
+invariant-loop-c l = (l.c-index ≤ length l.cells) × (l.n ≤ l.c-index) × (l.n ≡ count filled (take l.c-index l.cells))

@@ -2,13 +2,12 @@
 use Prim.Native.Nat.{ℕ}
 use mathlib.Core.Path.{sym, ◌∙◌, ap}
 use Rattle.rules.specs.Listing.{text, pin_text}
-use Rattle.listing_lines.proofs.Laws.Laid.{laid_as, laid_more}
+use Rattle.listing_lines.proofs.Laws.Laid.{laid_none, laid_as, laid_more}
 use Rattle.listing_lines.proofs.Laws.Lines.{pin_none_lem, pin_some}
 use Rattle.listing_lines.proofs.pin_text.Goals as goal
 
 pub returns-then-p-eq0 : goal.returns-then-p-eq0
-unfolding text
-returns-then-p-eq0 c = laid_as c.put_text.ensures (pin_none_lem _ (sym c.index-p.ensures ∙ c.if-p-eq0.true))
+returns-then-p-eq0 c = laid_as laid_none (pin_none_lem _ (sym c.index-p.ensures ∙ c.if-p-eq0.true))
 
 pub returns : goal.returns
 unfolding text

@@ -5,8 +5,5 @@ use Rattle.rules.specs.Listing.{spaced}
 use Rattle.listing_lines.specs.Laid.{Laid}
 use Rattle.listing_lines.proofs.spaced.Given as goal
 
-abbrev pub invariant-loop-i : goal.invariant-loop-i
-invariant-loop-i l = (l.i ≤ length l.words) × Laid l.limit l.at (spaced (take l.i l.words)) l.initial.out l.now l.out
-
-abbrev pub decreases-loop-i : goal.decreases-loop-i
-decreases-loop-i l = length l.words - l.i
+abbrev pub invariant-loop-word : goal.invariant-loop-word
+invariant-loop-word l = (l.word-index ≤ length l.words) × Laid l.limit l.at (spaced (take l.word-index l.words)) l.initial.out l.now l.out

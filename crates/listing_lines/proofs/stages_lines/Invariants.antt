@@ -10,6 +10,3 @@ use Rattle.listing_lines.proofs.stages_lines.Given as goal
 
 abbrev pub invariant-loop-k : goal.invariant-loop-k
 invariant-loop-k l = (l.k ≤ l.n) × (l.from ≡ sum (take l.k l.counts)) × Laid l.limit l.at (stages_lines 1 (stages_in l.size l.k l.plan l.words l.counts)) l.initial.out l.now l.out
-
-abbrev pub decreases-loop-k : goal.decreases-loop-k
-decreases-loop-k l = l.n - l.k

@@ -1,11 +1,6 @@
 -- `mend_list::count_changes` meets its contract. Assumes nothing.
-use Prim.Native.Nat.{◌-◌}
-use lib.ListN.{length}
 use Rattle.mend_list.proofs.Laws.{CountedTo}
 use Rattle.mend_list.proofs.count_changes.Given as goal
 
 abbrev pub invariant-loop-i : goal.invariant-loop-i
 invariant-loop-i l = CountedTo l.old l.new l.i l.n
-
-abbrev pub decreases-loop-i : goal.decreases-loop-i
-decreases-loop-i l = length l.old - l.i

@@ -1,11 +1,6 @@
 -- `mend_list::write_changes` meets its contract. Assumes nothing.
-use Prim.Native.Nat.{◌-◌}
-use lib.ListN.{length}
 use Rattle.mend_list.proofs.Laws.{WrittenTo}
 use Rattle.mend_list.proofs.write_changes.Given as goal
 
 abbrev pub invariant-loop-i : goal.invariant-loop-i
 invariant-loop-i l = WrittenTo l.height.0 l.old l.new l.initial.list l.i l.at l.list
-
-abbrev pub decreases-loop-i : goal.decreases-loop-i
-decreases-loop-i l = length l.old - l.i

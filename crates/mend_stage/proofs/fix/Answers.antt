@@ -1,4 +1,5 @@
 -- `mend_stage::fix` meets its contract. Assumes nothing.
+use mathlib.Core.Logic.{inl, inr}
 use Rattle.mend_stage.proofs.Laws.{fixes_copies, fixes_joins}
 use Rattle.mending.specs.Mend.{fixing}
 use Rattle.mend_stage.specs.Stages.{deed_for}
@@ -6,11 +7,7 @@ use Rattle.mend_stage.proofs.fix.Goals as goal
 
 pub returns-in-Kept : goal.returns-in-Kept
 unfolding deed_for fixing
-returns-in-Kept c = rw c.in-Kept.is
-
-pub returns-in-Stands : goal.returns-in-Stands
-unfolding deed_for fixing
-returns-in-Stands c = rw c.in-Stands.is
+returns-in-Kept c = elim c.in-Kept.is [ inl e ↦ rw e | inr e ↦ rw e.1 ]
 
 pub returns-in-Copies : goal.returns-in-Copies
 unfolding deed_for

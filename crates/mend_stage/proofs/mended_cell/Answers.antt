@@ -1,4 +1,5 @@
 -- `mend_stage::mended_cell` meets its contract. Assumes nothing.
+use mathlib.Core.Logic.{inl, inr}
 use Rattle.mend_stage.proofs.Laws.{inversion_small, cell_joins}
 use Rattle.mending.specs.Mend.{mended}
 use Rattle.mend_stage.specs.Stages.{deed_for, deed_pin}
@@ -14,11 +15,7 @@ returns-in-Kept c = rw c.in-Kept.is
 
 pub returns-in-Stands : goal.returns-in-Stands
 unfolding deed_for mended
-returns-in-Stands c = rw c.in-Stands.is c.plain.ensures
-
-pub returns-in-Copies : goal.returns-in-Copies
-unfolding deed_for mended
-returns-in-Copies c = rw c.in-Copies.is c.plain-in-Copies.ensures
+returns-in-Stands c = elim c.in-Stands.is [ inl e ↦ rw e c.plain.ensures | inr e ↦ rw e c.plain.ensures ]
 
 pub returns-in-Joins : goal.returns-in-Joins
 unfolding deed_for

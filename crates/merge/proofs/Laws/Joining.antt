@@ -18,16 +18,18 @@ use Rattle.merge_slots.specs.Slots.{gathered, listed, own, full}
 use Rattle.merge_slots.specs.Moves.{Begins}
 use Rattle.merge_layout.specs.declared.Totals.{Totals}
 use Rattle.merge_layout.specs.Layout.{owned, LayAt, sorted, Laid}
-use Rattle.merge_originals.specs.declared.Originals.{Originals}
-use Rattle.merge_originals.specs.declared.Originals.TheVariants.{Refused, Built}
+use Rattle.std.specs.Prelude as std
+use Rattle.refusals.specs.Numbers.{number_of, pin_of}
+use Rattle.merge_originals.specs.declared.RefusedPart.{RefusedPart}
 use Rattle.merge_originals.specs.Originals.{OriginalsAt, all_held, parts_for, Given}
 use Rattle.merge_originals.proofs.Laws.Parts.{all_occupied, all_count}
 use Rattle.merge_trials.specs.Ranks.{Stands}
 use Rattle.merge_trials.proofs.Laws.Standing.{stands_stays}
 use Rattle.merge_checks.specs.Values.{group_list}
-use Rattle.merge.specs.declared.Answer.{Answer}
+use Rattle.merge.specs.declared.Merged.{Merged}
+use Rattle.merge.specs.declared.Refused.{Refused}
 use Rattle.merge_rounds.specs.Rounds.{parts_in, Tries, SlotsAt, Slotted}
-use Rattle.merge.specs.Merge.{told, refused_for, JoinAt, Joined}
+use Rattle.merge.specs.Merge.{told, JoinAt, Joined}
 
 module _ {K m table base extra : ℕ} {gates given records xs ls st pl ws cs w : List ℕ} (A : JoinAt K m table base extra gates given records xs ls st pl ws cs w) where
   -- the partitions may be built as they are given
@@ -55,7 +57,7 @@ module _ {K m table base extra : ℕ} {gates given records xs ls st pl ws cs w :
         };
       }
 
-  module _ {rule : WordRule} {r : Originals} {pl₁ ws₁ cs₁ w₁ : List ℕ} (G : Given rule K m table base gates given records xs ls pl ws cs w r pl₁ ws₁ cs₁ w₁) where
+  module _ {rule : WordRule} {r : std.Result ℕ RefusedPart} {pl₁ ws₁ cs₁ w₁ : List ℕ} (G : Given rule K m table base gates given records xs ls pl ws cs w r pl₁ ws₁ cs₁ w₁) where
     abbrev common : ℕ → ℕ → Common
     common cap ranks = record { rule = rule; K = K; g = graph_of gates; given = given; groups = groups_of records; rooms = rooms K (length pl); cap = cap; ranks = ranks }
 
@@ -76,31 +78,33 @@ module _ {K m table base extra : ℕ} {gates given records xs ls st pl ws cs w :
 
     -- ---- one is refused
 
-    answer_refused : (i n k : ℕ) → r ≡ Refused i n k → answer ≡ turned i n k
+    answer_refused : {x : RefusedPart} → r ≡ std.Err x → answer ≡ turned x.part (number_of x.refused.why) x.refused.stage
     unfolding merge_answer_of merge group_list parts_for
-    answer_refused i n k e = rw (originals_are ∙ ap (λ (x : Originals). parts_for x parts) e, merge) refl
+    answer_refused e = rw (originals_are ∙ ap (λ (x : std.Result ℕ RefusedPart). parts_for x parts) e, merge) refl
 
     -- where a partition is refused the merge is, and the group list stays
-    pub join_refused : {i n k : ℕ} → r ≡ Refused i n k → {a : Answer} → a ≡ refused_for n k i → Joined rule K extra gates given records xs ls st pl a xs ls st
-    unfolding told refused_for merge_reply refuse_merge group_list_after
-    join_refused {i} {n} {k} e {a} d = record { reply = rw (d, answer_refused i n k e) refl; groups = rw (answer_refused i n k e) refl }
+    pub join_refused : {x : RefusedPart} → r ≡ std.Err x → Joined rule K extra gates given records xs ls st pl (std.Err (record { why = x.refused.why; stage = x.refused.stage; part = x.part })) xs ls st
+    unfolding told merge_reply refuse_merge group_list_after
+    join_refused {x} e =
+        let p : pin_of x.refused.why ≡ 0 = rw e at (G.plain (common 0 0) (places 0 0)) in
+        record { reply = rw (p, answer_refused e) refl; groups = rw (answer_refused e) refl }
 
     -- ---- all are built
 
-    module _ {most : ℕ} (e : r ≡ Built most) where
+    module _ {most : ℕ} (e : r ≡ std.Ok most) where
       answer_built : answer ≡ merged (merging (common (most_stages parts 0 + extra) (begun (length parts) (max (length parts / 8) 20) 0 4)) (length parts) (occupied parts) 0)
       unfolding merge_answer_of merge group_list parts_for
-      answer_built = rw (originals_are ∙ ap (λ (x : Originals). parts_for x parts) e, merge) refl
+      answer_built = rw (originals_are ∙ ap (λ (x : std.Result ℕ RefusedPart). parts_for x parts) e, merge) refl
 
       answer_slots : (ranks : ℕ) → ranks ≡ begun (length ls) (max (length ls / 8) 20) 0 4
           → answer ≡ merged (merging (common (most + extra) ranks) (length ls) (listed (parts_in base xs ls w₁) (full ls) (length ls) 0) 0)
       answer_slots ranks b =
           let n : length parts ≡ length ls = all_count (length ls) ls xs (owned base (length ls) w₁) A.at.all in
-          answer_built ∙ rw (G.most most e, all_occupied (length ls) ls xs (owned base (length ls) w₁) A.at.all, n, ← b) refl
+          answer_built ∙ rw ((rw e at G.most), all_occupied (length ls) ls xs (owned base (length ls) w₁) A.at.all, n, ← b) refl
 
       -- the cap is a small number
       pub cap_small : most + extra ≤ 65791
-      cap_small = omega (arith, G.few most e, A.at.pins, A.at.passed.few, A.few)
+      cap_small = omega (arith, rw e at G.few, A.at.pins, A.at.passed.few, A.few)
 
       module _ {ranks : ℕ} (B : Begins (length ls) ranks) where
         -- where all partitions are built the slots may be merged
@@ -139,6 +143,6 @@ module _ {K m table base extra : ℕ} {gates given records xs ls st pl ws cs w :
 
           -- the merged slots laid out are the definition's answer
           pub join_merged : {spare : ℕ} {xs₃ ls₃ st₃ w₃ : List ℕ} {t : Totals} → Laid spare base xs₂ ls₂ w₂ xs₃ ls₃ st₃ w₃ t
-              → Joined rule K extra gates given records xs ls st pl (record { number = 0; stages = t.stages; words = t.words; stage = 0; partitions = t.partitions; trials = trials; refused = 0; pin = record { 0 = 0 }; cells = t.cells }) xs₃ ls₃ st₃
+              → Joined rule K extra gates given records xs ls st pl (std.Ok (record { partitions = t.partitions; stages = t.stages; words = t.words; cells = t.cells; trials = trials })) xs₃ ls₃ st₃
           unfolding told merge_reply group_list group_list_after
           join_merged L = record { reply = rw (merges, L.partitions, L.all_stages, L.all_words, L.all_cells) refl; groups = rw (merges, L.indices, L.lengths, L.stages, T.keeps.count) refl }

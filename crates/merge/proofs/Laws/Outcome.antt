@@ -1,5 +1,5 @@
 -- The whole call: what the checks say, and the parts of the areas that count. Assumes nothing.
-use Prim.Native.Nat.{ℕ, zero, suc, ◌+◌, ◌-◌, ◌*◌, ◌≤◌}
+use Prim.Native.Nat.{ℕ, zero, suc, ◌+◌, ◌-◌, ◌*◌, ◌≤◌, ◌<◌}
 use mathlib.Core.Bool.{true, ◌&&◌}
 use mathlib.Core.List.{List, [], ◌++◌}
 use mathlib.Core.Logic.{◌≢◌}
@@ -9,7 +9,6 @@ use lib.Dec.{leb, eqb}
 use lib.ListN.{length, take, drop, replicate, length-replicate}
 use lib.Seq.{length-take-le}
 use borrow.Author.Tests.{leb-true, eqb-true}
-use Rattle.graph.specs.declared.Pin.{Pin}
 use Rattle.rules.proofs.Lists.Parts.{part_laid, divides}
 use Rattle.rules.specs.Lists.{sum, padded, laid_over}
 use Rattle.rules.specs.Cells.{empty, word_limit, stage_size, rooms, is_height}
@@ -21,13 +20,17 @@ use Rattle.rules.specs.Merge.{GroupList, merge_work_size, merge_sized, mergeable
 use Rattle.rules.proofs.Lists.Members.{split, and_true}
 use Rattle.cells.specs.Answers.{or_zero}
 use Rattle.cells.proofs.Heights.{or_zero_true}
-use Rattle.checks.specs.declared.Verdict.{Verdict}
+use Rattle.std.specs.Prelude.{Result, Ok, Err}
+use Rattle.refusals.specs.declared.Refusal.{Refusal}
+use Rattle.refusals.specs.Numbers.{number_of, pin_of}
+use Rattle.refusals.proofs.Numbers.{number_above}
 use Rattle.checks.specs.Values.{Says}
 use Rattle.checks.specs.Passed.{Passed}
 use Rattle.checks.proofs.Laws.Passed.{passed}
 use Rattle.placer.proofs.Laws.Laying.{padded_none}
 use Rattle.merge_checks.specs.Values.{group_list, areas}
-use Rattle.merge.specs.declared.Answer.{Answer}
+use Rattle.merge.specs.declared.Merged.{Merged}
+use Rattle.merge.specs.declared.Refused.{Refused}
 use Rattle.merge.specs.Merge.{told, outcome, PlaceAt, Placed}
 use Rattle.merge.proofs.Laws.Placing.{Able, able}
 
@@ -43,16 +46,16 @@ module _ (K : ℕ) (gates given records xs ls st : List ℕ) (extra : ℕ) (pl w
   abbrev lent : Areas
   lent = areas pl ws cs w
 
-  refused_at_lem : (rule : WordRule) (n : ℕ) → n ≡ merge_refusal K gates given records l extra lent → n ≢ 0 → (p : Pin) → p.0 ≡ pin_shown n gates
-      → outcome (record { number = n; stages = 0; words = 0; stage = 0; partitions = 0; trials = 0; refused = 0; pin = p; cells = 0 }) xs ls st pl ws cs w ≡ merger rule K gates given records l extra lent
+  refused_at_lem : (rule : WordRule) (n : ℕ) → n ≡ merge_refusal K gates given records l extra lent → 0 < n → (why : Refusal) → number_of why ≡ n → pin_of why ≡ pin_shown n gates
+      → outcome (Err (record { why = why; stage = 0; part = 0 })) xs ls st pl ws cs w ≡ merger rule K gates given records l extra lent
   unfolding outcome told refuse_merge_checked merger
-  refused_at_lem rule zero e h p d = absurd (h refl)
-  refused_at_lem rule (suc n) e h p d = rw (← e, merger, d) refl
+  refused_at_lem rule zero e h why s d = absurd (omega arith)
+  refused_at_lem rule (suc n) e h why s d = rw (s, d, ← e, merger) refl
 
   -- what the checks refuse changes nothing
-  pub outcome_refused : (rule : WordRule) (v : Verdict) → Says (merge_refusal K gates given records l extra lent) gates v → v.number ≢ 0
-      → outcome (record { number = v.number; stages = 0; words = 0; stage = 0; partitions = 0; trials = 0; refused = 0; pin = v.pin; cells = 0 }) xs ls st pl ws cs w ≡ merger rule K gates given records l extra lent
-  outcome_refused rule v S h = refused_at_lem rule v.number S.number h v.pin (S.pin ∙ ap (λ (n : ℕ). pin_shown n gates) (sym S.number))
+  pub outcome_refused : {A : Type 0} (rule : WordRule) (why : Refusal) → Says {A = A} (merge_refusal K gates given records l extra lent) gates (Err why)
+      → outcome (Err (record { why = why; stage = 0; part = 0 })) xs ls st pl ws cs w ≡ merger rule K gates given records l extra lent
+  outcome_refused rule why S = refused_at_lem rule (number_of why) S.number (number_above why) why refl (S.pin ∙ ap (λ (n : ℕ). pin_shown n gates) (sym S.number))
 
   both : (k : ℕ) → refusal_of K (merge_sized K gates records l lent) gates given records ≡ k → merge_refusal K gates given records l extra lent ≡ 0 → (refusal_of K (merge_sized K gates records l lent) gates given records ≡ 0) × (mergeable records l extra ≡ true)
   unfolding merge_refusal
@@ -65,10 +68,10 @@ module _ (K : ℕ) (gates given records xs ls st : List ℕ) (extra : ℕ) (pl w
 pub record Checked (K : ℕ) (gates given records xs ls st : List ℕ) (extra : ℕ) (pl ws cs w : List ℕ) : Type 0 where
   pub none : merge_refusal K gates given records (group_list xs ls st) extra (areas pl ws cs w) ≡ 0
 
--- a verdict of 0 means that no check refuses
-pub checked : {K : ℕ} {gates given records xs ls st : List ℕ} {extra : ℕ} {pl ws cs w : List ℕ} {v : Verdict} → Says (merge_refusal K gates given records (group_list xs ls st) extra (areas pl ws cs w)) gates v → v.number ≡ 0
+-- checks that refuse nothing
+pub checked : {A : Type 0} {K : ℕ} {gates given records xs ls st : List ℕ} {extra : ℕ} {pl ws cs w : List ℕ} {x : A} → Says (merge_refusal K gates given records (group_list xs ls st) extra (areas pl ws cs w)) gates (Ok x)
     → Checked K gates given records xs ls st extra pl ws cs w
-checked S z = record { none = sym S.number ∙ z }
+checked S = record { none = sym S.number }
 
 module _ {K : ℕ} {gates given records xs ls st : List ℕ} {extra : ℕ} {pl ws cs w : List ℕ} (H : Checked K gates given records xs ls st extra pl ws cs w) where
   clear : (refusal_of K (merge_sized K gates records (group_list xs ls st) (areas pl ws cs w)) gates given records ≡ 0) × (mergeable records (group_list xs ls st) extra ≡ true)
@@ -146,7 +149,7 @@ module _ {K : ℕ} {gates given records xs ls st : List ℕ} {extra : ℕ} {pl w
       work_size = length-take-le (size - 0) w (omega (arith, work_inside)) ∙ omega (arith, en);
     }
 
-    module _ {rule : WordRule} {a : Answer} {xs' ls' st' pl' ys zs vs : List ℕ} (D : Placed rule K extra gates given records xs ls st pl (take (limit - 0) ws) (take (rms - 0) cs) (take (size - 0) w) a xs' ls' st' pl' ys zs vs) where
+    module _ {rule : WordRule} {a : Result Merged Refused} {xs' ls' st' pl' ys zs vs : List ℕ} (D : Placed rule K extra gates given records xs ls st pl (take (limit - 0) ws) (take (rms - 0) cs) (take (size - 0) w) a xs' ls' st' pl' ys zs vs) where
       words_laid : ys ++ drop (limit - 0) ws ≡ laid_over (padded (word_limit K) empty []) ws
       words_laid =
           part_laid (limit - 0) ws ys (omega (arith, words_inside)) (ap length D.words ∙ length-replicate (length (take (limit - 0) ws)) empty)

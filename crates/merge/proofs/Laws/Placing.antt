@@ -20,7 +20,9 @@ use Rattle.placer_start.proofs.Laws.Opening.{zeros_idle}
 use Rattle.placer.specs.Build.{Emptied}
 use Rattle.merge_unions.specs.Table.{LocateAt, Locates}
 use Rattle.merge_checks.specs.Values.{group_list}
-use Rattle.merge.specs.declared.Answer.{Answer}
+use Rattle.merge.specs.declared.Merged.{Merged}
+use Rattle.merge.specs.declared.Refused.{Refused}
+use Rattle.std.specs.Prelude as std
 use Rattle.merge.specs.Merge.{JoinAt, Joined, PlaceAt, Placed}
 
 -- what check 10 lets pass
@@ -117,7 +119,7 @@ module _ {K extra : ℕ} {gates given records xs ls st pl ws cs w : List ℕ} (P
         }
 
         -- merged and emptied again, the areas are as the rules leave them
-        pub placed : {rule : WordRule} {a : Answer} {xs₃ ls₃ st₃ pl₃ ws₃ cs₃ w₃ pl₄ ws₄ cs₄ w₄ : List ℕ} → Joined rule K extra gates given records xs ls st pl₁ a xs₃ ls₃ st₃
+        pub placed : {rule : WordRule} {a : std.Result Merged Refused} {xs₃ ls₃ st₃ pl₃ ws₃ cs₃ w₃ pl₄ ws₄ cs₄ w₄ : List ℕ} → Joined rule K extra gates given records xs ls st pl₁ a xs₃ ls₃ st₃
             → length pl₃ ≡ length pl₁ → length ws₃ ≡ length ws₁ → length cs₃ ≡ length cs₁ → length w₃ ≡ length w₂
             → Emptied pl₃ ws₃ cs₃ w₃ pl₄ ws₄ cs₄ w₄ → Placed rule K extra gates given records xs ls st pl ws cs w a xs₃ ls₃ st₃ pl₄ ws₄ cs₄ w₄
         placed J a b c d F = record {

@@ -15,20 +15,20 @@ overflow_add-base c = omega (arith, indices_few c.requires, pins_few c.requires 
 pub locate-requires : goal.locate-requires
 locate-requires c = locate_at c.requires c.pin_count-m.ensures c.empty_all.ensures
 
-pub join-a-requires : goal.join-a-requires
-join-a-requires c = join_at c.requires c.pin_count-m.ensures c.empty_all.ensures c.locate.ensures
+pub join-merged-requires : goal.join-merged-requires
+join-merged-requires c = join_at c.requires c.pin_count-m.ensures c.empty_all.ensures c.locate.ensures
 
 pub shape_of-plan : goal.shape_of-plan
-shape_of-plan c = omega (arith, c.empty_all-2.auto.plan, c.join-a.auto.plan, c.empty_all.auto.plan)
+shape_of-plan c = omega (arith, c.empty_all-2.auto.plan, c.join-merged.auto.plan, c.empty_all.auto.plan)
 
 pub shape_of-words : goal.shape_of-words
-shape_of-words c = omega (arith, c.empty_all-2.auto.words, c.join-a.auto.words, c.empty_all.auto.words)
+shape_of-words c = omega (arith, c.empty_all-2.auto.words, c.join-merged.auto.words, c.empty_all.auto.words)
 
 pub shape_of-counts : goal.shape_of-counts
-shape_of-counts c = omega (arith, c.empty_all-2.auto.counts, c.join-a.auto.counts, c.empty_all.auto.counts)
+shape_of-counts c = omega (arith, c.empty_all-2.auto.counts, c.join-merged.auto.counts, c.empty_all.auto.counts)
 
 pub shape_of-work : goal.shape_of-work
-shape_of-work c = omega (arith, c.empty_all-2.auto.work, c.join-a.auto.work, c.locate.auto.work, c.empty_all.auto.work)
+shape_of-work c = omega (arith, c.empty_all-2.auto.work, c.join-merged.auto.work, c.locate.auto.work, c.empty_all.auto.work)
 
 pub returns : goal.returns
-returns c = placed c.requires c.pin_count-m.ensures c.empty_all.ensures c.locate.ensures c.join-a.ensures c.join-a.auto.plan c.join-a.auto.words c.join-a.auto.counts c.join-a.auto.work c.empty_all-2.ensures
+returns c = placed c.requires c.pin_count-m.ensures c.empty_all.ensures c.locate.ensures c.join-merged.ensures c.join-merged.auto.plan c.join-merged.auto.words c.join-merged.auto.counts c.join-merged.auto.work c.empty_all-2.ensures

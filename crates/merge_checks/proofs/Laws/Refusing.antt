@@ -15,12 +15,15 @@ use Rattle.rules.specs.Records.{groups_of}
 use Rattle.rules.specs.Checks.{work_size, areas_sized, given_right, refusal_of}
 use Rattle.rules.specs.Merge.{mergeable, merge_sized, merge_work_size, merge_refusal}
 use Rattle.rules.proofs.Bools.{and_right, and_none}
-use Rattle.sizes.specs.declared.Left.{Left}
-use Rattle.sizes.specs.declared.Left.TheVariants.{Room}
-use Rattle.sizes.specs.Values.{less, fits}
+use Rattle.std.specs.Prelude.{Option, Some, Result, Err}
+use Rattle.std.specs.Option.{is_some}
+use Rattle.sizes.specs.Values.{less}
 use Rattle.sizes.proofs.Rooms.{less_less, others_wrong, work_tested}
 use Rattle.checks.proofs.Laws.Passed.{passed}
-use Rattle.checks.specs.declared.Verdict.{Verdict}
+use Rattle.refusals.specs.declared.Refusal.{Refusal}
+use Rattle.refusals.specs.declared.Refusal.TheVariants.{WrongGroups}
+use Rattle.refusals.specs.Numbers.{number_said}
+use Rattle.refusals.proofs.Numbers.{number_above}
 use Rattle.checks.specs.Values.{Says}
 use Rattle.checks.proofs.Laws.Refusing.{height_first, says, says_same}
 use Rattle.merge_checks.specs.Values.{group_list, areas, merge_areas, Readable}
@@ -55,12 +58,12 @@ module _ (K gates records indices : ℕ) (ls : List ℕ) (stages plan words coun
     others_refuse e = others_wrong K need plan words counts work e ∙ plain
 
     -- with lists, plan, words and counts right, the work area decides
-    pub work_decides : is_height K && areas_sized K 0 plan words counts 0 ≡ true → (l₁ l₂ l₃ : Left) → l₁ ≡ less (Room work) (16 * (gates / 2) + 8 * records + 512) → l₂ ≡ less l₁ (8 * stages) → l₃ ≡ less l₂ (8 * indices)
-        → (b : Bool) → b ≡ fits l₃ → b ≡ answer
+    pub work_decides : is_height K && areas_sized K 0 plan words counts 0 ≡ true → (l₁ l₂ l₃ : Option ℕ) → l₁ ≡ less (Some work) (16 * (gates / 2) + 8 * records + 512) → l₂ ≡ less l₁ (8 * stages) → l₃ ≡ less l₂ (8 * indices)
+        → (b : Bool) → b ≡ is_some l₃ → b ≡ answer
     work_decides e l₁ l₂ l₃ d₁ d₂ d₃ b d =
-        let q : l₃ ≡ less (Room work) need =
-        d₃ ∙ ap (λ (x : Left). less x (8 * indices)) (d₂ ∙ ap (λ (x : Left). less x (8 * stages)) d₁) ∙ ap (λ (x : Left). less x (8 * indices)) (less_less (Room work) (16 * (gates / 2) + 8 * records + 512) (8 * stages)) ∙ less_less (Room work) (16 * (gates / 2) + 8 * records + 512 + 8 * stages) (8 * indices) ∙ rw same refl in
-        work_tested K need plan words counts work e b (d ∙ ap fits q) ∙ plain
+        let q : l₃ ≡ less (Some work) need =
+        d₃ ∙ ap (λ (x : Option ℕ). less x (8 * indices)) (d₂ ∙ ap (λ (x : Option ℕ). less x (8 * stages)) d₁) ∙ ap (λ (x : Option ℕ). less x (8 * indices)) (less_less (Some work) (16 * (gates / 2) + 8 * records + 512) (8 * stages)) ∙ less_less (Some work) (16 * (gates / 2) + 8 * records + 512 + 8 * stages) (8 * indices) ∙ rw same refl in
+        work_tested K need plan words counts work e b (d ∙ ap is_some q) ∙ plain
 
 -- check 10
 module _ (records xs ls : List ℕ) (extra : ℕ) where
@@ -112,18 +115,18 @@ module _ (K : ℕ) (gates given records xs ls st : List ℕ) (extra : ℕ) (pl w
   unfolding merge_areas merge_sized merge_work_size work_size pin_count group_list areas
   same_size = refl
 
-  module _ (b : Bool) (eb : b ≡ is_height K && merge_areas K (length gates) (length records) (length xs) ls (length st) (length pl) (length ws) (length cs) (length w)) (v : Verdict) (S : Says (refusal_of K b gates given records) gates v) where
-    first : v.number ≡ refusal_of K sized gates given records
+  module _ (b : Bool) (eb : b ≡ is_height K && merge_areas K (length gates) (length records) (length xs) ls (length st) (length pl) (length ws) (length cs) (length w)) {B : Type 0} (v : Result B Refusal) (S : Says (refusal_of K b gates given records) gates v) where
+    first : number_said v ≡ refusal_of K sized gates given records
     first = S.number ∙ height_first K sized gates given records b (eb ∙ ap (λ (x : Bool). is_height K && x) same_size)
 
-    said : v.number ≡ number → Says number gates v
+    said : number_said v ≡ number → Says number gates v
     said e = says_same S (sym S.number ∙ e)
 
     -- what the checks of a build refuse is refused first
-    pub refused_early : v.number ≢ 0 → Says number gates v
-    refused_early h = said (early K gates given records xs ls st extra pl ws cs w v.number first h)
+    pub refused_early : (why : Refusal) → v ≡ Err why → Says number gates v
+    refused_early why r = let h : number_said v ≢ 0 = (λ z. omega (arith, number_above why, ap number_said r)) in said (early K gates given records xs ls st extra pl ws cs w (number_said v) first h)
 
-    module _ (z : v.number ≡ 0) where
+    module _ (z : number_said v ≡ 0) where
       clear : refusal_of K sized gates given records ≡ 0
       clear = sym first ∙ z
 
@@ -136,9 +139,9 @@ module _ (K : ℕ) (gates given records xs ls st : List ℕ) (extra : ℕ) (pl w
       same_list_lem = refl
 
       -- what check 10 does not let pass is refused with 10
-      pub refused_late : mergeable records (group_list xs ls ls) extra ≡ false → Says number gates (record { number = 10; pin = record { 0 = 0 } })
+      pub refused_late : mergeable records (group_list xs ls ls) extra ≡ false → Says {A = B} number gates (Err WrongGroups)
       unfolding merge_refusal
-      refused_late e = says number 10 gates _ refl refl (rw (clear, merge_refusal, sym same_list_lem ∙ e) refl) (λ c. omega arith)
+      refused_late e = says refl (λ c. omega arith) (sym (rw (clear, merge_refusal, sym same_list_lem ∙ e) refl))
 
       -- what passes all checks is not refused
       pub not_refused : mergeable records (group_list xs ls ls) extra ≡ true → Says number gates v

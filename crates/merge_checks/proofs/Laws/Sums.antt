@@ -1,8 +1,8 @@
 -- What the loops of a merge's checks keep. Assumes nothing.
-use Prim.Native.Nat.{ℕ, suc, ◌+◌, ◌-◌, ◌<◌, ◌≤◌}
+use Prim.Native.Nat.{ℕ, ◌+◌, ◌-◌, ◌<◌, ◌≤◌}
 use mathlib.Core.Bool.{false}
-use mathlib.Core.List.{List}
-use mathlib.Core.Path.{◌≡◌, refl, sym, ap}
+use mathlib.Core.List.{List, [], ◌∷◌}
+use mathlib.Core.Path.{◌≡◌, refl, sym, ap, ◌∙◌}
 use native.Mathlib.Numerals.{add-one}
 use native.Mathlib.Omega.{arith}
 use lib.Dec.{eqb}
@@ -10,12 +10,14 @@ use lib.ListN.{length, get_or, drop, drop_of_length-le}
 use lib.Seq.{drop-cons}
 use borrow.Author.Tests.{eq-eqb, ne_eqb, eqb-true, eqb-false}
 use Rattle.rules.specs.Lists.{sum}
-use Rattle.rules.specs.Records.{Group, groups, read, groups_of}
+use Rattle.rules.specs.Records.{Group, groups, size_of, read}
 use Rattle.rules.proofs.Lists.Members.{split}
-use Rattle.records.specs.Values.{size_at}
-use Rattle.records.proofs.Reading.{Stands, standing}
-use Rattle.checks.proofs.Laws.Passed.{Next, read_next, read_last}
-use Rattle.merge_checks.specs.Values.{Readable}
+use Rattle.std.specs.Prelude.{None}
+use Rattle.std.specs.Iterator.{Yields}
+use Rattle.records.specs.declared.Walk.{Walk}
+use Rattle.records.specs.Walk.{Steps}
+use Rattle.records.proofs.Walks.{stepped, walked}
+use Rattle.checks.proofs.Laws.Passed.{read_next, read_last, read_stands}
 
 -- `left` is what the first i lengths leave of the total
 pub record Taking (ls : List ℕ) (total left i : ℕ) : Type 0 where
@@ -50,39 +52,13 @@ module _ {ls : List ℕ} {total left i : ℕ} (N : Taking ls total left i) where
       (λ t. let d = eqb-true left 0 t in rw t (sym (eq-eqb (sum ls) total (omega (arith, N.is)))))
       (λ t. let d = eqb-false left 0 t in rw t (sym (ne_eqb (sum ls) total (λ y. d (omega (arith, N.is))))))
 
--- n groups stand before an index
-pub record Counting (xs : List ℕ) (n at : ℕ) : Type 0 where
-  pub upto : at ≤ length xs
-  pub few : n ≤ at
-  pub rest : List Group
-  pub unread : read (drop at xs) ≡ groups rest
-  pub is : n + length rest ≡ length (groups_of xs)
-
--- before the first record no group is counted
-pub counting_none : {xs : List ℕ} → Readable xs → Counting xs 0 0
-counting_none {xs} A = record { upto = omega arith; few = omega arith; rest = groups_of xs; unread = A.readable; is = omega arith }
-
-module _ {xs : List ℕ} {n at : ℕ} (N : Counting xs n at) where
-  module _ (h : at < length xs) where
-    next : Next xs at N.rest
-    next = read_next xs at N.rest N.unread h
-
-    -- a whole record stands at the index
-    pub counting_stands : Stands xs at
-    counting_stands = standing xs at next.whole
-
-    -- the record at the index counts one more
-    pub counting_more : {size : ℕ} → size ≡ size_at xs at → Counting xs (n + 1) (at + (1 + size))
-    counting_more {size} e =
-        let s = counting_stands in
-        record {
-          upto = omega (arith, s.inside, e);
-          few = omega (arith, N.few);
-          rest = next.rest;
-          unread = rw (e, s.size) next.others;
-          is = let d : length N.rest ≡ suc (length next.rest) = ap length next.these in omega (arith, N.is);
-        }
-
-  -- past the last all groups are counted
-  pub counting_done : length xs ≤ at → n ≡ length (groups_of xs)
-  counting_done h = let d : length N.rest ≡ 0 = ap length (read_last xs at N.rest N.unread h) in omega (arith, N.is)
+-- a walk over readable records stops as often as there are groups
+module _ {xs : List ℕ} where
+  pub starts_counted : (ns : List ℕ) (s t u : Walk) (gs : List Group) → s.records.now ≡ xs → read (drop s.at xs) ≡ groups gs → Yields Steps s ns t → Steps t None u → length ns ≡ length gs
+  starts_counted [] s t u gs o R y p = sym (ap length (read_last xs s.at gs R (walked s u o (rw (← y) at p) (read_stands xs s.at gs R))))
+  starts_counted (n ∷ ns) s t u gs o R y p =
+      let S = stepped s y.0 o y.1 in
+      let N = read_next xs s.at gs R (omega (arith, S.here.inside)) in
+      let d : y.0.at ≡ s.at + (1 + size_of (get_or xs s.at 0)) = omega (arith, S.next, S.here.size) in
+      let e = starts_counted ns y.0 t u N.rest S.same (ap (λ (i : ℕ). read (drop i xs)) d ∙ N.others) y.2 p in
+      omega (arith, ap length N.these)

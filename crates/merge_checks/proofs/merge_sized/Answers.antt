@@ -13,4 +13,4 @@ pub returns-then-not-lent_sized : goal.returns-then-not-lent_sized
 returns-then-not-lent_sized c = others_refuse _ _ _ _ _ _ _ _ _ _ c.if-lengths-stages.false (yes c.lengths_right.ensures c.if-not-lengths_right.false-raw) (no c.lent_sized.ensures c.if-not-lent_sized.true-raw)
 
 pub returns : goal.returns
-returns c = work_decides _ _ _ _ _ _ _ _ _ _ c.if-lengths-stages.false (yes c.lengths_right.ensures c.if-not-lengths_right.false-raw) (yes c.lent_sized.ensures c.if-not-lent_sized.false-raw) _ _ _ c.work_left-build.ensures c.take_eights-partitions.ensures c.take_eights.ensures _ c.has_room.ensures
+returns c = work_decides _ _ _ _ _ _ _ _ _ _ c.if-lengths-stages.false (yes c.lengths_right.ensures c.if-not-lengths_right.false-raw) (yes c.lent_sized.ensures c.if-not-lent_sized.false-raw) _ _ _ c.work_left-build.ensures c.take_eights-partitions.ensures c.take_eights.ensures _ c.is_some.ensures

@@ -2,9 +2,6 @@
 use Rattle.merge_layout.proofs.Laws.Tables.{fill_at, tabled}
 use Rattle.merge_layout.proofs.tabulate.Goals as goal
 
-pub clear_lists-requires : goal.clear_lists-requires
-clear_lists-requires c = record { few = c.requires.few; room = c.requires.room }
-
 pub fill_lists-requires : goal.fill_lists-requires
 fill_lists-requires c = fill_at c.requires c.clear_lists.ensures
 

@@ -1,10 +1,6 @@
 -- `merge_layout::total` meets its contract. Assumes nothing.
-use Prim.Native.Nat.{◌-◌}
 use Rattle.merge_layout.proofs.Laws.Gathers.{Totalling}
 use Rattle.merge_layout.proofs.total.Given as goal
 
 abbrev pub invariant-loop-i : goal.invariant-loop-i
 invariant-loop-i l = Totalling l.n l.f l.k l.own l.sum l.i
-
-abbrev pub decreases-loop-i : goal.decreases-loop-i
-decreases-loop-i l = l.k - l.i

@@ -15,7 +15,11 @@ use Rattle.rules.specs.Traversal.{WordRule}
 use Rattle.rules.specs.Build as rules
 use Rattle.rules.specs.Merge.{Common, built_of, size_for, part_of, most_stages, split_by}
 use Rattle.rules.proofs.Lists.Members.{split, in_append_left, in_append_right}
-use Rattle.placer.specs.declared.Answer.{Answer}
+use Rattle.placer.specs.declared.Built as placer
+use Rattle.placer.specs.declared.Refused.{Refused}
+use Rattle.std.specs.Prelude.{Result, Ok, Err}
+use Rattle.refusals.specs.Numbers.{number_of, pin_of}
+use Rattle.refusals.proofs.Numbers.{number_above}
 use Rattle.placer.specs.Answers.{told}
 use Rattle.merge_unions.specs.Unions.{Places}
 use Rattle.merge_slots.specs.Slots.{own, gathered, listed, held}
@@ -25,10 +29,15 @@ use Rattle.merge_slots.proofs.Laws.Rounds.{listed_same}
 use Rattle.merge_slots.proofs.Laws.Splits.{length_split}
 use Rattle.merge_layout.specs.Layout.{owned}
 use Rattle.merge_layout.proofs.Laws.Gathers.{slot_part}
-use Rattle.merge_originals.specs.declared.Originals.TheVariants.{Refused, Built}
 use Rattle.merge_originals.specs.Originals.{Changes, Noted, MeasureAt, Measures, OriginalsAt, all_held, parts_for, Given}
 use Rattle.merge_originals.proofs.Laws.Measuring.{changes_none, changes_then, ground_changes}
 use Rattle.merge_originals.proofs.Laws.Parts.{Right, all_right, one_refused, most_next}
+
+-- a build shows no pin
+no_pin : (b : rules.Answer) → (rules.reply b).pin ≡ 0
+unfolding rules.reply rules.refuse
+no_pin (rules.refusal n k) = refl
+no_pin (rules.whole ss) = refl
 
 in_part : (i a k : ℕ) (xs : List ℕ) → In i (take k (drop a xs)) → In i xs
 in_part i a k xs e =
@@ -112,81 +121,91 @@ module _ {K m table base : ℕ} {gates given records xs ls pl ws cs w : List ℕ
         inside = h;
       }
 
-      module _ {a : Answer} {pl₂ ws₂ cs₂ w₂ : List ℕ} (M : Measures rule K m table base n s gates given records part pl₁ ws₁ cs₁ w₁ a pl₂ ws₂ cs₂ w₂) where
+      module _ {a : Result placer.Built Refused} {pl₂ ws₂ cs₂ w₂ : List ℕ} (M : Measures rule K m table base n s gates given records part pl₁ ws₁ cs₁ w₁ a pl₂ ws₂ cs₂ w₂) where
         replied : (J : Common) → Places rule K (length pl) gates given records J → told a ≡ rules.reply (built_of J (get_or hs s []))
         replied J f = rw part_is at (M.reply J (rw N.plan f))
-
-        number_is : (J : Common) → Places rule K (length pl) gates given records J → a.number ≡ (rules.reply (built_of J (get_or hs s []))).number
-        unfolding told
-        number_is J f = ap (λ (r : rules.Reply). r.number) (replied J f)
-
-        stage_is : (J : Common) → Places rule K (length pl) gates given records J → a.stage ≡ (rules.reply (built_of J (get_or hs s []))).stage
-        unfolding told
-        stage_is J f = ap (λ (r : rules.Reply). r.stage) (replied J f)
-
-        stages_are : (J : Common) → Places rule K (length pl) gates given records J → a.stages ≡ (rules.reply (built_of J (get_or hs s []))).stages
-        unfolding told
-        stages_are J f = ap (λ (r : rules.Reply). r.stages) (replied J f)
-
-        words_are : (J : Common) → Places rule K (length pl) gates given records J → a.words ≡ (rules.reply (built_of J (get_or hs s []))).words
-        unfolding told
-        words_are J f = ap (λ (r : rules.Reply). r.words) (replied J f)
-
-        cells_are : (J : Common) → Places rule K (length pl) gates given records J → a.cells ≡ (rules.reply (built_of J (get_or hs s []))).cells
-        unfolding told
-        cells_are J f = ap (λ (r : rules.Reply). r.cells) (replied J f)
 
         changed : Changes m table base n w w₂
         changed = changes_then N.changes M.changes
 
+      module _ {r : Refused} {pl₂ ws₂ cs₂ w₂ : List ℕ} (M : Measures rule K m table base n s gates given records part pl₁ ws₁ cs₁ w₁ (Err r) pl₂ ws₂ cs₂ w₂) where
+        number_refused : (J : Common) → Places rule K (length pl) gates given records J → number_of r.why ≡ (rules.reply (built_of J (get_or hs s []))).number
+        unfolding told
+        number_refused J f = ap (λ (x : rules.Reply). x.number) (replied M J f)
+
+        stage_refused : (J : Common) → Places rule K (length pl) gates given records J → r.stage ≡ (rules.reply (built_of J (get_or hs s []))).stage
+        unfolding told
+        stage_refused J f = ap (λ (x : rules.Reply). x.stage) (replied M J f)
+
+        pin_refused : (J : Common) → Places rule K (length pl) gates given records J → pin_of r.why ≡ (rules.reply (built_of J (get_or hs s []))).pin
+        unfolding told
+        pin_refused J f = ap (λ (x : rules.Reply). x.pin) (replied M J f)
+
         -- a refused partition refuses the merge, with its number
-        pub building_refused : a.number ≢ 0 → Given rule K m table base gates given records xs ls pl ws cs w (Refused (s + 1) a.number a.stage) pl₂ ws₂ cs₂ w₂
+        pub building_refused : Given rule K m table base gates given records xs ls pl ws cs w (Err (record { part = s + 1; refused = r })) pl₂ ws₂ cs₂ w₂
         unfolding parts_for
-        building_refused z = record {
+        building_refused = record {
           plan = M.plan ∙ N.plan;
           words = M.words ∙ N.words;
           counts = M.counts ∙ N.counts;
-          changes = changed;
-          answer = λ J f. rw (add-one s, number_is J f, stage_is J f) (one_refused J hs (held n ls xs (owned base n w₁)) s 0 s (omega arith) (omega (arith, length_split ls xs)) (λ t b c. N.right J f t c) (λ y. z (number_is J f ∙ y)));
-          most = λ k e. absurd (let y : ◌≡◌ {A = ℕ} 0 1 = cc in omega arith);
-          few = λ k e. absurd (let y : ◌≡◌ {A = ℕ} 0 1 = cc in omega arith);
+          changes = changed M;
+          answer = λ J f. rw (add-one s, number_refused J f, stage_refused J f) (one_refused J hs (held n ls xs (owned base n w₁)) s 0 s (omega arith) (omega (arith, length_split ls xs)) (λ t b c. N.right J f t c) (λ y. omega (arith, number_above r.why, number_refused J f)));
+          plain = λ J f. pin_refused J f ∙ no_pin (built_of J (get_or hs s []));
+          most = tt;
+          few = tt;
         }
 
-        module _ (z : a.number ≡ 0) where
-          O : Noted m table base n s a.stages a.words a.cells gates given records part w₁ w₂
-          O = M.noted z
+      module _ {b : placer.Built} {pl₂ ws₂ cs₂ w₂ : List ℕ} (M : Measures rule K m table base n s gates given records part pl₁ ws₁ cs₁ w₁ (Ok b) pl₂ ws₂ cs₂ w₂) where
+        number_is : (J : Common) → Places rule K (length pl) gates given records J → 0 ≡ (rules.reply (built_of J (get_or hs s []))).number
+        unfolding told
+        number_is J f = ap (λ (x : rules.Reply). x.number) (replied M J f)
 
-          size_is : (J : Common) → Places rule K (length pl) gates given records J → O.size ≡ size_for J (get_or hs s [])
-          size_is J f = rw part_is at (O.measured J f.shares)
+        stages_are : (J : Common) → Places rule K (length pl) gates given records J → b.stages ≡ (rules.reply (built_of J (get_or hs s []))).stages
+        unfolding told
+        stages_are J f = ap (λ (x : rules.Reply). x.stages) (replied M J f)
 
-          same : (t : ℕ) → t < n → t ≢ s → held n ls xs (owned base n w₂) t ≡ held n ls xs (owned base n w₁) t
-          same t b d = stored_other O.stored h ls xs t b d
+        words_are : (J : Common) → Places rule K (length pl) gates given records J → b.words ≡ (rules.reply (built_of J (get_or hs s []))).words
+        unfolding told
+        words_are J f = ap (λ (x : rules.Reply). x.words) (replied M J f)
 
-          this_stages : (held n ls xs (owned base n w₂) s).stages ≡ a.stages
-          unfolding held
-          this_stages = O.stored.stages_are
+        cells_are : (J : Common) → Places rule K (length pl) gates given records J → b.cells ≡ (rules.reply (built_of J (get_or hs s []))).cells
+        unfolding told
+        cells_are J f = ap (λ (x : rules.Reply). x.cells) (replied M J f)
 
-          -- one more partition is built and measured
-          pub building_more : {most' : ℕ} → most' ≡ max a.stages most → Building rule K m table base gates given records xs ls pl ws cs w pl₂ ws₂ cs₂ w₂ most' (at + l) (s + 1)
-          building_more e = record {
-            upto = omega arith;
-            start = omega (arith, N.start, sum_next ls s h);
-            plan = M.plan ∙ N.plan;
-            words = M.words ∙ N.words;
-            counts = M.counts ∙ N.counts;
-            changes = changed;
-            right = λ J f t b. split (eqb t s)
-                (λ c. let d : t ≡ s = eqb-true t s c in rw d (record { whole = sym (number_is J f) ∙ z; part = stored_this O.stored h ls xs J (size_is J f) (stages_are J f) (words_are J f) (cells_are J f) }))
-                (λ c. let d : t ≢ s = eqb-false t s c in rw (same t (omega arith) d) (N.right J f t (omega arith)));
-            greatest =
-                let y : 0 + s ≡ s = omega arith in
-                let x : listed (held n ls xs (owned base n w₂)) (λ _. true) s 0 ≡ listed (held n ls xs (owned base n w₁)) (λ _. true) s 0 = listed_same _ _ _ _ s 0 (λ t i j. refl) (λ t i j k. same t (omega arith) (λ q. omega arith)) in
-                rw (add-one s) (most_next (held n ls xs (owned base n w₂)) s 0 0 ∙ rw (y, this_stages, x, N.greatest, e) refl);
-            few = omega (arith, N.few, M.few);
-          }
+        O : Noted m table base n s b.stages b.words b.cells gates given records part w₁ w₂
+        O = M.noted
+
+        size_is : (J : Common) → Places rule K (length pl) gates given records J → O.size ≡ size_for J (get_or hs s [])
+        size_is J f = rw part_is at (O.measured J f.shares)
+
+        same : (t : ℕ) → t < n → t ≢ s → held n ls xs (owned base n w₂) t ≡ held n ls xs (owned base n w₁) t
+        same t i d = stored_other O.stored h ls xs t i d
+
+        this_stages : (held n ls xs (owned base n w₂) s).stages ≡ b.stages
+        unfolding held
+        this_stages = O.stored.stages_are
+
+        -- one more partition is built and measured
+        pub building_more : {most' : ℕ} → most' ≡ max b.stages most → Building rule K m table base gates given records xs ls pl ws cs w pl₂ ws₂ cs₂ w₂ most' (at + l) (s + 1)
+        building_more e = record {
+          upto = omega arith;
+          start = omega (arith, N.start, sum_next ls s h);
+          plan = M.plan ∙ N.plan;
+          words = M.words ∙ N.words;
+          counts = M.counts ∙ N.counts;
+          changes = changed M;
+          right = λ J f t i. split (eqb t s)
+              (λ c. let d : t ≡ s = eqb-true t s c in rw d (record { whole = sym (number_is J f); part = stored_this O.stored h ls xs J (size_is J f) (stages_are J f) (words_are J f) (cells_are J f) }))
+              (λ c. let d : t ≢ s = eqb-false t s c in rw (same t (omega arith) d) (N.right J f t (omega arith)));
+          greatest =
+              let y : 0 + s ≡ s = omega arith in
+              let x : listed (held n ls xs (owned base n w₂)) (λ _. true) s 0 ≡ listed (held n ls xs (owned base n w₁)) (λ _. true) s 0 = listed_same _ _ _ _ s 0 (λ t i j. refl) (λ t i j k. same t (omega arith) (λ q. omega arith)) in
+              rw (add-one s) (most_next (held n ls xs (owned base n w₂)) s 0 0 ∙ rw (y, this_stages, x, N.greatest, e) refl);
+          few = omega (arith, N.few, M.few);
+        }
 
     -- past the last slot all partitions are built
-    pub building_done : length ls ≤ s → Given rule K m table base gates given records xs ls pl ws cs w (Built most) pl₁ ws₁ cs₁ w₁
+    pub building_done : length ls ≤ s → Given rule K m table base gates given records xs ls pl ws cs w (Ok most) pl₁ ws₁ cs₁ w₁
     unfolding parts_for all_held
     building_done h =
         let e : s ≡ length ls = omega (arith, N.upto) in
@@ -197,6 +216,7 @@ module _ {K m table base : ℕ} {gates given records xs ls pl ws cs w : List ℕ
           counts = N.counts;
           changes = N.changes;
           answer = λ J f. all_right J hs (held n ls xs (owned base n w₁)) (length ls) 0 (omega (arith, length_split ls xs)) (λ t a b. R J f t (omega arith));
-          most = λ k d. let c : most ≡ k = cc in rw e at N.greatest ∙ c;
-          few = λ k d. let c : most ≡ k = cc in omega (arith, N.few);
+          plain = λ J f. tt;
+          most = rw e at N.greatest;
+          few = N.few;
         }

@@ -17,12 +17,14 @@ use Rattle.rules.specs.Lists.{In}
 use Rattle.rules.proofs.Lists.Members.{in_nil, in_here, in_there}
 use Rattle.rules.proofs.Demand.{build_few}
 use Rattle.rules.proofs.Build.Bounds.{Few}
-use Rattle.placer.specs.declared.Answer.{Answer}
+use Rattle.placer.specs.declared.Built as placer
+use Rattle.placer.specs.declared.Refused.{Refused}
+use Rattle.std.specs.Prelude.{Result, Ok, Err}
 use Rattle.placer.specs.Answers.{told}
 use Rattle.placer.proofs.Laws.Course.{limit_small}
 use Rattle.placer.proofs.Laws.Filled.{cells_few}
 use Rattle.merge_unions.specs.Names.{picked}
-use Rattle.merge_unions.specs.Unions.{UnionAt, Leaves, SizeAt, Measured, TryAt, Places, Built}
+use Rattle.merge_unions.specs.Unions.{UnionAt, Leaves, SizeAt, Measured, TryAt, Places, UnionBuilt}
 use Rattle.merge_unions.proofs.Laws.Names.{group_ends}
 use Rattle.merge_unions.proofs.Laws.Opening.{named_picked}
 use Rattle.merge_unions.proofs.Laws.Parts.{idle_part}
@@ -137,7 +139,7 @@ module _ {K m table base n s : ℕ} {gates given records part pl ws cs w : List 
   pub measure_try : TryAt K m table gates given records part [] pl ws cs w
   measure_try = record { union = union_at A.ground A.groups; blank = A.blank }
 
-  module _ {rule : WordRule} {a : Answer} {pl₁ ws₁ cs₁ w₁ : List ℕ} (B : Built rule K m table gates given records part [] pl ws cs w a pl₁ ws₁ cs₁ w₁) where
+  module _ {rule : WordRule} {a : Result placer.Built Refused} {pl₁ ws₁ cs₁ w₁ : List ℕ} (B : UnionBuilt rule K m table gates given records part [] pl ws cs w a pl₁ ws₁ cs₁ w₁) where
     -- a merge that fits
     abbrev J₀ : Common
     J₀ = record { rule = rule; K = K; g = graph_of gates; given = given; groups = groups_of records; rooms = rooms K (length pl); cap = 0; ranks = 0 }
@@ -155,49 +157,56 @@ module _ {K m table base n s : ℕ} {gates given records part pl ws cs w : List 
     replied : (J : Common) → Places rule K (length pl) gates given records J → told a ≡ rules.reply (built_of J part)
     replied J h = rw (append-nil part) at (B.reply J h)
 
-    stages_most : a.stages ≤ m
-    unfolding told
-    stages_most = let e : a.stages ≡ (rules.reply (built_of J₀ part)).stages = ap (λ (r : rules.Reply). r.stages) (replied J₀ fits₀) in omega (arith, few₀.stages_most, A.ground.passed.pins, A.ground.pins)
+    stages_most : (told a).stages ≤ m
+    stages_most = let e : (told a).stages ≡ (rules.reply (built_of J₀ part)).stages = ap (λ (r : rules.Reply). r.stages) (replied J₀ fits₀) in omega (arith, few₀.stages_most, A.ground.passed.pins, A.ground.pins)
 
-    words_most : a.words ≤ 256
-    unfolding told
-    words_most = let e : a.words ≡ (rules.reply (built_of J₀ part)).words = ap (λ (r : rules.Reply). r.words) (replied J₀ fits₀) in omega (arith, few₀.words_most, limit_fits K A.ground.passed.height)
+    words_most : (told a).words ≤ 256
+    words_most = let e : (told a).words ≡ (rules.reply (built_of J₀ part)).words = ap (λ (r : rules.Reply). r.words) (replied J₀ fits₀) in omega (arith, few₀.words_most, limit_fits K A.ground.passed.height)
 
-    cells_most_lem : a.cells ≤ 65536 * 16384
-    unfolding told built_of
+    cells_most_lem : (told a).cells ≤ 65536 * 16384
+    unfolding built_of
     cells_most_lem =
-        let e : a.cells ≡ (rules.reply (built_of J₀ part)).cells = ap (λ (r : rules.Reply). r.cells) (replied J₀ fits₀) in
+        let e : (told a).cells ≡ (rules.reply (built_of J₀ part)).cells = ap (λ (r : rules.Reply). r.cells) (replied J₀ fits₀) in
         omega (arith, cells_few rule K (tall_height K A.ground.passed.height).high (graph_of gates) given (named J₀ part) (rooms K (length pl)) 65536 (omega (arith, few₀.stages_most, A.ground.passed.pins, A.ground.passed.few)))
 
+  -- for a refused partition nothing is stored
+  module _ {rule : WordRule} {r : Refused} {pl₁ ws₁ cs₁ w₁ : List ℕ} (B : UnionBuilt rule K m table gates given records part [] pl ws cs w (Err r) pl₁ ws₁ cs₁ w₁) where
+    pub measure_refused : Measures rule K m table base n s gates given records part pl ws cs w (Err r) pl₁ ws₁ cs₁ w₁
+    measure_refused = record {
+      plan = B.plan ∙ sym A.blank.plan;
+      words = B.words ∙ sym A.blank.words;
+      counts = B.counts ∙ sym A.blank.counts;
+      changes = leaves_changes A.ground B.leaves;
+      few = tt;
+      reply = replied B;
+      noted = tt;
+    }
+
+  module _ {rule : WordRule} {b : placer.Built} {pl₁ ws₁ cs₁ w₁ : List ℕ} (B : UnionBuilt rule K m table gates given records part [] pl ws cs w (Ok b) pl₁ ws₁ cs₁ w₁) where
     -- a built partition may be measured
-    pub measure_note : NoteAt m table base n s a.stages a.words a.cells gates given records part w₁
+    pub measure_note : NoteAt m table base n s b.stages b.words b.cells gates given records part w₁
+    unfolding told
     measure_note = record {
       K = K;
       ground = ground_changes A.ground (leaves_changes A.ground B.leaves);
       groups = A.groups;
       inside = A.inside;
-      stages_fit = omega (arith, stages_most, A.ground.idle.area.small);
-      words_fit = omega (arith, words_most);
-      cells_fit = omega (arith, cells_most_lem);
+      stages_fit = omega (arith, stages_most B, A.ground.idle.area.small);
+      words_fit = omega (arith, words_most B);
+      cells_fit = omega (arith, cells_most_lem B);
     }
-
-    measures : {w₂ : List ℕ} → Changes m table base n w w₂ → (a.number ≡ 0 → Noted m table base n s a.stages a.words a.cells gates given records part w w₂) → Measures rule K m table base n s gates given records part pl ws cs w a pl₁ ws₁ cs₁ w₂
-    measures C N = record {
-      plan = B.plan ∙ sym A.blank.plan;
-      words = B.words ∙ sym A.blank.words;
-      counts = B.counts ∙ sym A.blank.counts;
-      changes = C;
-      few = stages_most;
-      reply = replied;
-      noted = N;
-    }
-
-    -- for a refused partition nothing is stored
-    pub measure_refused : a.number ≢ 0 → Measures rule K m table base n s gates given records part pl ws cs w a pl₁ ws₁ cs₁ w₁
-    measure_refused h = measures (leaves_changes A.ground B.leaves) (λ z. absurd (h z))
 
     -- for a whole one its numbers are stored
-    pub measure_whole : {w₂ : List ℕ} → Noted m table base n s a.stages a.words a.cells gates given records part w₁ w₂ → Measures rule K m table base n s gates given records part pl ws cs w a pl₁ ws₁ cs₁ w₂
+    pub measure_whole : {w₂ : List ℕ} → Noted m table base n s b.stages b.words b.cells gates given records part w₁ w₂ → Measures rule K m table base n s gates given records part pl ws cs w (Ok b) pl₁ ws₁ cs₁ w₂
+    unfolding told
     measure_whole N =
         let C = changes_then (leaves_changes A.ground B.leaves) N.changes in
-        measures C (λ z. record { changes = C; size = N.size; stored = rw (leaves_own A.ground B.leaves) at N.stored; measured = N.measured })
+        record {
+          plan = B.plan ∙ sym A.blank.plan;
+          words = B.words ∙ sym A.blank.words;
+          counts = B.counts ∙ sym A.blank.counts;
+          changes = C;
+          few = stages_most B;
+          reply = replied B;
+          noted = record { changes = C; size = N.size; stored = rw (leaves_own A.ground B.leaves) at N.stored; measured = N.measured };
+        }

@@ -8,7 +8,3 @@ use Rattle.merge_rounds.proofs.merge_slots.Given as goal
 abbrev pub invariant-loop-i : goal.invariant-loop-i
 invariant-loop-i l =
     Slotting needed_runs l.height.0 l.m l.table l.base l.cap l.ranks l.i l.fuel l.trials l.gates l.given l.records l.initial.indices l.initial.lengths l.initial.plan l.initial.work l.indices l.lengths l.plan l.words l.counts l.work × Sizes l.initial.indices l.initial.lengths l.initial.plan l.initial.words l.initial.counts l.initial.work l.indices l.lengths l.plan l.words l.counts l.work
-
-abbrev pub decreases-loop-i : goal.decreases-loop-i
-decreases-loop-i l =
-    l.n - l.i

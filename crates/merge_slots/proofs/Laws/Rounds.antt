@@ -8,7 +8,7 @@ use lib.Dec.{eqb}
 use lib.ListN.{take}
 use Rattle.merge_slots.specs.Rounds.{Bars, goes, Merging, onto, after}
 use Rattle.rules.specs.Lists.{mem, nothing, found}
-use Rattle.rules.specs.Merge.{Common, Part, Rank, before, add_rank, rank_of, ranking, accepted, built_of, part_of, Round, none, some, attempt, without, add_part, Merged, rounds, Result, merging}
+use Rattle.rules.specs.Merge.{Common, Part, Rank, before, add_rank, rank_of, ranking, accepted, built_of, part_of, none, some, attempt, without, add_part, Merged, rounds, Result, merging}
 use Rattle.rules.proofs.Bools.{and_none, and_right}
 use Rattle.rules.proofs.Lists.Members.{split}
 use Rattle.merge_slots.specs.Slots.{gathered, listed, best, but}

@@ -1,5 +1,5 @@
 -- A build's answer as a trial reads it: the test, and the words that fit. Assumes nothing.
-use Prim.Native.Nat.{ℕ, ◌≤◌}
+use Prim.Native.Nat.{ℕ, ◌≤◌, ◌<◌}
 use mathlib.Core.Bool.{false, ◌&&◌}
 use mathlib.Core.List.{List}
 use mathlib.Core.Logic.{◌≢◌}
@@ -7,7 +7,7 @@ use mathlib.Core.Path.{◌≡◌, refl}
 use native.Mathlib.Omega.{arith}
 use lib.Dec.{eqb, leb}
 use lib.ListN.{length}
-use borrow.Author.Tests.{eq-eqb, ne_eqb}
+use borrow.Author.Tests.{ne_eqb, lt-leb}
 use Rattle.rules.specs.Cells.{word_limit}
 use Rattle.rules.specs.Graph.{Node}
 use Rattle.rules.specs.Records.{Group}
@@ -15,6 +15,13 @@ use Rattle.rules.specs.Traversal.{WordRule}
 use Rattle.rules.specs.Build.{Stage, Answer, refusal, whole, build, words_of, refuse, reply}
 use Rattle.rules.specs.Merge.{accepted}
 use Rattle.rules.proofs.Build.Words.{build_words}
+use Rattle.std.specs.Prelude.{Result, Ok, Err, None}
+use Rattle.refusals.specs.Numbers.{number_of}
+use Rattle.refusals.proofs.Numbers.{number_above}
+use Rattle.placer.specs.declared.Built.{Built}
+use Rattle.placer.specs.declared.Refused.{Refused}
+use Rattle.placer.specs.Answers.{told}
+use Rattle.merge_trials.specs.Trials.{Accepts}
 use Rattle.placer.proofs.Laws.Course.{limit_small}
 
 -- the test of number and stages is that of the rules
@@ -24,12 +31,14 @@ accepts_is (refusal n k) h cap = rw (ne_eqb n 0 (h n k refl)) refl
 accepts_is (whole ss) h cap = refl
 
 -- a refused union fails it
-pub refuses : (number stages cap : ℕ) → number ≢ 0 → false ≡ (eqb number 0 && leb stages cap)
-refuses number stages cap h = rw (ne_eqb number 0 h) refl
+pub refuses : {cap : ℕ} {a : Result Built Refused} {r : Refused} → a ≡ Err r → Accepts cap a None
+unfolding told
+refuses {r = r} e = record { none = λ z. rw (e, told, ne_eqb (number_of r.why) 0 (λ y. omega (arith, number_above r.why))) refl; some = λ b d. cc }
 
--- a whole one passes within the cap
-pub admits : (number stages cap : ℕ) → number ≡ 0 → leb stages cap ≡ (eqb number 0 && leb stages cap)
-admits number stages cap h = rw (eq-eqb number 0 h) refl
+-- and one with more stages
+pub exceeds : {cap : ℕ} {a : Result Built Refused} {b : Built} → a ≡ Ok b → cap < b.stages → Accepts cap a None
+unfolding told
+exceeds {cap} {b = b} e h = record { none = λ z. rw (e, told, lt-leb b.stages cap h) refl; some = λ x d. cc }
 
 -- ---- the words
 

@@ -14,8 +14,10 @@ use Rattle.rules.specs.Merge.{split_by}
 use Rattle.rules.proofs.Lists.Members.{every_in, in_nil, in_append_left, in_append_right}
 use Rattle.placer_start.specs.Opening.{Idle}
 use Rattle.rules.specs.Traversal.{WordRule}
-use Rattle.placer.specs.declared.Answer.{Answer}
-use Rattle.merge_unions.specs.Unions.{UnionAt, Leaves, Built}
+use Rattle.placer.specs.declared.Built.{Built}
+use Rattle.placer.specs.declared.Refused.{Refused}
+use Rattle.std.specs.Prelude.{Result}
+use Rattle.merge_unions.specs.Unions.{UnionAt, Leaves, UnionBuilt}
 use Rattle.merge_unions.proofs.Laws.Table.{located_same}
 use Rattle.merge_unions.proofs.Laws.Parts.{idle_part}
 use Rattle.merge_slots.specs.Moves.{StartAt}
@@ -139,5 +141,5 @@ module _ {K m table base i s : ℕ} {gates given records xs ls w : List ℕ} (S 
       }
 
   -- what is built is the two slots' union
-  pub pair_built : {rule : WordRule} {pl ws cs : List ℕ} {r : Answer} {pl' ws' cs' w' : List ℕ} → Built rule K m table gates given records (take (b - a) (drop a xs)) (take (d - c) (drop c xs)) pl ws cs w r pl' ws' cs' w' → Built rule K m table gates given records (groups_at ls xs i) (groups_at ls xs s) pl ws cs w r pl' ws' cs' w'
+  pub pair_built : {rule : WordRule} {pl ws cs : List ℕ} {r : Result Built Refused} {pl' ws' cs' w' : List ℕ} → UnionBuilt rule K m table gates given records (take (b - a) (drop a xs)) (take (d - c) (drop c xs)) pl ws cs w r pl' ws' cs' w' → UnionBuilt rule K m table gates given records (groups_at ls xs i) (groups_at ls xs s) pl ws cs w r pl' ws' cs' w'
   pair_built B = rw (first_is, second_is) at B

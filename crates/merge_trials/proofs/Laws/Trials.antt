@@ -8,7 +8,7 @@ use native.Mathlib.Omega.{arith}
 use lib.Dec.{eqb, leb}
 use lib.ListN.{length, get_or, set, take, drop, length-set, length-drop, length-replicate}
 use lib.Seq.{length-take-le, get_or-set_other}
-use borrow.Author.Tests.{leb-true}
+use borrow.Author.Tests.{leb-true, le-leb}
 use Rattle.rules.specs.Cells.{is_height, rooms, empty}
 use Rattle.rules.specs.Graph.{graph_of}
 use Rattle.rules.specs.Records.{groups_of}
@@ -17,16 +17,18 @@ use Rattle.rules.specs.Build as rules
 use Rattle.rules.specs.Merge.{Common, built_of, named, accepted}
 use Rattle.rules.proofs.Lists.Members.{and_true, true_false}
 use Rattle.rules.proofs.Stage.Refusals.{refused_some}
-use Rattle.placer.specs.declared.Answer.{Answer}
+use Rattle.placer.specs.declared.Built.{Built}
+use Rattle.placer.specs.declared.Refused.{Refused}
+use Rattle.std.specs.Prelude.{Result, Ok, Option, Some, None}
 use Rattle.placer.specs.Answers.{told}
 use Rattle.placer.specs.Build.{Blank}
-use Rattle.merge_unions.specs.Unions.{Built, Places}
+use Rattle.merge_unions.specs.Unions.{UnionBuilt, Places}
 use Rattle.merge_unions.proofs.Laws.Parts.{idle_part}
 use Rattle.merge_slots.specs.Moves.{TakeAt, Taken}
 use Rattle.merge_slots.specs.Stores.{UnionAt, Joined}
 use Rattle.merge_layout.specs.Layout.{owned}
 use Rattle.merge_trials.specs.Ranks.{groups_at, Stands, Stays}
-use Rattle.merge_trials.specs.Trials.{BuildAt, JoinAt, Joins, TryAt, Tried}
+use Rattle.merge_trials.specs.Trials.{BuildAt, Accepts, JoinAt, Joins, TryAt, Tried}
 use Rattle.merge_layout.proofs.Laws.Owned.{lent, own_length, back_owned, set_owned, owned_same, part_above}
 use Rattle.merge_trials.proofs.Laws.Standing.{stands_stays, stays_leaves, leaves_owned, part_stays, stays_more}
 use Rattle.placer.proofs.Laws.Filled.{cells_few}
@@ -82,7 +84,7 @@ module _ {K m table base i j cap : ℕ} {gates given records xs ls pl ws cs w : 
   abbrev both : List ℕ
   both = groups_at ls xs i ++ groups_at ls xs j
 
-  module _ {rule : WordRule} {a : Answer} {pl₁ ws₁ cs₁ w₁ : List ℕ} (B : Built rule K m table gates given records (groups_at ls xs i) (groups_at ls xs j) pl ws cs w a pl₁ ws₁ cs₁ w₁) where
+  module _ {rule : WordRule} {a : Result Built Refused} {pl₁ ws₁ cs₁ w₁ : List ℕ} (B : UnionBuilt rule K m table gates given records (groups_at ls xs i) (groups_at ls xs j) pl ws cs w a pl₁ ws₁ cs₁ w₁) where
     now : Stands K m table base gates given records xs ls w₁
     now = stands_stays A.at (stays_leaves A.at B.leaves)
 
@@ -117,32 +119,32 @@ module _ {K m table base i j cap : ℕ} {gates given records xs ls pl ws cs w : 
     unfolding is_height
     high = leb-true K 13 (and_true (leb 6 K) (leb K 13) A.at.passed.height).1
 
-    words_fit : a.words ≤ 256
-    unfolding told built_of
-    words_fit = let e : a.words ≡ (rules.reply (built_of J₀ both)).words = ap (λ (r : rules.Reply). r.words) (B.reply J₀ P₀) in omega (arith, words_few rule K high (graph_of gates) given (named J₀ both) (rooms K (length pl)))
+    words_fit : (told a).words ≤ 256
+    unfolding built_of
+    words_fit = let e : (told a).words ≡ (rules.reply (built_of J₀ both)).words = ap (λ (r : rules.Reply). r.words) (B.reply J₀ P₀) in omega (arith, words_few rule K high (graph_of gates) given (named J₀ both) (rooms K (length pl)))
 
-    cells_fit : a.stages ≤ cap → a.cells ≤ cap * 16384
-    unfolding told built_of
+    cells_fit : (told a).stages ≤ cap → (told a).cells ≤ cap * 16384
+    unfolding built_of
     cells_fit h =
-        let x : a.stages ≡ (rules.reply (built_of J₀ both)).stages = ap (λ (r : rules.Reply). r.stages) (B.reply J₀ P₀) in
-        let e : a.cells ≡ (rules.reply (built_of J₀ both)).cells = ap (λ (r : rules.Reply). r.cells) (B.reply J₀ P₀) in
+        let x : (told a).stages ≡ (rules.reply (built_of J₀ both)).stages = ap (λ (r : rules.Reply). r.stages) (B.reply J₀ P₀) in
+        let e : (told a).cells ≡ (rules.reply (built_of J₀ both)).cells = ap (λ (r : rules.Reply). r.cells) (B.reply J₀ P₀) in
         omega (arith, cells_few rule K high (graph_of gates) given (named J₀ both) (rooms K (length pl)) cap (omega arith))
 
     -- the test says what the rules say
-    module _ {t : Bool} (et : t ≡ (eqb a.number 0 && leb a.stages cap)) where
+    module _ {t : Bool} (et : t ≡ (eqb (told a).number 0 && leb (told a).stages cap)) where
       decides : (J : Common) → Places rule K (length pl) gates given records J → J.cap ≡ cap → t ≡ accepted J.cap (built_of J both)
-      unfolding told built_of named
+      unfolding built_of named
       decides J S c =
           let e = B.reply J S in
-          let x : a.number ≡ (rules.reply (built_of J both)).number = ap (λ (r : rules.Reply). r.number) e in
-          let y : a.stages ≡ (rules.reply (built_of J both)).stages = ap (λ (r : rules.Reply). r.stages) e in
+          let x : (told a).number ≡ (rules.reply (built_of J both)).number = ap (λ (r : rules.Reply). r.number) e in
+          let y : (told a).stages ≡ (rules.reply (built_of J both)).stages = ap (λ (r : rules.Reply). r.stages) e in
           et ∙ rw (x, y, c) (accepts_is (built_of J both) (refused_some J.rule J.K J.g J.given (named J both) J.rooms) cap)
 
       module _ (yes : t ≡ true) where
         -- an accepted union may be joined
-        pub try_join : JoinAt m table base i j a.stages a.words a.cells xs ls w₁
-        try_join =
-            let h = leb-true a.stages cap (and_true (eqb a.number 0) (leb a.stages cap) (sym et ∙ yes)).1 in
+        joinable : JoinAt m table base i j (told a).stages (told a).words (told a).cells xs ls w₁
+        joinable =
+            let h = leb-true (told a).stages cap (and_true (eqb (told a).number 0) (leb (told a).stages cap) (sym et ∙ yes)).1 in
             record {
               idle = now.idle;
               all = now.all;
@@ -159,9 +161,8 @@ module _ {K m table base i j cap : ℕ} {gates given records xs ls pl ws cs w : 
             }
 
         -- with the slots joined the trial is won
-        pub tried_yes : {xs' ls' w₂ : List ℕ} → Joins m table base i j a.stages a.words a.cells xs ls w₁ xs' ls' w₂ → Tried rule K m table base i j cap gates given records xs ls pl w true xs' ls' pl₁ ws₁ cs₁ w₂
-        unfolding told
-        tried_yes {xs'} {ls'} {w₂} U =
+        won : {xs' ls' w₂ : List ℕ} → Joins m table base i j (told a).stages (told a).words (told a).cells xs ls w₁ xs' ls' w₂ → Tried rule K m table base i j cap gates given records xs ls pl w true xs' ls' pl₁ ws₁ cs₁ w₂
+        won {xs'} {ls'} {w₂} U =
             let T = U.taken in
             let S = stands_stays now U.stays in
             let c : length ls' ≡ length ls = ap length T.lengths ∙ length-set (set ls i (get_or ls i 0 + get_or ls j 0)) j 0 ∙ length-set ls i (get_or ls i 0 + get_or ls j 0) in
@@ -187,19 +188,19 @@ module _ {K m table base i j cap : ℕ} {gates given records xs ls pl ws cs w : 
               no = λ z. true_false refl z;
               yes = λ z J P.
                   let e = B.reply J P in
-                  let x : a.stages ≡ (rules.reply (built_of J both)).stages = ap (λ (r : rules.Reply). r.stages) e in
-                  let y : a.words ≡ (rules.reply (built_of J both)).words = ap (λ (r : rules.Reply). r.words) e in
-                  let v : a.cells ≡ (rules.reply (built_of J both)).cells = ap (λ (r : rules.Reply). r.cells) e in
+                  let x : (told a).stages ≡ (rules.reply (built_of J both)).stages = ap (λ (r : rules.Reply). r.stages) e in
+                  let y : (told a).words ≡ (rules.reply (built_of J both)).words = ap (λ (r : rules.Reply). r.words) e in
+                  let v : (told a).cells ≡ (rules.reply (built_of J both)).cells = ap (λ (r : rules.Reply). r.cells) e in
                   record { taken = T; joined = rw (← x, ← y, ← v, ← own_same) U.joined };
             }
 
       -- slot j's bar lies in the area
-      pub try_place : base + (4 * length ls + j) < length w₁
-      try_place = omega (arith, now.room, A.second)
+      place : base + (4 * length ls + j) < length w₁
+      place = omega (arith, now.room, A.second)
 
       -- a union that is not accepted bars slot j
-      pub tried_no : t ≡ false → Tried rule K m table base i j cap gates given records xs ls pl w false xs ls pl₁ ws₁ cs₁ (set w₁ (base + (4 * length ls + j)) 1)
-      tried_no failed =
+      lost : t ≡ false → Tried rule K m table base i j cap gates given records xs ls pl w false xs ls pl₁ ws₁ cs₁ (set w₁ (base + (4 * length ls + j)) 1)
+      lost failed =
           let at : ℕ = base + (4 * length ls + j) in
           let l : length (set w₁ at 1) ≡ length w₁ = length-set w₁ at 1 in
           let U : Stays m table base w₁ (set w₁ at 1) = record {
@@ -216,3 +217,28 @@ module _ {K m table base i j cap : ℕ} {gates given records xs ls pl ws cs w : 
             no = λ z. record { indices = refl; lengths = refl; bar = set_owned base (length ls) w₁ now.room (4 * length ls + j) 1 (omega (arith, A.second)) ∙ ap (λ (o : List ℕ). set o (4 * length ls + j) 1) own_same };
             yes = λ z. true_false z refl;
           }
+
+    module _ {r : Option Built} (T : Accepts cap a r) where
+      module _ {b : Built} (e : r ≡ Some b) where
+        told_yes : true ≡ (eqb (told a).number 0 && leb (told a).stages cap)
+        unfolding told
+        told_yes = let x = T.some b e in rw (x.0, le-leb b.stages cap x.1) refl
+
+        -- an accepted union may be joined
+        pub try_join : JoinAt m table base i j b.stages b.words b.cells xs ls w₁
+        unfolding told
+        try_join = rw (T.some b e).0 at (joinable told_yes refl)
+
+        -- with the slots joined the trial is won
+        pub tried_yes : {xs' ls' w₂ : List ℕ} → Joins m table base i j b.stages b.words b.cells xs ls w₁ xs' ls' w₂ → Tried rule K m table base i j cap gates given records xs ls pl w true xs' ls' pl₁ ws₁ cs₁ w₂
+        unfolding told
+        tried_yes U = won told_yes refl (rw (T.some b e).0 U)
+
+      module _ (e : r ≡ None) where
+        -- slot j's bar lies in the area
+        pub try_place : base + (4 * length ls + j) < length w₁
+        try_place = place {t = false} (sym (T.none e))
+
+        -- a union that is not accepted bars slot j
+        pub tried_no : Tried rule K m table base i j cap gates given records xs ls pl w false xs ls pl₁ ws₁ cs₁ (set w₁ (base + (4 * length ls + j)) 1)
+        tried_no = lost (sym (T.none e)) refl

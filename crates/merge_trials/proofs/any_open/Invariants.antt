@@ -5,6 +5,3 @@ use Rattle.merge_trials.proofs.any_open.Given as goal
 
 abbrev pub invariant-loop-s : goal.invariant-loop-s
 invariant-loop-s l = Looking l.base l.n l.from l.s l.work
-
-abbrev pub decreases-loop-s : goal.decreases-loop-s
-decreases-loop-s l = l.n - l.s

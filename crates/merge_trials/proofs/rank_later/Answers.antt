@@ -20,9 +20,6 @@ slice_bounds-rank_slot-end c = let s = c.requires in keying_end s.at (c.loop-s.i
 pub rank_slot-requires : goal.rank_slot-requires
 rank_slot-requires c = let s = c.requires in record { it = _; at = keying_at s.at (c.loop-s.invariant.0.all s.it s.at) c.loop-s-test.true c.wide.ensures refl }
 
-pub overflow_add-s-in-loop-s : goal.overflow_add-s-in-loop-s
-overflow_add-s-in-loop-s c = omega (arith, c.loop-s-test.true)
-
 pub loop-s-smaller : goal.loop-s-smaller
 loop-s-smaller c = omega (arith, c.loop-s-test.true)
 

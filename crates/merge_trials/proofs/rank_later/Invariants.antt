@@ -9,6 +9,3 @@ use Rattle.merge_trials.proofs.rank_later.Given as goal
 
 abbrev pub invariant-loop-s : goal.invariant-loop-s
 invariant-loop-s l = Every (λ given. LaterAt given l.m l.table l.base l.i l.from l.cone.waiting l.cone.listed l.gates l.records l.indices l.lengths l.initial.work) (λ given. Keying given l.m l.table l.base l.i l.at l.s l.cone.waiting l.cone.listed l.gates l.records l.indices l.lengths l.initial.work l.work) × (length l.work ≡ length l.initial.work)
-
-abbrev pub decreases-loop-s : goal.decreases-loop-s
-decreases-loop-s l = length l.lengths - l.s

@@ -13,15 +13,17 @@ use Rattle.rules.specs.Build as rules
 use Rattle.rules.specs.Merge.{Common, built_of}
 use Rattle.columns.specs.Fields.{RECORDS}
 use Rattle.placer_start.specs.declared.Opening.{Opening}
-use Rattle.placer_start.specs.declared.Opening.TheVariants.{Over, Ready}
+use Rattle.std.specs.Prelude.{Option, Some, None, Result, Err}
 use Rattle.placer_start.specs.Opening.{First, Begins}
 use Rattle.placer_start.proofs.Laws.Opening.{zeros_idle}
-use Rattle.placer.specs.declared.Answer.{Answer}
+use Rattle.refusals.specs.declared.Refusal.TheVariants.{OverReserved}
+use Rattle.placer.specs.declared.Built as placer
+use Rattle.placer.specs.declared.Refused.{Refused}
 use Rattle.placer.specs.Stages.{Course, StagesAt, Ran}
 use Rattle.placer.specs.Build.{Emptied}
 use Rattle.placer.proofs.Laws.Build as build
 use Rattle.merge_unions.specs.Names.{picked}
-use Rattle.merge_unions.specs.Unions.{TryAt, Tried, Places, Built}
+use Rattle.merge_unions.specs.Unions.{TryAt, Tried, Places, UnionBuilt}
 use Rattle.merge_unions.proofs.Laws.Opening.{named_picked}
 use Rattle.merge_unions.proofs.Laws.Parts.{first_part}
 
@@ -46,14 +48,14 @@ module _ {K m table : ℕ} {gates given records first second pl ws cs w : List �
   abbrev gs : List Group
   gs = picked (groups_of records) (first ++ second)
 
-  module _ {limit : ℕ} (lim : limit ≡ length ws) {r : Opening} {w₁ : List ℕ} (B : Begins m limit table given gs w r w₁) where
+  module _ {limit : ℕ} (lim : limit ≡ length ws) {r : Option Opening} {w₁ : List ℕ} (B : Begins m limit table given gs w r w₁) where
     -- a reservation that is over answers 6
-    pub try_over : r ≡ Over → Tried needed_runs K m table gates given records first second pl ws cs w (record { number = 6; stages = 0; words = 0; stage = 0; pin = record { 0 = 0 }; cells = 0 }) pl ws cs w₁
+    pub try_over : r ≡ None → Tried needed_runs K m table gates given records first second pl ws cs w (Err (record { why = OverReserved; stage = 0 })) pl ws cs w₁
     try_over e = let T = build.built_over A.union.passed A.blank A.union.pins lim B e in record { kept = T.kept; past = B.past; reply = T.reply }
 
-    module _ {res n : ℕ} (ready : r ≡ Ready res n) where
+    module _ {o : Opening} (ready : r ≡ Some o) where
       -- the reserved words are within the limit
-      pub try_room : res ≤ limit
+      pub try_room : o.words ≤ limit
       try_room = build.built_room A.union.passed A.blank A.union.pins lim B ready
 
       -- the area has room for a build's numbers
@@ -65,23 +67,23 @@ module _ {K m table : ℕ} {gates given records first second pl ws cs w : List �
       part = take (16 * m + 512 - 0) w₁
 
       -- what the first stage starts from stands in it
-      pub try_first : First m n given gs part
+      pub try_first : First m o.waiting given gs part
       try_first =
           let l : length part ≡ 16 * m + 512 - 0 = length-take-le (16 * m + 512 - 0) w₁ (omega (arith, try_part)) in
-          first_part w₁ part (λ j h. get_or-take (16 * m + 512 - 0) w₁ j 0 (omega arith)) (record { small = A.union.idle.area.small; room = omega arith }) (B.first res n ready)
+          first_part w₁ part (λ j h. get_or-take (16 * m + 512 - 0) w₁ j 0 (omega arith)) (record { small = A.union.idle.area.small; room = omega arith }) (B.first o ready)
 
       -- what the stages start from
       abbrev pub course : Course
       course = build.course A.union.passed A.blank A.union.pins lim B ready try_first
 
       -- the union's stages may run
-      pub try_stages : {rms room : ℕ} → rms ≡ length cs → room ≡ limit - res → length cs < 2 ^ 63 → StagesAt course m K (row_at K 1) rms 0 0 n room gates pl ws cs part
+      pub try_stages : {rms room : ℕ} → rms ≡ length cs → room ≡ limit - o.words → length cs < 2 ^ 63 → StagesAt course m K (row_at K 1) rms 0 0 o.waiting room gates pl ws cs part
       try_stages all left short = build.built_stages A.union.passed A.blank A.union.pins lim B ready try_first all left short
 
       -- what the stages answer is the union's answer
-      pub try_ran : {a : Answer} {pl' ws' cs' v' : List ℕ} → Ran course pl ws cs part a pl' ws' cs' v' → Tried needed_runs K m table gates given records first second pl ws cs w a pl' ws' cs' (v' ++ drop (16 * m + 512 - 0) w₁)
-      try_ran {v' = v'} R =
-          let T = build.built_ran A.union.passed A.blank A.union.pins lim B ready try_first R in
+      pub try_ran : {a : Result placer.Built Refused} {pl' ws' cs' v' : List ℕ} → Ran course pl ws cs part a pl' ws' cs' v' → Tried needed_runs K m table gates given records first second pl ws cs w a pl' ws' cs' (v' ++ drop (16 * m + 512 - 0) w₁)
+      try_ran {a} {v' = v'} R =
+          let T = build.built_ran A.union.passed A.blank A.union.pins lim B ready try_first a R in
           record {
             kept = record { plan = T.kept.plan; words = T.kept.words; counts = T.kept.counts; work = length_front w₁ v' (16 * m + 512 - 0) T.kept.work ∙ B.frame.len };
             past = λ j h. front_past (16 * m + 512 - 0) w₁ v' T.kept.work (omega (arith, try_part)) j (omega (arith, A.union.room)) ∙ B.past j h;
@@ -90,7 +92,7 @@ module _ {K m table : ℕ} {gates given records first second pl ws cs w : List �
 
   -- ---- everything is emptied again
 
-  module _ {rule : WordRule} {a : Answer} {pl₁ ws₁ cs₁ w₁ : List ℕ} (T : Tried rule K m table gates given records first second pl ws cs w a pl₁ ws₁ cs₁ w₁) where
+  module _ {rule : WordRule} {a : Result placer.Built Refused} {pl₁ ws₁ cs₁ w₁ : List ℕ} (T : Tried rule K m table gates given records first second pl ws cs w a pl₁ ws₁ cs₁ w₁) where
     -- the area still has room for a build's numbers
     pub built_part : 16 * m + 512 ≤ length w₁
     built_part = omega (arith, A.union.idle.area.room, T.kept.work)
@@ -112,7 +114,7 @@ module _ {K m table : ℕ} {gates given records first second pl ws cs w : List �
       zero j h = get_or-append v₂ (drop (16 * m + 512 - 0) w₁) 0 j (omega (arith, front, front_same)) ∙ (rw E.work (get_or-replicate (length (take (16 * m + 512 - 0) w₁)) j 0 0 (omega (arith, front))))
 
       -- everything emptied again, the union is built and the area idle
-      pub built : Built rule K m table gates given records first second pl ws cs w a pl₂ ws₂ cs₂ w₂
+      pub built : UnionBuilt rule K m table gates given records first second pl ws cs w a pl₂ ws₂ cs₂ w₂
       built = record {
         leaves = record {
           len = len;

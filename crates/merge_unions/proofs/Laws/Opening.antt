@@ -6,7 +6,7 @@ use native.Mathlib.Omega.{arith}
 use lib.ListN.{length}
 use Rattle.rules.specs.Records.{Group}
 use Rattle.rules.specs.Merge.{Common, named}
-use Rattle.placer_start.specs.declared.reservation.Reservation.{Reservation}
+use Rattle.std.specs.Prelude.{Option}
 use Rattle.placer_start.specs.Given.{Given}
 use Rattle.placer_start.specs.Reservation.{Reserved}
 use Rattle.placer_start.specs.Opening.{Opens}
@@ -44,7 +44,7 @@ module _ {m table : ℕ} {given records first second w : List ℕ} (A : OpenAt m
   pub open_reserve : reserving.BothAt m table records first second w
   open_reserve = record { area = A.opens.idle.area; one = A.one; two = A.two; room = A.room; few = A.few; clear = A.opens.idle.heads }
 
-  module _ {limit : ℕ} {gs : List Group} {r : Reservation} {w₁ : List ℕ} (R : Reserved m limit (length first + length second) gs w w₁ r) {w₂ : List ℕ} (G : Given m given w₁ w₂) where
+  module _ {limit : ℕ} {gs : List Group} {r : Option ℕ} {w₁ : List ℕ} (R : Reserved m limit (length first + length second) gs w w₁ r) {w₂ : List ℕ} (G : Given m given w₁ w₂) where
     kept : {is : List ℕ} → Names m table records is w → Names m table records is w₂
     kept N = names_kept N (G.frame.len ∙ R.touched.frame.len) (λ j h. G.frame.past refl j (omega (arith, N.behind)) ∙ R.touched.past j (omega (arith, A.room)))
 

@@ -1,5 +1,5 @@
 -- The reservation, name after name: stopping early is right, since memories and duplicates only grow. Assumes nothing.
-use mathlib.Core.Path.{◌≡◌, refl, sym, ◌∙◌}
+use mathlib.Core.Path.{◌≡◌, sym, ◌∙◌}
 use mathlib.Core.Bool.{Bool, true, false}
 use mathlib.Core.List.{List, [], ◌∷◌, ◌++◌, append-nil, append_assoc}
 use Prim.Native.Nat.{ℕ, ◌+◌, ◌*◌, ◌<◌, ◌≤◌}
@@ -12,12 +12,10 @@ use Rattle.rules.specs.Reservation.{activations, codes_at, extra_at, duplicates,
 use Rattle.columns.specs.Fields.{RECORDS}
 use Rattle.columns.proofs.Area.Frames.{frame_room}
 use Rattle.placer_start.specs.declared.reservation.Count.{Count}
-use Rattle.placer_start.specs.declared.reservation.Reservation.TheVariants.{Over, Words}
+use Rattle.std.specs.Prelude.{Option, Some, None}
 use Rattle.placer_start.specs.Reservation.{none, Touched, CountAt, Counted, Few, SetAside, Judged, Reserved}
 use Rattle.placer_start.proofs.Laws.Chains.{touched_none, touched_then}
 use Rattle.placer_start.proofs.Laws.Reserving.{reservable_none, reservable_more, reservation_over, reservation_words}
-use Rattle.merge_unions.specs.declared.reservation.Sum.{Sum}
-use Rattle.merge_unions.specs.declared.reservation.Sum.TheVariants.{Passed, Far}
 use Rattle.merge_unions.specs.Names.{picked, Names}
 use Rattle.merge_unions.specs.Reserving.{SoFar, PartAt, PartCounted, BothAt}
 use Rattle.merge_unions.proofs.Laws.Names.{picked_none, picked_append, picked_all, picked_rest, names_kept, name_whole, name_pins, name_more}
@@ -79,11 +77,11 @@ module _ {m table limit k : ℕ} {count₀ : Count} {xs : List Group} {records n
         counted_few = record { few = omega (arith, D.few, A.few) }
 
         -- a limit that is passed ends it
-        pub counting_over : {r : Bool} → Judged c limit r → r ≡ true → PartCounted m limit k xs records names w w₂ Passed
+        pub counting_over : {r : Bool} → Judged c limit r → r ≡ true → PartCounted m limit k xs records names w w₂ None
         counting_over J t = record {
           touched = touched_then (omega arith) C.touched (touched_then (omega arith) D.touched touched_none);
           over = λ _ K l. rw all_more (reservable_more K (ys ++ (g ∷ [])) (picked gs (drop (i + 1) names)) (not-true (reservable K (ys ++ (g ∷ []))) (sym (J.is K (ys ++ (g ∷ [])) l D.counts) ∙ t)));
-          on = λ d b. absurd (let z : ◌≡◌ {A = ℕ} 0 1 = cc in omega arith);
+          on = λ d b. cc;
         }
 
         -- within the limits the next name follows
@@ -97,12 +95,12 @@ module _ {m table limit k : ℕ} {count₀ : Count} {xs : List Group} {records n
             }
 
     -- past the last name all are counted
-    pub counting_done : length names ≤ i → PartCounted m limit k xs records names w w₁ (Far count)
+    pub counting_done : length names ≤ i → PartCounted m limit k xs records names w w₁ (Some count)
     counting_done h =
         let s : i ≡ length names = omega (arith, C.upto) in
         record {
           touched = rw s at C.touched;
-          over = λ b. absurd (let z : ◌≡◌ {A = ℕ} 0 1 = cc in omega arith);
+          over = λ b. cc;
           on = λ d b. let z : d ≡ count = cc in rw (z, ← picked_all gs names i h, ← s) C.now;
         }
 
@@ -110,30 +108,30 @@ module _ {m table limit k : ℕ} {count₀ : Count} {xs : List Group} {records n
 
 module _ {m table limit : ℕ} {records first second w : List ℕ} (A : BothAt m table records first second w) where
   -- the first partition's names may be counted
-  pub both_first : PartAt m table limit 0 (record { memories = 0; duplicates = 0 }) [] records first w
+  pub both_first : (none_yet : Count) → (none_yet.memories ≡ 0) × (none_yet.duplicates ≡ 0) → PartAt m table limit 0 none_yet [] records first w
   unfolding activations memories duplicates codes_at extra_at distinct insert_all
-  both_first = record {
+  both_first none_yet z = record {
     area = A.area;
     named = A.one;
     room = omega (arith, A.room);
     few = omega (arith, A.few);
     now = record {
       chains = record { before = λ p h. rw (A.clear.zero p h) (omega arith); chain = λ p h. rw (A.clear.zero p h) none };
-      counts = record { memory = refl; double = refl };
+      counts = record { memory = sym z.0; double = sym z.1 };
       few = omega arith;
       fine = λ K e. reservable_none K;
     };
   }
 
-  module _ {w₁ : List ℕ} {r : Sum} (P : PartCounted m limit 0 [] records first w w₁ r) where
+  module _ {w₁ : List ℕ} {r : Option Count} (P : PartCounted m limit 0 [] records first w w₁ r) where
     -- where the first partition passes a limit the union does
-    pub both_over : r ≡ Passed → Reserved m limit (length first + length second) (picked (groups_of records) (first ++ second)) w w₁ Over
+    pub both_over : r ≡ None → Reserved m limit (length first + length second) (picked (groups_of records) (first ++ second)) w w₁ None
     both_over e = record {
       touched = touched_then (omega arith) P.touched touched_none;
       answer = λ K l. reservation_over K (picked (groups_of records) (first ++ second)) (rw (picked_append (groups_of records) first second) (reservable_more K (picked (groups_of records) first) (picked (groups_of records) second) (P.over e K l)));
     }
 
-    module _ {count : Count} (e : r ≡ Far count) where
+    module _ {count : Count} (e : r ≡ Some count) where
       -- where it does not the second partition's names follow
       pub both_second : PartAt m table limit (length first) count (picked (groups_of records) first) records second w₁
       both_second = record {
@@ -144,20 +142,20 @@ module _ {m table limit : ℕ} {records first second w : List ℕ} (A : BothAt m
         now = (let z : 0 + length first ≡ length first = omega arith in rw z at (P.on count e));
       }
 
-      module _ {w₂ : List ℕ} {s : Sum} (Q : PartCounted m limit (length first) (picked (groups_of records) first) records second w₁ w₂ s) where
+      module _ {w₂ : List ℕ} {s : Option Count} (Q : PartCounted m limit (length first) (picked (groups_of records) first) records second w₁ w₂ s) where
         both_touched : Touched m (length first + length second) w w₂
         both_touched = touched_then (omega arith) P.touched Q.touched
 
         -- where these pass a limit the union does
-        pub both_over_2 : s ≡ Passed → Reserved m limit (length first + length second) (picked (groups_of records) (first ++ second)) w w₂ Over
+        pub both_over_2 : s ≡ None → Reserved m limit (length first + length second) (picked (groups_of records) (first ++ second)) w w₂ None
         both_over_2 d = record { touched = both_touched; answer = λ K l. reservation_over K (picked (groups_of records) (first ++ second)) (rw (picked_append (groups_of records) first second) (Q.over d K l)) }
 
         -- where they pass none the counts are small
-        pub both_few : {all : Count} → s ≡ Far all → Few all
+        pub both_few : {all : Count} → s ≡ Some all → Few all
         both_few {all} d = record { few = omega (arith, (Q.on all d).few, A.few) }
 
         -- and give the union's reservation
-        pub both_words : {all : Count} → s ≡ Far all → (n : ℕ) → SetAside all n → Reserved m limit (length first + length second) (picked (groups_of records) (first ++ second)) w w₂ (Words n)
+        pub both_words : {all : Count} → s ≡ Some all → (n : ℕ) → SetAside all n → Reserved m limit (length first + length second) (picked (groups_of records) (first ++ second)) w w₂ (Some n)
         both_words {all} d n S =
             let F = Q.on all d in
             record { touched = both_touched; answer = λ K l. rw (picked_append (groups_of records) first second) (reservation_words K (picked (groups_of records) first ++ picked (groups_of records) second) n (F.fine K l) (S.is (picked (groups_of records) first ++ picked (groups_of records) second) F.counts)) }

@@ -14,7 +14,7 @@ use Rattle.rules.specs.Lists.{mem, In, Out, Once, nobody, one}
 use Rattle.rules.proofs.Lists.Members.{split, true_false, eqb_same, in_get_or, in_append_left, in_append_right, out_append, in_out}
 use Rattle.columns.specs.Fields.{ORDER, DONE, WAITING, LISTED, PLACE}
 use Rattle.columns.specs.Area.{Room, Frame, among}
-use Rattle.columns.specs.Lists.{list, bit, Holds, Marks, Marked, Placed}
+use Rattle.columns.specs.Lists.{list, bit, Holds, Marked, Placed}
 use Rattle.columns.proofs.Area.Columns.{inside, at_set, at_set_past}
 use Rattle.columns.proofs.Area.Frames.{frame_none, frame_then, frame_more, frame_room, frame_set}
 use Rattle.columns.proofs.Lists.Clears.{zero_stays, clear_frame}

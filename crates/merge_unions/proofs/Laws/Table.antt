@@ -62,11 +62,11 @@ module _ {table : ℕ} {records w : List ℕ} (A : LocateAt table records w) whe
       next = read_next records at L.rest L.unread h
 
       -- a whole record stands at the index
-      pub locating_stands : Stands records at
+      locating_stands : Stands records at
       locating_stands = standing records at next.whole
 
       -- the table has room for its start
-      pub locating_room : table + n < length w₁
+      locating_room : table + n < length w₁
       locating_room = omega (arith, A.room, L.few, L.len)
 
       abbrev g : Group

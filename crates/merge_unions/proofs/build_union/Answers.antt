@@ -10,7 +10,7 @@ pub overflow_add-size : goal.overflow_add-size
 overflow_add-size c = omega (arith, c.requires.union.idle.area.small)
 
 pub slice_bounds-empty_all-end : goal.slice_bounds-empty_all-end
-slice_bounds-empty_all-end c = built_part c.requires c.attempt-a.ensures
+slice_bounds-empty_all-end c = built_part c.requires c.attempt-built.ensures
 
 pub returns : goal.returns
-returns c = built c.requires c.attempt-a.ensures c.empty_all.ensures
+returns c = built c.requires c.attempt-built.ensures c.empty_all.ensures

@@ -1,5 +1,5 @@
 -- The stages that a build laid, coded in their place. Assumes nothing.
-use Prim.Native.Nat.{ℕ, zero, suc, ◌+◌, ◌-◌, ◌*◌, ◌^◌, ◌≤◌, ◌<◌}
+use Prim.Native.Nat.{ℕ, ◌+◌, ◌-◌, ◌*◌, ◌^◌, ◌≤◌, ◌<◌}
 use mathlib.Core.Path.{◌≡◌, refl, sym, ◌∙◌, ap}
 use mathlib.Core.Bool.{Bool, true}
 use mathlib.Core.List.{List, [], ◌∷◌, ◌++◌, append_assoc}
@@ -12,7 +12,7 @@ use lib.Seq.{get_or-append-add}
 use borrow.Author.Tests.{ltb-true, ltb-false, leb-true}
 use Rattle.rules.specs.Fold.{load_from}
 use Rattle.rules.specs.Lists.{padded}
-use Rattle.rules.specs.Cells.{empty, filled, is_height, stage_size, rooms}
+use Rattle.rules.specs.Cells.{empty, filled, is_height, rooms}
 use Rattle.rules.specs.Graph.{Node, graph_of}
 use Rattle.rules.specs.Records.{groups_of}
 use Rattle.rules.specs.Traversal.{WordRule}
@@ -26,7 +26,9 @@ use Rattle.rules.proofs.Demand.{Right, whole_right, whole_sizes}
 use Rattle.checks.specs.Passed.{Passed}
 use Rattle.coding.specs.Stages.{PlanAt, coded_plan}
 use Rattle.coding.proofs.Plans.{plan_coded}
-use Rattle.placer.specs.declared.Answer.{Answer}
+use Rattle.placer.specs.declared.Built.{Built}
+use Rattle.placer.specs.declared.Refused.{Refused}
+use Rattle.std.specs.Prelude.{Result, Err}
 use Rattle.placer.specs.Answers.{told}
 use Rattle.placer.specs.Build.{PlaceAt, Laid, Placed}
 
@@ -108,27 +110,26 @@ module _ {K : ℕ} {gates given records pl ws cs w : List ℕ} (A : PlaceAt K ga
   pinned : Pinned K (length (graph_of gates)) (rules.stages_of b)
   pinned = pinned_by b refl
 
-  module _ {a : Answer} {pl₁ ws₁ cs₁ w₁ : List ℕ} (D : Laid b pl ws cs w a pl₁ ws₁ cs₁ w₁) where
-    counted : a.stages ≡ length (rules.stages_of b)
-    unfolding told
+  module _ {a : Result Built Refused} {pl₁ ws₁ cs₁ w₁ : List ℕ} (D : Laid b pl ws cs w a pl₁ ws₁ cs₁ w₁) where
+    counted : (told a).stages ≡ length (rules.stages_of b)
     counted = ap (λ (r : rules.Reply). r.stages) D.reply ∙ told_stages b
 
     -- its stages may be coded
-    pub code_at : length pl₁ ≡ length pl → PlanAt K a.stages pl₁
+    pub code_at : length pl₁ ≡ length pl → PlanAt K (told a).stages pl₁
     unfolding padded
     code_at l = record {
       height = P.height;
       low = pow_pos K;
       high = pow_mono {i = K} {j = 13} flat;
       double = two_step K;
-      room = let m : a.stages * 2 ^ (K + 1) ≤ rooms K (length pl) * 2 ^ (K + 1) = rw counted (mul-le-mul_right (2 ^ (K + 1)) (stages_few b refl)) in omega (arith, m, A.plan, l);
+      room = let m : (told a).stages * 2 ^ (K + 1) ≤ rooms K (length pl) * 2 ^ (K + 1) = rw counted (mul-le-mul_right (2 ^ (K + 1)) (stages_few b refl)) in omega (arith, m, A.plan, l);
       pins = λ p f.
           let m = length pl - length (rules.cells_of (rules.stages_of b)) in
           rw D.filled.plan (omega (arith, P.few, P.pins, pinned.names m p (rw D.filled.plan at f)));
     }
 
     -- and then they are what the rules leave
-    pub placed : {pl₂ : List ℕ} → pl₂ ≡ coded_plan a.stages K (graph_of gates) pl₁ → Placed (graph_of gates) b K pl ws cs w a pl₂ ws₁ cs₁ w₁
+    pub placed : {pl₂ : List ℕ} → pl₂ ≡ coded_plan (told a).stages K (graph_of gates) pl₁ → Placed (graph_of gates) b K pl ws cs w a pl₂ ws₁ cs₁ w₁
     placed e = record {
       reply = D.reply;
       filled = record {
@@ -138,3 +139,8 @@ module _ {K : ℕ} {gates given records pl ws cs w : List ℕ} (A : PlaceAt K ga
       };
       work = D.work;
     }
+
+  -- a refused build has no stages to code
+  pub placed_none : {r : Refused} {pl₁ ws₁ cs₁ w₁ : List ℕ} → Laid b pl ws cs w (Err r) pl₁ ws₁ cs₁ w₁ → Placed (graph_of gates) b K pl ws cs w (Err r) pl₁ ws₁ cs₁ w₁
+  unfolding told coded_plan
+  placed_none D = placed D refl

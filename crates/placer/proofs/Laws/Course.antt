@@ -19,6 +19,13 @@ use Rattle.rules.proofs.Stage.Depth.{stage_cases}
 use Rattle.rules.proofs.Stage.Refusals.{before_refusal}
 use Rattle.rules.proofs.Build.Lengths.{length_padded}
 use Rattle.rules.proofs.Build.Costs.{padded_count}
+use Rattle.std.specs.Prelude.{Ok, Err}
+use Rattle.refusals.specs.declared.Refusal.{Refusal}
+use Rattle.refusals.specs.Numbers.{number_of, pin_of}
+use Rattle.stage.specs.declared.finish.Outcome.{Outcome}
+use Rattle.stage.specs.declared.finish.Stopped.{Stopped}
+use Rattle.stage.specs.declared.finish.Stopped.TheVariants.{OverWords, NoCell}
+use Rattle.stage.specs.Stopped.{refusal_of}
 use Rattle.placer.specs.Answers.{told}
 use Rattle.placer.specs.Stages.{Course, answer, OneAt, One, StagesAt, Whole}
 
@@ -170,21 +177,26 @@ module _ {C : Course} {m K half : ℕ} {rooms k at n room : ℕ} {gates pl ws cs
   still_rooms h r = omega (arith, A.now.few, A.all)
 
   -- after a whole stage the build goes on with the next
-  pub one_on : {number written cells left : ℕ} {pl' ws' cs' w' : List ℕ} → One C m k at pl ws cs w number written cells left pl' ws' cs' w' → number ≡ 0 → {spent : ℕ} → spent ≡ at + written → StagesAt C m K half rooms (k + 1) spent left room gates pl' ws' cs' w'
-  one_on O z e = rw (e, add-one k) (record { known = A.known; now = O.on z; all = A.all; short = A.short; left = A.left })
+  pub one_on : {o : Outcome} {pl' ws' cs' w' : List ℕ} → One C m k at pl ws cs w (Ok o) pl' ws' cs' w' → {spent : ℕ} → spent ≡ at + o.words → StagesAt C m K half rooms (k + 1) spent o.waiting room gates pl' ws' cs' w'
+  one_on O e = rw (e, add-one k) (record { known = A.known; now = O.on; all = A.all; short = A.short; left = A.left })
 
 -- with the stage's the filled cells are no more than the plan has
-pub cells_within : {C : Course} {m k at number written cells left : ℕ} {pl ws cs w pl' ws' cs' w' : List ℕ} → One C m k at pl ws cs w number written cells left pl' ws' cs' w' → number ≡ 0 → {t : ℕ} → t ≡ count filled pl → t + cells ≤ length pl
-cells_within {pl' = pl'} O z e = omega (arith, O.more z, O.kept.plan, count-length filled pl')
+pub cells_within : {C : Course} {m k at : ℕ} {o : Outcome} {pl ws cs w pl' ws' cs' w' : List ℕ} → One C m k at pl ws cs w (Ok o) pl' ws' cs' w' → {t : ℕ} → t ≡ count filled pl → t + o.cells ≤ length pl
+cells_within {pl' = pl'} O e = omega (arith, O.more, O.kept.plan, count-length filled pl')
 
 -- what the answers tell
-pub refused_told : (C : Course) (number k : ℕ) → answer C ≡ refusal number (suc k) → told (record { number = number; stages = 0; words = 0; stage = k + 1; pin = record { 0 = 0 }; cells = 0 }) ≡ reply (answer C)
+pub refused_told : (C : Course) (k : ℕ) (why : Refusal) → pin_of why ≡ 0 → answer C ≡ refusal (number_of why) (suc k) → told (Err (record { why = why; stage = k + 1 })) ≡ reply (answer C)
 unfolding told reply refuse
-refused_told C number k e = rw (e, add-one k, reply)
+refused_told C k why p e = rw (p, e, add-one k, reply)
+
+-- what stops a stage shows no pin
+pub no_pin : (s : Stopped) → pin_of (refusal_of s) ≡ 0
+no_pin (OverWords n) = refl
+no_pin (NoCell c n) = refl
 
 module _ {C : Course} {m K half : ℕ} {rooms k at n room : ℕ} {gates pl ws cs w : List ℕ} (A : StagesAt C m K half rooms k at n room gates pl ws cs w) (z : n ≡ 0) where
   -- the answer tells the stages, words and filled cells of the whole plan
-  pub whole_told : {t : ℕ} → t ≡ count filled pl → told (record { number = 0; stages = k; words = at; stage = 0; pin = record { 0 = 0 }; cells = t }) ≡ reply (answer C)
+  pub whole_told : {t : ℕ} → t ≡ count filled pl → told (Ok (record { stages = k; words = at; cells = t })) ≡ reply (answer C)
   unfolding told reply
   whole_told e = rw (all_whole A z, A.now.count, A.now.spent, e ∙ cells_count A, reply)
 

@@ -7,7 +7,7 @@ use native.Mathlib.Omega.{arith}
 use native.Mathlib.Nat.{suc-mul, mul-le-mul}
 use lib.Pow.{pow_mono}
 use lib.ListN.{length, get_or, length-append}
-use Rattle.rules.specs.Lists.{count, mem}
+use Rattle.rules.specs.Lists.{mem}
 use Rattle.rules.specs.Cells.{empty, filled, row_at, row, first_empty}
 use Rattle.rules.specs.Graph.{Node}
 use Rattle.rules.specs.Records.{Group, waiting_of}
@@ -15,8 +15,8 @@ use Rattle.rules.specs.Reservation.{reserved, reservable}
 use Rattle.rules.specs.Cells.{word_limit}
 use Rattle.rules.specs.Traversal.{WordRule, Setting, setting}
 use Rattle.rules.specs.Placing.{place, tree, needed_of, filled_plan}
-use Rattle.rules.specs.Ending.{Put, meet, fill_in, put_cell, put_cells, Sparse, put_run, goes_on, put_runs, Plan?, full, plan, put_rest, in_need, last_stage, written, rest, sparse_runs, refused, stage, one_stage}
-use Rattle.rules.specs.Build.{Stage, Answer, refusal, whole, more, stages, build, cells_of, refuse, reply}
+use Rattle.rules.specs.Ending.{Put, meet, fill_in, put_cell, put_cells, Sparse, put_run, goes_on, put_runs, Plan?, full, plan, put_rest, in_need, last_stage, written, rest, sparse_runs, stage, one_stage}
+use Rattle.rules.specs.Build.{Stage, Answer, refusal, whole, stages, build, cells_of, refuse, reply}
 use Rattle.rules.proofs.Lists.Members.{split}
 use Rattle.rules.proofs.Stage.Fuel.{count-length}
 use Rattle.rules.proofs.Stage.Puts.{list, cell}

@@ -13,7 +13,7 @@ use Rattle.rules.specs.Lists.{count, padded, laid_at}
 use Rattle.rules.specs.Cells.{empty, filled, word_limit, row_at, stage_size, is_height, level_one_size}
 use Rattle.rules.specs.Placing.{tree}
 use Rattle.rules.specs.Traversal.{setting}
-use Rattle.rules.specs.Ending.{refused, stage, one_stage}
+use Rattle.rules.specs.Ending.{stage, one_stage}
 use Rattle.rules.specs.States.{state, after_from}
 use Rattle.rules.specs.Build as rules
 use Rattle.rules.specs.Inside.Lean.{blank}
@@ -28,7 +28,11 @@ use Rattle.columns.specs.Lists.{Marks}
 use Rattle.columns.proofs.Area.Frames.{frame_room}
 use Rattle.stage_walk.specs.Stands.{Context}
 use Rattle.stage_walk.proofs.Contexts.{context, unfold_empty}
+use Rattle.std.specs.Prelude.{Result, Ok, Err}
+use Rattle.refusals.specs.Numbers.{number_of}
 use Rattle.stage.specs.declared.finish.Outcome.{Outcome}
+use Rattle.stage.specs.declared.finish.Stopped.{Stopped}
+use Rattle.stage.specs.Stopped.{refusal_of}
 use Rattle.stage.specs.Finish.{Whole}
 use Rattle.stage.specs.Stage.{StageAt, built, Staged}
 use Rattle.stage_runs.proofs.Laws.Laid.{laid_none, laid_more, laid_length}
@@ -130,7 +134,7 @@ module _ {C : Course} {m K half : ℕ} {k n at room : ℕ} {gates pl ws cs w : L
       small = omega (arith, words_length, word_limit_lem);
     }
 
-    module _ {s : Outcome} {ys w' ws' : List ℕ} (S : Staged ctx m at room (take (e - a) (drop a pl)) w ws s ys w' ws') where
+    module _ {r : Result Outcome Stopped} {ys w' ws' : List ℕ} (S : Staged ctx m at room (take (e - a) (drop a pl)) w ws r ys w' ws') where
       part_length : length ys ≡ e - a
       unfolding blank context setting
       part_length = S.changed.size ∙ ap length part_blank ∙ length-replicate (stage_size C.K) empty ∙ sym part_size
@@ -151,97 +155,98 @@ module _ {C : Course} {m K half : ℕ} {k n at room : ℕ} {gates pl ws cs w : L
       same = let h = U.same in rw (rooms_left, ← A.left) at h
 
       -- what the stage tells, in any state that the build may be said to stand in
-      tells : (done waiting : List ℕ) (left : ℕ) → after_from C.rule C.K C.g k C.given C.waiting C.room ≡ state done waiting left → StageTold (setting C.rule C.K C.g done waiting) m left w s.number s.words s.cells s.waiting w'
+      tells : (done waiting : List ℕ) (left : ℕ) → after_from C.rule C.K C.g k C.given C.waiting C.room ≡ state done waiting left → StageTold (setting C.rule C.K C.g done waiting) m left w r w'
       unfolding built context setting
       tells done waiting left h =
           let e : state U.done U.waiting (C.room - at) ≡ state done waiting left = sym U.reached ∙ h in
           let a : U.done ≡ done = cc in
           let b : U.waiting ≡ waiting = cc in
           let c : C.room - at ≡ left = cc in
-          let r : room ≡ left = A.left ∙ c in
-          rw (← a, ← b, ← r) (record { noted = S.told; refused = λ z. (S.refuses z).is; seven = λ z. (S.refuses (omega arith)).seven z; ones = λ z. (S.refuses (omega arith)).ones z; needs = λ z. (S.refuses (omega arith)).needs z; few = λ z. (S.refuses z).few; small = λ z. (S.refuses z).small })
-
-      one_refused : 0 < s.number → One C m k at pl ws cs w s.number s.words s.cells s.waiting (laid_at a ys pl) ws' cs w'
-      unfolding built context setting
-      one_refused h = record {
-        kept = record { plan = plan_kept; words = S.changed.len; counts = refl; work = S.changed.frame.len };
-        refused = λ z. same ∙ ap (rules.before U.ss) (stage_refused C.rule C.K C.g (suc k) U.done U.waiting room waits (C.rooms - suc k) s.number (S.refuses h).is) ∙ before_refusal U.ss s.number (suc k);
-        on = λ z. absurd (omega arith);
-        more = λ z. absurd (omega arith);
-        told = tells;
-      }
+          let d : room ≡ left = A.left ∙ c in
+          rw (← a, ← b, ← d) (record { noted = S.told; refuses = S.refuses })
 
       abbrev whole_plan : List ℕ
       whole_plan = take a pl ++ (ys ++ drop (e - a) (drop a pl))
 
+    module _ {stopped : Stopped} {ys w' ws' : List ℕ} (S : Staged ctx m at room (take (e - a) (drop a pl)) w ws (Err stopped) ys w' ws') where
+      one_refused : One C m k at pl ws cs w (Err stopped) (laid_at a ys pl) ws' cs w'
+      unfolding built context setting
+      one_refused = record {
+        kept = record { plan = plan_kept S; words = S.changed.len; counts = refl; work = S.changed.frame.len };
+        refused = same S ∙ ap (rules.before U.ss) (stage_refused C.rule C.K C.g (suc k) U.done U.waiting room (waits S) (C.rooms - suc k) (number_of (refusal_of stopped)) S.refuses.is) ∙ before_refusal U.ss (number_of (refusal_of stopped)) (suc k);
+        on = tt;
+        more = tt;
+        told = tells S;
+      }
+
       -- a refused stage refuses the build
-      pub refused_part : 0 < s.number → One C m k at pl ws cs w s.number s.words s.cells s.waiting whole_plan ws' cs w'
-      refused_part h = rw laid (one_refused h)
+      pub refused_part : One C m k at pl ws cs w (Err stopped) (whole_plan S) ws' cs w'
+      refused_part = rw (laid S) one_refused
 
-      module _ (z : s.number ≡ 0) where
-        abbrev W : Whole ctx m at room (built ctx room) ws s ys w' ws'
-        W = S.whole z
+    module _ {s : Outcome} {ys w' ws' : List ℕ} (S : Staged ctx m at room (take (e - a) (drop a pl)) w ws (Ok s) ys w' ws') where
+      abbrev W : Whole ctx m at room (built ctx room) ws s ys w' ws'
+      W = S.whole
 
-        abbrev next : rules.Stage
-        next = record { plan = ys; words = W.ws }
+      abbrev next : rules.Stage
+      next = record { plan = ys; words = W.ws }
 
-        one : one_stage C.rule C.K C.g U.done U.waiting room ≡ stage ys W.ws (tree C.K ys) W.left
-        unfolding built context setting
-        one = W.is
+      one : one_stage C.rule C.K C.g U.done U.waiting room ≡ stage ys W.ws (tree C.K ys) W.left
+      unfolding built context setting
+      one = W.is
 
-        -- the count of its words fits a number
-        pub words_few : s.words < 4294967296
-        words_few = omega (arith, W.count, W.fit, A.left, C.limit, word_limit_lem)
+      -- the count of its words fits a number
+      pub words_few : s.words < 4294967296
+      words_few = omega (arith, W.count, W.fit, A.left, C.limit, word_limit_lem)
 
-        goes : answer C ≡ rules.before (U.ss ++ (next ∷ [])) (rules.stages C.rule C.K C.g (C.rooms - suc k) (suc (suc k)) (tree C.K ys ++ U.done) W.left (C.room - (at + s.words)))
-        goes =
-            let r : room - length W.ws ≡ C.room - (at + s.words) = omega (arith, A.left, W.count) in
-            same ∙ ap (rules.before U.ss) (stage_more C.rule C.K C.g (suc k) U.done U.waiting room waits (C.rooms - suc k) ys W.ws (tree C.K ys) W.left one) ∙ before_more U.ss next _ ∙ ap (λ (i : ℕ). rules.before (U.ss ++ (next ∷ [])) (rules.stages C.rule C.K C.g (C.rooms - suc k) (suc (suc k)) (tree C.K ys ++ U.done) W.left i)) r
+      goes : answer C ≡ rules.before (U.ss ++ (next ∷ [])) (rules.stages C.rule C.K C.g (C.rooms - suc k) (suc (suc k)) (tree C.K ys ++ U.done) W.left (C.room - (at + s.words)))
+      goes =
+          let r : room - length W.ws ≡ C.room - (at + s.words) = omega (arith, A.left, W.count) in
+          same S ∙ ap (rules.before U.ss) (stage_more C.rule C.K C.g (suc k) U.done U.waiting room (waits S) (C.rooms - suc k) ys W.ws (tree C.K ys) W.left one) ∙ before_more U.ss next _ ∙ ap (λ (i : ℕ). rules.before (U.ss ++ (next ∷ [])) (rules.stages C.rule C.K C.g (C.rooms - suc k) (suc (suc k)) (tree C.K ys ++ U.done) W.left i)) r
 
-        reaches : after_from C.rule C.K C.g (suc k) C.given C.waiting C.room ≡ state (tree C.K ys ++ U.done) W.left (C.room - (at + s.words))
-        reaches =
-            let r : room - length W.ws ≡ C.room - (at + s.words) = omega (arith, A.left, W.count) in
-            after_more C.rule C.K C.g k C.given C.waiting C.room U.done U.waiting room (U.reached ∙ ap (state U.done U.waiting) (sym A.left)) ∙ after_stage C.rule C.K C.g U.done U.waiting room waits ys W.ws (tree C.K ys) W.left one ∙ ap (state (tree C.K ys ++ U.done) W.left) r
+      reaches : after_from C.rule C.K C.g (suc k) C.given C.waiting C.room ≡ state (tree C.K ys ++ U.done) W.left (C.room - (at + s.words))
+      reaches =
+          let r : room - length W.ws ≡ C.room - (at + s.words) = omega (arith, A.left, W.count) in
+          after_more C.rule C.K C.g k C.given C.waiting C.room U.done U.waiting room (U.reached ∙ ap (state U.done U.waiting) (sym A.left)) ∙ after_stage C.rule C.K C.g U.done U.waiting room (waits S) ys W.ws (tree C.K ys) W.left one ∙ ap (state (tree C.K ys ++ U.done) W.left) r
 
-        marked : Marks DONE m (tree C.K ys ++ U.done) w'
-        unfolding context setting
-        marked = W.done
+      marked : Marks DONE m (tree C.K ys ++ U.done) w'
+      unfolding context setting
+      marked = W.done
 
-        plan_next : laid_at a ys pl ≡ padded (C.rooms * stage_size C.K) empty (rules.cells_of U.ss ++ ys)
-        plan_next = ap (laid_at a ys) U.plan ∙ laid_next (C.rooms * stage_size C.K) empty a (rules.cells_of U.ss) ys (U.cells ∙ sym start) (omega (arith, part_length, part_end, plan_length))
+      plan_next : laid_at a ys pl ≡ padded (C.rooms * stage_size C.K) empty (rules.cells_of U.ss ++ ys)
+      plan_next = ap (laid_at a ys) U.plan ∙ laid_next (C.rooms * stage_size C.K) empty a (rules.cells_of U.ss) ys (U.cells ∙ sym start) (omega (arith, part_length S, part_end, plan_length))
 
-        one_on_stage : {cs' : List ℕ} → cs' ≡ set cs k s.words → One C m k at pl ws cs w s.number s.words s.cells s.waiting (laid_at a ys pl) ws' cs' w'
-        one_on_stage {cs'} e' = record {
-          kept = record { plan = plan_kept; words = S.changed.len; counts = rw e' (length-set cs k s.words); work = S.changed.frame.len };
-          refused = λ h. absurd (omega arith);
-          on = λ h. record {
-            ss = U.ss ++ (next ∷ []);
-            done = tree C.K ys ++ U.done;
-            waiting = W.left;
-            reached = reaches;
-            same = goes;
-            ready = still_ready C.rule C.K C.g (rank C.g) (graph C.g C.valid) C.low (unfold_empty (length C.g) C.small) U.done U.waiting U.ready room ys W.ws (tree C.K ys) W.left one;
-            count = length-append U.ss (next ∷ []) ∙ omega (arith, U.count);
-            few = omega (arith, A.more);
-            cells = rw (cells_more U.ss next) (length-append (rules.cells_of U.ss) ys ∙ omega (arith, U.cells, part_length, part_size, suc-mul k (stage_size C.K)));
-            counted = rw (counts_more U.ss next) (length-append (rules.counts_of U.ss) (length W.ws ∷ []) ∙ omega (arith, U.counted));
-            spent = rw (words_more U.ss next) (length-append (rules.words_of U.ss) W.ws ∙ omega (arith, U.spent, W.count));
-            fits = omega (arith, U.fits, W.count, W.fit, A.left);
-            plan = plan_next ∙ ap (padded (C.rooms * stage_size C.K) empty) (sym (cells_more U.ss next));
-            words = W.wrote ∙ ap (laid_at at W.ws) U.words ∙ laid_next (word_limit C.K) empty at (rules.words_of U.ss) W.ws U.spent (omega (arith, W.fit, A.left, U.fits, C.limit)) ∙ ap (padded (word_limit C.K) empty) (sym (words_more U.ss next));
-            counts = e' ∙ set_laid ∙ ap (λ (i : ℕ). laid_at k (i ∷ []) cs) W.count ∙ ap (laid_at k (length W.ws ∷ [])) U.counts ∙ laid_next C.rooms 0 k (rules.counts_of U.ss) (length W.ws ∷ []) U.counted (omega (arith, A.more)) ∙ ap (padded C.rooms 0) (sym (counts_more U.ss next));
-            work = record { area = frame_room S.changed.frame U.work.area; done = marked; waiting = W.waiting; fresh = S.fresh z; cells = W.cells; marks = W.marks; tail = W.tail };
-          };
-          told = tells;
-          more = λ h. omega (arith, ap (count filled) plan_next, padded_count (C.rooms * stage_size C.K) (rules.cells_of U.ss ++ ys), count-append filled (rules.cells_of U.ss) ys, ap (count filled) U.plan, padded_count (C.rooms * stage_size C.K) (rules.cells_of U.ss), W.total);
-        }
-          where
-            set_laid : set cs k s.words ≡ laid_at k (s.words ∷ []) cs
-            set_laid =
-                let n : k + 0 ≡ k = omega arith in
-                let h = laid_more k cs [] s.words (omega (arith, counts_length, A.more)) in
-                rw (laid_none k cs, n) at h
+      one_on_stage : {cs' : List ℕ} → cs' ≡ set cs k s.words → One C m k at pl ws cs w (Ok s) (laid_at a ys pl) ws' cs' w'
+      one_on_stage {cs'} e' = record {
+        kept = record { plan = plan_kept S; words = S.changed.len; counts = rw e' (length-set cs k s.words); work = S.changed.frame.len };
+        refused = tt;
+        on = record {
+          ss = U.ss ++ (next ∷ []);
+          done = tree C.K ys ++ U.done;
+          waiting = W.left;
+          reached = reaches;
+          same = goes;
+          ready = still_ready C.rule C.K C.g (rank C.g) (graph C.g C.valid) C.low (unfold_empty (length C.g) C.small) U.done U.waiting U.ready room ys W.ws (tree C.K ys) W.left one;
+          count = length-append U.ss (next ∷ []) ∙ omega (arith, U.count);
+          few = omega (arith, A.more);
+          cells = rw (cells_more U.ss next) (length-append (rules.cells_of U.ss) ys ∙ omega (arith, U.cells, part_length S, part_size, suc-mul k (stage_size C.K)));
+          counted = rw (counts_more U.ss next) (length-append (rules.counts_of U.ss) (length W.ws ∷ []) ∙ omega (arith, U.counted));
+          spent = rw (words_more U.ss next) (length-append (rules.words_of U.ss) W.ws ∙ omega (arith, U.spent, W.count));
+          fits = omega (arith, U.fits, W.count, W.fit, A.left);
+          plan = plan_next ∙ ap (padded (C.rooms * stage_size C.K) empty) (sym (cells_more U.ss next));
+          words = W.wrote ∙ ap (laid_at at W.ws) U.words ∙ laid_next (word_limit C.K) empty at (rules.words_of U.ss) W.ws U.spent (omega (arith, W.fit, A.left, U.fits, C.limit)) ∙ ap (padded (word_limit C.K) empty) (sym (words_more U.ss next));
+          counts = e' ∙ set_laid ∙ ap (λ (i : ℕ). laid_at k (i ∷ []) cs) W.count ∙ ap (laid_at k (length W.ws ∷ [])) U.counts ∙ laid_next C.rooms 0 k (rules.counts_of U.ss) (length W.ws ∷ []) U.counted (omega (arith, A.more)) ∙ ap (padded C.rooms 0) (sym (counts_more U.ss next));
+          work = record { area = frame_room S.changed.frame U.work.area; done = marked; waiting = W.waiting; fresh = S.fresh; cells = W.cells; marks = W.marks; tail = W.tail };
+        };
+        told = tells S;
+        more = omega (arith, ap (count filled) plan_next, padded_count (C.rooms * stage_size C.K) (rules.cells_of U.ss ++ ys), count-append filled (rules.cells_of U.ss) ys, ap (count filled) U.plan, padded_count (C.rooms * stage_size C.K) (rules.cells_of U.ss), W.total);
+      }
+        where
+          set_laid : set cs k s.words ≡ laid_at k (s.words ∷ []) cs
+          set_laid =
+              let n : k + 0 ≡ k = omega arith in
+              let h = laid_more k cs [] s.words (omega (arith, counts_length, A.more)) in
+              rw (laid_none k cs, n) at h
 
-        -- a whole one, with its count stored, is one stage more
-        pub on_part : {cs' : List ℕ} → cs' ≡ set cs k s.words → One C m k at pl ws cs w s.number s.words s.cells s.waiting whole_plan ws' cs' w'
-        on_part e' = rw laid (one_on_stage e')
+      -- a whole one, with its count stored, is one stage more
+      pub on_part : {cs' : List ℕ} → cs' ≡ set cs k s.words → One C m k at pl ws cs w (Ok s) (whole_plan S) ws' cs' w'
+      on_part e' = rw (laid S) (one_on_stage e')

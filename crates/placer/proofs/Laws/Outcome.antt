@@ -1,15 +1,13 @@
 -- The whole call: what the checks say, and the parts of the areas that count. Assumes nothing.
-use Prim.Native.Nat.{ℕ, zero, suc, ◌+◌, ◌-◌, ◌*◌, ◌≤◌}
+use Prim.Native.Nat.{ℕ, zero, suc, ◌+◌, ◌-◌, ◌*◌, ◌≤◌, ◌<◌}
 use mathlib.Core.Bool.{Bool, true, ◌&&◌}
 use mathlib.Core.List.{List, ◌++◌}
-use mathlib.Core.Logic.{◌≢◌}
 use mathlib.Core.Path.{◌≡◌, refl, sym, ap, ◌∙◌}
 use native.Mathlib.Omega.{arith}
 use lib.Dec.{leb}
 use lib.ListN.{length, take, drop, replicate}
 use lib.Seq.{length-take-le}
 use borrow.Author.Tests.{leb-true, eqb-true}
-use Rattle.graph.specs.declared.Pin.{Pin}
 use Rattle.rules.proofs.Lists.Parts.{part_laid, divides}
 use Rattle.rules.specs.Lists.{padded, laid_over}
 use Rattle.rules.specs.Cells.{empty, word_limit, stage_size, rooms, is_height}
@@ -20,11 +18,15 @@ use Rattle.rules.specs.Build as rules
 use Rattle.rules.proofs.Lists.Members.{and_true}
 use Rattle.cells.specs.Answers.{or_zero}
 use Rattle.cells.proofs.Heights.{or_zero_true}
-use Rattle.checks.specs.declared.Verdict.{Verdict}
+use Rattle.std.specs.Prelude.{Result, Ok, Err}
+use Rattle.refusals.specs.declared.Refusal.{Refusal}
+use Rattle.refusals.specs.Numbers.{number_of, pin_of}
+use Rattle.refusals.proofs.Numbers.{number_above}
 use Rattle.checks.specs.Values.{Says}
 use Rattle.checks.specs.Passed.{Passed}
 use Rattle.checks.proofs.Laws.Passed.{passed}
-use Rattle.placer.specs.declared.Answer.{Answer}
+use Rattle.placer.specs.declared.Built.{Built}
+use Rattle.placer.specs.declared.Refused.{Refused}
 use Rattle.placer.specs.Answers.{told, areas, outcome}
 use Rattle.placer.specs.Build.{PlaceAt, Placed}
 
@@ -40,22 +42,23 @@ module _ (rule : WordRule) (K : ℕ) (gates given records pl ws cs w : List ℕ)
   abbrev at_entry : rules.Areas
   at_entry = areas pl ws cs w
 
-  refused_at_lem : (n : ℕ) → n ≡ refusal_of K sized gates given records → n ≢ 0 → (p : Pin) → p.0 ≡ pin_shown n gates → outcome (record { number = n; stages = 0; words = 0; stage = 0; pin = p; cells = 0 }) pl ws cs w ≡ rules.placer rule K gates given records at_entry
+  refused_at_lem : (n : ℕ) → n ≡ refusal_of K sized gates given records → 0 < n → (why : Refusal) → number_of why ≡ n → pin_of why ≡ pin_shown n gates →
+      outcome (Err (record { why = why; stage = 0 })) pl ws cs w ≡ rules.placer rule K gates given records at_entry
   unfolding outcome told areas rules.placer rules.sizes_right rules.refuse_checked
-  refused_at_lem zero e h p d = absurd (h refl)
-  refused_at_lem (suc n) e h p d = rw (← e, rules.placer, d)
+  refused_at_lem zero e h why s d = absurd (omega arith)
+  refused_at_lem (suc n) e h why s d = rw (s, d, ← e, rules.placer)
 
   -- what the checks refuse changes nothing
-  pub outcome_refused : (v : Verdict) → Says (refusal_of K sized gates given records) gates v → v.number ≢ 0 → outcome (record { number = v.number; stages = 0; words = 0; stage = 0; pin = v.pin; cells = 0 }) pl ws cs w ≡ rules.placer rule K gates given records at_entry
-  outcome_refused v S h = refused_at_lem v.number S.number h v.pin (S.pin ∙ ap (λ (n : ℕ). pin_shown n gates) (sym S.number))
+  pub outcome_refused : {A : Type 0} (why : Refusal) → Says {A = A} (refusal_of K sized gates given records) gates (Err why) → outcome (Err (record { why = why; stage = 0 })) pl ws cs w ≡ rules.placer rule K gates given records at_entry
+  outcome_refused why S = refused_at_lem (number_of why) S.number (number_above why) why refl (S.pin ∙ ap (λ (n : ℕ). pin_shown n gates) (sym S.number))
 
 -- no check refuses areas of these lengths
 pub record Checked (K : ℕ) (gates given records : List ℕ) (plan words counts work : ℕ) : Type 0 where
   pub none : refusal_of K (areas_sized K (work_size gates records) plan words counts work) gates given records ≡ 0
 
--- a verdict of 0 means that no check refuses
-pub checked : {K : ℕ} {gates given records : List ℕ} {plan words counts work : ℕ} {v : Verdict} → Says (refusal_of K (areas_sized K (work_size gates records) plan words counts work) gates given records) gates v → v.number ≡ 0 → Checked K gates given records plan words counts work
-checked S z = record { none = sym S.number ∙ z }
+-- checks that refuse nothing
+pub checked : {A : Type 0} {K : ℕ} {gates given records : List ℕ} {plan words counts work : ℕ} {x : A} → Says (refusal_of K (areas_sized K (work_size gates records) plan words counts work) gates given records) gates (Ok x) → Checked K gates given records plan words counts work
+checked S = record { none = sym S.number }
 
 module _ {K : ℕ} {gates given records : List ℕ} {plan words counts work : ℕ} (H : Checked K gates given records plan words counts work) where
   passes : Passed K (areas_sized K (work_size gates records) plan words counts work) gates given records
@@ -113,7 +116,7 @@ module _ {K : ℕ} {gates given records : List ℕ} (pl ws cs w : List ℕ) (H :
       work = length-take-le (need - 0) w (omega (arith, work_inside H el er en)) ∙ omega (arith, en);
     }
 
-    module _ (rule : WordRule) {a : Answer} {pl' ys zs vs : List ℕ} (D : Placed (graph_of gates) (rules.answer_of rule K gates given records (length pl)) K pl (take (limit - 0) ws) (take (rms - 0) cs) (take (need - 0) w) a pl' ys zs vs)
+    module _ (rule : WordRule) {a : Result Built Refused} {pl' ys zs vs : List ℕ} (D : Placed (graph_of gates) (rules.answer_of rule K gates given records (length pl)) K pl (take (limit - 0) ws) (take (rms - 0) cs) (take (need - 0) w) a pl' ys zs vs)
         (ly : length ys ≡ length (take (limit - 0) ws)) (lz : length zs ≡ length (take (rms - 0) cs)) (lv : length vs ≡ length (take (need - 0) w)) where
       abbrev ss : List rules.Stage
       ss = rules.coded_stages K (graph_of gates) (rules.stages_of (rules.answer_of rule K gates given records (length pl)))

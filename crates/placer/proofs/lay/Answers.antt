@@ -1,16 +1,6 @@
 -- `placer::lay` meets its contract: the areas are emptied, filled and tidied. Assumes nothing.
-use mathlib.Core.Path.{◌∙◌}
-use Rattle.placer.proofs.Laws.Build.{place_try, laid}
+use Rattle.placer.proofs.Laws.Build.{laid}
 use Rattle.placer.proofs.lay.Goals as goal
 
-pub attempt-a-requires : goal.attempt-a-requires
-attempt-a-requires c = place_try c.requires c.empty_all.ensures
-
-pub shape_of-plan : goal.shape_of-plan
-shape_of-plan c = c.plan-3-1.given ∙ c.plan-2-1.given ∙ c.plan-1.given
-
-pub shape_of-words : goal.shape_of-words
-shape_of-words c = c.words-3-1.given ∙ c.words-2-1.given ∙ c.words-1.given
-
 pub returns : goal.returns
-returns c = laid c.requires c.empty_all.ensures c.attempt-a.ensures c.tidy.ensures
+returns c = laid c.requires c.empty_all.ensures c.attempt-laid.ensures c.is_ok.ensures.value c.tidy.ensures

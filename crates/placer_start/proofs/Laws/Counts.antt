@@ -4,6 +4,7 @@ use mathlib.Core.Bool.{Bool, true, not}
 use mathlib.Core.List.{List, [], ◌∷◌, ◌++◌, append-nil}
 use Prim.Native.Nat.{ℕ, suc, ◌+◌, ◌*◌, ◌/◌, ◌%◌, ◌<◌, ◌≤◌}
 use native.Mathlib.Omega.{arith}
+use Rattle.std.specs.Prelude.{Option, Some, None}
 use native.Mathlib.Decide.{dec_lt}
 use borrow.Author.Tests.{lt-ltb, le-ltb, le-leb, lt-leb}
 use lib.Dec.{leb, ltb}
@@ -12,7 +13,7 @@ use lib.Seq.{drop-cons, get_or-drop}
 use Rattle.rules.specs.Cells.{word_limit}
 use Rattle.rules.specs.Graph.{pin_of, inversion_of}
 use Rattle.rules.specs.Records.{Group, output, flip_flop, memory, staged_pin, size_of, group_at, endpoints_of}
-use Rattle.rules.specs.Reservation.{Activation, activations, duplicates, memories, reserved, reservable}
+use Rattle.rules.specs.Reservation.{Activation, activations, memories, reserved, reservable}
 use Rattle.rules.specs.Lists.{In}
 use Rattle.rules.proofs.Lists.Members.{in_here, in_there}
 use Rattle.rules.specs.Inside.Counts.{repeats}
@@ -20,8 +21,8 @@ use Rattle.rules.proofs.Reservation.Counting.{memories_snoc, duplicates_repeats,
 use Rattle.graph.specs.declared.Pin.{Pin}
 use Rattle.records.specs.declared.Kind.{Kind}
 use Rattle.records.specs.declared.Kind.TheVariants as kinds
-use Rattle.records.specs.declared.Kind.TheVariants.{Output, FlipFlop, StagedPin, Unknown}
-use Rattle.records.specs.Values.{number_of, known, size_at}
+use Rattle.records.specs.declared.Kind.TheVariants.{Output, FlipFlop, StagedPin}
+use Rattle.records.specs.Values.{number_of, number_or_zero, known, size_at}
 use Rattle.records.proofs.Reading.{Stands, standing, known_is}
 use Rattle.placer_start.specs.declared.reservation.Added.{Added}
 use Rattle.placer_start.specs.declared.reservation.Added.TheVariants.{Memory, Code}
@@ -51,6 +52,10 @@ adds_flip_flop a d p e i ep ee ei = record { codes = rw (ep, ee, ei); memory = r
 
 -- ---- the record at an index, by its kind
 
+-- a kind behind an Option
+pub of_kind : {r : Option Kind} {k l : Kind} → r ≡ Some k → k ≡ l → r ≡ Some l
+of_kind e d = e ∙ ap Some d
+
 module _ {at : ℕ} {xs : List ℕ} (A : WholeAt at xs) where
   S : Stands xs at
   S = standing xs at A.whole
@@ -65,37 +70,41 @@ module _ {at : ℕ} {xs : List ℕ} (A : WholeAt at xs) where
   number : (i j : ℕ) → suc at + i ≡ j → get_or (drop (suc at) xs) i 0 ≡ get_or xs j 0
   number i j e = get_or-drop (suc at) xs i 0 ∙ ap (λ (n : ℕ). get_or xs n 0) e
 
-  module _ {k : Kind} (en : number_of k ≡ known (get_or xs at 0)) where
-    kind_is : (l : Kind) → k ≡ l → get_or xs at 0 ≡ number_of l
-    kind_is l e = sym (ap number_of (sym e) ∙ en ∙ known_is (get_or xs at 0) (omega (arith, S.some, S.size)))
+  module _ {k : Option Kind} (en : number_or_zero k ≡ known (get_or xs at 0)) where
+    number_is : (l : Option Kind) → k ≡ l → get_or xs at 0 ≡ number_or_zero l
+    number_is l e = sym (ap number_or_zero (sym e) ∙ en ∙ known_is (get_or xs at 0) (omega (arith, S.some, S.size)))
+
+    kind_is : (l : Kind) → k ≡ Some l → get_or xs at 0 ≡ number_of l
+    unfolding number_or_zero
+    kind_is l e = number_is (Some l) e
 
     -- a flip-flop's second number is there
-    pub flip_inside : k ≡ FlipFlop → at + 2 < length xs
+    pub flip_inside : k ≡ Some FlipFlop → at + 2 < length xs
     unfolding size_of number_of
     flip_inside e = let s : size_at xs at ≡ 2 = S.size ∙ ap size_of (kind_is FlipFlop e) in omega (arith, S.inside)
 
     -- the kind is a known one
-    pub record_known : {P : Type 0} → k ≡ Unknown → P
-    unfolding size_of number_of
-    record_known e = absurd (let s : size_at xs at ≡ 0 = S.size ∙ ap size_of (kind_is Unknown e) in omega (arith, S.some))
+    pub record_known : {P : Type 0} → k ≡ None → P
+    unfolding size_of number_or_zero
+    record_known e = absurd (let s : size_at xs at ≡ 0 = S.size ∙ ap size_of (number_is None e) in omega (arith, S.some))
 
     -- a memory adds no activation, and counts as one memory
-    pub record_memory : k ≡ kinds.Memory → AddsGroup (group_at (drop at xs)) Memory
+    pub record_memory : k ≡ Some kinds.Memory → AddsGroup (group_at (drop at xs)) Memory
     unfolding group_at number_of
     record_memory e = rw (front 3 (kind_is kinds.Memory e)) (adds_memory _)
 
     -- an output record adds what an output does
-    pub record_output : k ≡ Output → {r : Added} → AddsGroup (output (get_or xs (at + 1) 0)) r → AddsGroup (group_at (drop at xs)) r
+    pub record_output : k ≡ Some Output → {r : Added} → AddsGroup (output (get_or xs (at + 1) 0)) r → AddsGroup (group_at (drop at xs)) r
     unfolding group_at number_of
     record_output e B = rw (front 1 (kind_is Output e), number 0 (at + 1) (omega arith)) B
 
     -- a flip-flop record what a flip-flop does
-    pub record_flip : k ≡ FlipFlop → {r : Added} → AddsGroup (flip_flop (get_or xs (at + 1) 0) (get_or xs (at + 2) 0)) r → AddsGroup (group_at (drop at xs)) r
+    pub record_flip : k ≡ Some FlipFlop → {r : Added} → AddsGroup (flip_flop (get_or xs (at + 1) 0) (get_or xs (at + 2) 0)) r → AddsGroup (group_at (drop at xs)) r
     unfolding group_at number_of
     record_flip e B = rw (front 2 (kind_is FlipFlop e), number 0 (at + 1) (omega arith), number 1 (at + 2) (omega arith)) B
 
     -- a staged pin adds 2 at its pin
-    pub record_staged : k ≡ StagedPin → (p : Pin) → p.0 ≡ get_or xs (at + 1) 0 → AddsGroup (group_at (drop at xs)) (Code p 2)
+    pub record_staged : k ≡ Some StagedPin → (p : Pin) → p.0 ≡ get_or xs (at + 1) 0 → AddsGroup (group_at (drop at xs)) (Code p 2)
     unfolding group_at number_of
     record_staged e p ep = rw (front 4 (kind_is StagedPin e), number 0 (at + 1) (omega arith)) (adds_staged _ p ep)
 

@@ -22,7 +22,6 @@ use Rattle.columns.proofs.Area.Lent.{length_laid, at_laid}
 use Rattle.columns.proofs.Lists.Entries.{holds_below}
 use Rattle.stage_walk.specs.Stands.{Context, Begun}
 use Rattle.stage_walk.proofs.Contexts.{context}
-use Rattle.placer_start.specs.declared.Opening.TheVariants.{Ready}
 use Rattle.placer_start.specs.Waiting.{Readable}
 use Rattle.placer_start.specs.Opening.{BeginAt, First}
 

@@ -4,6 +4,7 @@ use mathlib.Core.List.{List}
 use Prim.Native.Nat.{ℕ, ◌+◌, ◌*◌, ◌<◌, ◌≤◌}
 use native.Mathlib.Omega.{arith}
 use lib.ListN.{length, get_or}
+use Rattle.std.specs.Prelude.{Option, Some, None}
 use Rattle.rules.specs.Records.{Group}
 use Rattle.columns.specs.Fields.{DONE, LEVEL, CELLS, RANKED, STARTS, ENDS, REVERSE, LISTED, PLACE, MARK, SPARE, RECORDS}
 use Rattle.columns.specs.Area.{Room, Frame}
@@ -12,9 +13,6 @@ use Rattle.columns.proofs.Area.Columns.{inside}
 use Rattle.columns.proofs.Area.Frames.{frame_then, frame_more, frame_room}
 use Rattle.columns.proofs.Lists.Marks.{marks_frame}
 use Rattle.columns.proofs.Lists.Clears.{clear_frame}
-use Rattle.placer_start.specs.declared.Opening.TheVariants.{Over, Ready}
-use Rattle.placer_start.specs.declared.reservation.Reservation.{Reservation}
-use Rattle.placer_start.specs.declared.reservation.Reservation.TheVariants as reservation
 use Rattle.placer_start.specs.Given.{GivenAt, Given}
 use Rattle.placer_start.specs.Waiting.{AllWait}
 use Rattle.placer_start.specs.Reservation.{Touched, ReserveAt, Reserved}
@@ -95,25 +93,25 @@ module _ {m : ℕ} {given w : List ℕ} (A : Opens m given w) {e : ℕ} {w₁ : 
             zeros = λ j h. opened_past (16 * m + j) (omega arith) ∙ T.low j h ∙ A.idle.zeros j h;
           }
 
-module _ {m : ℕ} {given w : List ℕ} (A : Opens m given w) {limit e : ℕ} {gs : List Group} {r : Reservation} {w₁ : List ℕ} (R : Reserved m limit e gs w w₁ r) {far : ℕ} (within : 16 * m + RECORDS + 2 * e ≤ far) where
+module _ {m : ℕ} {given w : List ℕ} (A : Opens m given w) {limit e : ℕ} {gs : List Group} {r : Option ℕ} {w₁ : List ℕ} (R : Reserved m limit e gs w w₁ r) {far : ℕ} (within : 16 * m + RECORDS + 2 * e ≤ far) where
   -- a refused reservation ends the opening
-  pub begins_over : r ≡ reservation.Over → Begins m limit far given gs w Over w₁
+  pub begins_over : r ≡ None → Begins m limit far given gs w None w₁
   unfolding reservation_for
   begins_over d = record {
     frame = frame_more refl R.touched.frame;
     past = λ j h. R.touched.past j (omega arith);
     answer = λ K l. sym d ∙ R.answer K l;
-    first = λ words n b. absurd (let z : ◌≡◌ {A = ℕ} 0 1 = cc in omega arith);
+    first = λ o b. cc;
   }
 
   -- any other reservation is followed by the marks and the waiting list
-  pub begins_ready : {w₂ w₃ : List ℕ} {n : ℕ} → Given m given w₁ w₂ → AllWait m gs w₂ w₃ n → (words : ℕ) → r ≡ reservation.Words words → Begins m limit far given gs w (Ready words n) w₃
+  pub begins_ready : {w₂ w₃ : List ℕ} {n : ℕ} → Given m given w₁ w₂ → AllWait m gs w₂ w₃ n → (words : ℕ) → r ≡ Some words → Begins m limit far given gs w (Some (record { words = words; waiting = n })) w₃
   unfolding reservation_for
   begins_ready {w₂} {w₃} {n} G W words d = record {
     frame = opened_frame A R.touched G W;
     past = λ j h. opened_past A R.touched G W j (omega arith) ∙ R.touched.past j (omega arith);
     answer = λ K l. sym d ∙ R.answer K l;
-    first = λ v k b. let z : k ≡ n = cc in rw z (first_stage A R.touched G W);
+    first = λ o b. let z : o.waiting ≡ n = cc in rw z (first_stage A R.touched G W);
   }
 
 -- ---- over all records

@@ -19,7 +19,7 @@ use Rattle.records.proofs.Reading.{Stands, standing}
 use Rattle.checks.proofs.Laws.Passed.{Next, read_next, read_last, rest_below}
 use Rattle.columns.proofs.Area.Frames.{frame_room}
 use Rattle.placer_start.specs.declared.reservation.Count.{Count}
-use Rattle.placer_start.specs.declared.reservation.Reservation.TheVariants.{Over, Words}
+use Rattle.std.specs.Prelude as std
 use Rattle.rules.specs.Inside.Some.{Some, Every}
 use Rattle.placer_start.specs.Reservation.{none, Touched, Chains, Counts, CountAt, Counted, Few, SetAside, Judged, reservation_of, ReserveAt, Reserved}
 use Rattle.placer_start.proofs.Laws.Chains.{touched_none, touched_then}
@@ -46,12 +46,12 @@ reservable_more K xs ys e = split (reservable K (xs ++ ys))
 
 module _ (K : ℕ) (xs : List Group) where
   -- what can't be reserved for is over
-  pub reservation_over : reservable K xs ≡ false → Over ≡ reservation_of K xs
+  pub reservation_over : reservable K xs ≡ false → std.None ≡ reservation_of K xs
   unfolding reservation_of
   reservation_over e = rw (e, reservation_of)
 
   -- what can has its reserved words
-  pub reservation_words : (r : ℕ) → reservable K xs ≡ true → r ≡ reserved xs → Words r ≡ reservation_of K xs
+  pub reservation_words : (r : ℕ) → reservable K xs ≡ true → r ≡ reserved xs → std.Some r ≡ reservation_of K xs
   unfolding reservation_of
   reservation_words r e d = rw (e, reservation_of, d)
 
@@ -73,9 +73,9 @@ pub record Reserving (m limit at : ℕ) (count : Count) (records w w' : List ℕ
 
 module _ {m limit : ℕ} {records w : List ℕ} (A : ReserveAt m records w) where
   -- before the first record nothing is counted
-  pub reserving_none : Reserving m limit 0 (record { memories = 0; duplicates = 0 }) records w w
+  pub reserving_none : (none_yet : Count) → (none_yet.memories ≡ 0) × (none_yet.duplicates ≡ 0) → Reserving m limit 0 none_yet records w w
   unfolding activations memories duplicates codes_at extra_at distinct insert_all
-  reserving_none = record {
+  reserving_none none_yet z = record {
     touched = touched_none;
     upto = omega arith;
     xs = [];
@@ -84,7 +84,7 @@ module _ {m limit : ℕ} {records w : List ℕ} (A : ReserveAt m records w) wher
     unread = A.right.readable;
     named = A.right.named;
     chains = record { before = λ p h. rw (A.clear.zero p h) (omega arith); chain = λ p h. rw (A.clear.zero p h) none };
-    counts = record { memory = refl; double = refl };
+    counts = record { memory = sym z.0; double = sym z.1 };
     few = omega arith;
     fine = λ K e. reservable_none K;
   }
@@ -115,7 +115,7 @@ module _ {m limit : ℕ} {records w : List ℕ} (A : ReserveAt m records w) wher
       reserving_at = record { it = R.xs; at = count_at }
 
       -- a whole record stands there
-      pub reserving_stands : Stands records at
+      reserving_stands : Stands records at
       reserving_stands = standing records at next.whole
 
       abbrev more : List Group
@@ -133,7 +133,7 @@ module _ {m limit : ℕ} {records w : List ℕ} (A : ReserveAt m records w) wher
         counted_small = record { few = omega (arith, C.few, A.right.short) }
 
         -- a limit is passed, and stays so
-        pub reserving_over : (r : Bool) → Judged c limit r → r ≡ true → Reserved m limit (length records) (groups_of records) w w₂ Over
+        pub reserving_over : (r : Bool) → Judged c limit r → r ≡ true → Reserved m limit (length records) (groups_of records) w w₂ std.None
         reserving_over r J e = record {
           touched = touched_then (omega arith) R.touched (touched_then (omega arith) C.touched touched_none);
           answer = λ K l. reservation_over K (groups_of records) (rw all_more (reservable_more K more next.rest (is_false (reservable K more) (sym e ∙ J.is K more l C.counts))));
@@ -166,7 +166,7 @@ module _ {m limit : ℕ} {records w : List ℕ} (A : ReserveAt m records w) wher
             is_true false e = e
 
     -- past the last record the counts are the reservation
-    pub reserving_done : length records ≤ at → (r : ℕ) → SetAside count r → Reserved m limit (length records) (groups_of records) w w₁ (Words r)
+    pub reserving_done : length records ≤ at → (r : ℕ) → SetAside count r → Reserved m limit (length records) (groups_of records) w w₁ (std.Some r)
     reserving_done h r S =
         let z = read_last records at R.rest R.unread h in
         let a : groups_of records ≡ R.xs = R.all ∙ ap (λ (l : List Group). R.xs ++ l) z ∙ append-nil R.xs in

@@ -10,40 +10,42 @@ use lib.Dec.{leb, ltb}
 use lib.ListN.{length, get_or, take, drop, replicate, length-replicate, get_or-replicate}
 use lib.Seq.{length-take-le}
 use borrow.Author.Tests.{le-leb, lt-leb, leb-true, ltb-true, ltb-false, not-true, not-false}
+use Rattle.std.specs.Prelude.{Result, Ok, Err}
 use Rattle.rules.specs.Lists.{mem, every, In}
-use Rattle.rules.specs.Cells.{is_height, rooms, word_limit, filled}
+use Rattle.rules.specs.Cells.{is_height, rooms, word_limit}
 use Rattle.rules.specs.Graph.{graph_of, pin_count}
-use Rattle.rules.specs.Records.{groups, read, groups_of, waiting_of}
+use Rattle.rules.specs.Records.{groups_of, waiting_of}
 use Rattle.rules.specs.Reservation.{reserved, reservable}
 use Rattle.rules.specs.Checks.{plan_sized, refusal_of, pin_shown}
 use Rattle.rules.specs.Build.{Stage}
 use Rattle.rules.specs.Coded.{cell_pin, pins}
-use Rattle.rules.specs.Faults.{Fault, faultless, fault_at, first_may, fault_from, written_in, last_right, fault_of, cut, fault}
-use Rattle.rules.proofs.Lists.Members.{split, true_false, and_true, in_nil, in_here, in_there}
+use Rattle.rules.specs.Faults.{faultless, fault_at, first_may, fault_from, written_in, last_right, fault_of, cut, fault}
+use Rattle.rules.proofs.Lists.Members.{split, and_true, in_nil, in_here, in_there}
 use Rattle.rules.proofs.Demand.{wait_ends}
 use Rattle.cells.specs.Answers.{or_zero}
 use Rattle.cells.proofs.Heights.{or_zero_true}
-use Rattle.graph.specs.declared.Pin.{Pin}
-use Rattle.checks.specs.declared.Verdict.{Verdict}
+use Rattle.refusals.specs.declared.Refusal.{Refusal}
+use Rattle.refusals.specs.declared.Refusal.TheVariants.{WrongPlan}
+use Rattle.refusals.specs.Numbers.{number_of}
+use Rattle.refusals.proofs.Numbers.{number_is}
 use Rattle.checks.specs.Values.{Says}
 use Rattle.checks.specs.Passed.{Passed}
 use Rattle.checks.proofs.Laws.Passed.{passed}
 use Rattle.coded.proofs.Cells.{small_filled}
 use Rattle.placer_start.specs.declared.reservation.Count.{Count}
 use Rattle.placer_start.specs.Waiting.{Readable}
-use Rattle.placer_start.specs.Reservation.{Counts, Few, SetAside, Judged}
+use Rattle.placer_start.specs.Reservation.{SetAside, Judged}
 use Rattle.reservation_count.specs.Counts.{CountAt}
 use Rattle.plan_check_stage.specs.Marks.{marked, Marks}
 use Rattle.plan_check_stage.specs.Cells.{Gives}
 use Rattle.plan_check_stage.proofs.Laws.Marks.{mark_past, mark_in, mark_out}
 use Rattle.plan_check.specs.declared.stages.Place.{Place}
-use Rattle.plan_check.specs.declared.Answer.{Answer}
 use Rattle.plan_check.specs.Room.{RoomAt, InAt, RoomCounted}
-use Rattle.plan_check.specs.Ends.{EndsAt, EndsWritten}
-use Rattle.plan_check.specs.Stages.{fault_for, Held, PlanHere, FirstAt, FirstSays, LastAt, LastSays, MarkedAt, MarkedSays, PlanAt, PlanSays}
-use Rattle.plan_check.specs.Answers.{plan_fits, Checked, judged, plan_checker, outcome}
+use Rattle.plan_check.specs.Ends.{EndsWritten}
+use Rattle.plan_check.specs.Stages.{fault_for, PlanHere, FirstAt, FirstSays, LastAt, LastSays, MarkedAt, MarkedSays, PlanAt, PlanSays}
+use Rattle.plan_check.specs.Answers.{plan_fits, judged, plan_checker, outcome}
 use Rattle.plan_check.proofs.Laws.Loads.{high}
-use Rattle.plan_check.proofs.Laws.Stages.{nobody, at_place}
+use Rattle.plan_check.proofs.Laws.Stages.{at_place}
 use Rattle.plan_check.proofs.Laws.Ends.{every_same}
 
 -- ---- last of all
@@ -56,9 +58,9 @@ module _ (K : ℕ) (records marks : List ℕ) (count : Count) (A : LastAt K reco
   judge = J.is K (groups_of records) limit_is A.counts
 
   -- the reservation is over
-  pub last_over : t ≡ true → (r : Place) → r ≡ at_place 0 0 → LastSays K records marks r
+  pub last_over : t ≡ true → LastSays K records marks (at_place 0 0)
   unfolding last_right fault_for
-  last_over e r er = record { is = λ ss W m few R. let d : reservable K (groups_of records) ≡ false = not-true (reservable K (groups_of records)) (sym judge ∙ e) in rw (d, er) }
+  last_over e = record { is = λ ss W m few R. let d : reservable K (groups_of records) ≡ false = not-true (reservable K (groups_of records)) (sym judge ∙ e) in rw d }
 
   module _ (fits : t ≡ false) (b : Bool) (E : EndsWritten records marks b) where
     reserves : reservable K (groups_of records) ≡ true
@@ -72,14 +74,14 @@ module _ (K : ℕ) (records marks : List ℕ) (count : Count) (A : LastAt K reco
         ]) ∙ sym E.is
 
     -- an endpoint is missing
-    pub last_missing : b ≡ false → (r : Place) → r ≡ at_place 0 0 → LastSays K records marks r
+    pub last_missing : b ≡ false → LastSays K records marks (at_place 0 0)
     unfolding last_right fault_for
-    last_missing e r er = record { is = λ ss W m few R. let d : every (λ q. written_in q ss) (waiting_of (groups_of records) []) ≡ false = written ss W m few R ∙ e in rw (reserves, d, er) }
+    last_missing e = record { is = λ ss W m few R. let d : every (λ q. written_in q ss) (waiting_of (groups_of records) []) ≡ false = written ss W m few R ∙ e in rw (reserves, d) }
 
     -- all is right
-    pub last_right_lem : b ≡ true → (r : Place) → r ≡ nobody → LastSays K records marks r
+    pub last_right_lem : b ≡ true → LastSays K records marks (Ok tt)
     unfolding last_right fault_for
-    last_right_lem e r er = record { is = λ ss W m few R. let d : every (λ q. written_in q ss) (waiting_of (groups_of records) []) ≡ true = written ss W m few R ∙ e in rw (reserves, d, er) }
+    last_right_lem e = record { is = λ ss W m few R. let d : every (λ q. written_in q ss) (waiting_of (groups_of records) []) ≡ true = written ss W m few R ∙ e in rw (reserves, d) }
 
 -- ---- the whole plan
 
@@ -96,22 +98,22 @@ module _ (K : ℕ) (gates marks records plan words counts : List ℕ) (n : ℕ) 
     room_is : room ≡ word_limit K - reserved (groups_of records)
     room_is = let e : limit ≡ word_limit K = rw (A.here.tall.height, or_zero_true (word_limit K)) at el in er ∙ rw (e, S.is (groups_of records) A.counted)
 
-    module _ (written' : List ℕ) (r : Place) (F : FirstSays K (graph_of gates) marks plan words counts n room written' r) where
+    module _ (written' : List ℕ) (r : Result (Unit {0}) Place) (F : FirstSays K (graph_of gates) marks plan words counts n room written' r) where
       first : (given : List ℕ) → Gives given marks → fault_from K (graph_of gates) given (first_may (graph_of gates) given) (word_limit K - reserved (groups_of records)) 1 (cut n K plan words counts) ≡ fault_for r
       first given G = rw (← room_is) (F.is given G)
 
       -- a stage has a fault
-      pub marked_wrong : r.wrong ≡ true → MarkedSays K gates marks records plan words counts n r
+      pub marked_wrong : (p : Place) → r ≡ Err p → MarkedSays K gates marks records plan words counts n r
       unfolding fault fault_of fault_for
-      marked_wrong t = record { is = λ given G. let f : fault_from K (graph_of gates) given (first_may (graph_of gates) given) (word_limit K - reserved (groups_of records)) 1 (cut n K plan words counts) ≡ fault_at r.stage r.position = first given G ∙ rw t in rw (f, t, fault_of) }
+      marked_wrong p t = record { is = λ given G. let f : fault_from K (graph_of gates) given (first_may (graph_of gates) given) (word_limit K - reserved (groups_of records)) 1 (cut n K plan words counts) ≡ fault_at p.stage p.position = first given G ∙ rw t in rw (f, t, fault_of) }
 
       -- none has
-      pub marked_last : r.wrong ≡ false → (q : Place) → LastSays K records written' q → MarkedSays K gates marks records plan words counts n q
+      pub marked_last : r ≡ Ok tt → (q : Result (Unit {0}) Place) → LastSays K records written' q → MarkedSays K gates marks records plan words counts n q
       unfolding fault fault_of fault_for
       marked_last t q L = record {
         is = λ given G.
             let f : fault_from K (graph_of gates) given (first_may (graph_of gates) given) (word_limit K - reserved (groups_of records)) 1 (cut n K plan words counts) ≡ faultless = first given G ∙ rw t in
-            L.is (cut n K plan words counts) (F.each t) (pin_count gates) A.here.pins A.right ∙ rw (f, fault_of);
+            L.is (cut n K plan words counts) (rw t at F.each) (pin_count gates) A.here.pins A.right ∙ rw (f, fault_of);
       }
 
 -- zeros have no mark
@@ -163,7 +165,7 @@ module _ (K : ℕ) (gates given records plan words counts : List ℕ) (n : ℕ) 
       p = own_pins given (λ q i. omega (arith, A.named q i, A.here.pins))
 
   -- the first fault
-  pub plan_says : (marks : List ℕ) → Gives given marks → (r : Place) → MarkedSays K gates marks records plan words counts n r → PlanSays K gates given records plan words counts n r
+  pub plan_says : (marks : List ℕ) → Gives given marks → (r : Result (Unit {0}) Place) → MarkedSays K gates marks records plan words counts n r → PlanSays K gates given records plan words counts n r
   plan_says marks G r M = record { is = M.is given G }
 
 -- ---- sizes
@@ -181,7 +183,7 @@ module _ (K plan counts n : ℕ) (t : Bool) (et : t ≡ is_height K && plan_size
     rooms_are : m ≡ rooms K plan
     rooms_are = rw (parts.0, or_zero_true (rooms K plan)) at em
 
-    -- too few stages
+    -- too few rooms
     pub fits_rooms : m < n → false ≡ is_height K && plan_fits K plan counts n
     unfolding plan_fits
     fits_rooms h = rw (parts.0, parts.1, lt-leb n (rooms K plan) (omega (arith, rooms_are)))
@@ -194,9 +196,9 @@ module _ (K plan counts n : ℕ) (t : Bool) (et : t ≡ is_height K && plan_size
 -- ---- the answer
 
 -- where no check refuses the reservation may be counted
-pub room_at : (K : ℕ) (s : Bool) (gates given records : List ℕ) (v : Verdict) → Says (refusal_of K s gates given records) gates v → v.number ≡ 0 → RoomAt gates records
-room_at K s gates given records v S e =
-    let P = passed K s gates given records (sym S.number ∙ e) in
+pub room_at : (K : ℕ) (s : Bool) (gates given records : List ℕ) {u : Unit {0}} → Says (refusal_of K s gates given records) gates (Ok u) → RoomAt gates records
+room_at K s gates given records S =
+    let P = passed K s gates given records (sym S.number) in
     record { right = record { short = P.short; readable = P.readable; named = P.named }; few = P.few }
 
 -- the height is looked at first
@@ -220,44 +222,42 @@ module _ (K : ℕ) (gates given records plan words counts : List ℕ) (n : ℕ) 
   unfolding plan_checker
   checker_judged e = rw (e, plan_checker)
 
-  module _ (v : Verdict) (S : Says (refusal_of K s gates given records) gates v) where
-    number_is : v.number ≡ refused
-    number_is = S.number ∙ is_refused
+  -- one of 1 to 5 and 23
+  pub answer_refused : (w : Refusal) → Says {A = Unit {0}} (refusal_of K s gates given records) gates (Err w) → outcome (Err (record { why = w; stage = 0; position = 0 })) ≡ plan_checker K gates given records plan words counts n
+  unfolding outcome
+  answer_refused w S = sym (checker_refused (number_of w) (sym (S.number ∙ is_refused)) (number_is w) ∙ (λ i. record { number = number_of w; stage = 0; position = 0; pin = sym (S.pin ∙ ap (λ (m : ℕ). pin_shown m gates) (sym S.number)) i }))
 
-    -- one of 1 to 5 and 23
-    pub answer_refused : (v.number ≡ 0 → ⊥) → outcome (record { number = v.number; stage = 0; position = 0; pin = v.pin }) ≡ plan_checker K gates given records plan words counts n
-    unfolding outcome
-    answer_refused d = sym (checker_refused v.number (sym number_is) d ∙ (λ i. record { number = v.number; stage = 0; position = 0; pin = sym (S.pin ∙ ap (λ (m : ℕ). pin_shown m gates) (sym S.number)) i }))
+  module _ {u : Unit {0}} (S : Says (refusal_of K s gates given records) gates (Ok u)) where
+    none : refused ≡ 0
+    none = sym (S.number ∙ is_refused)
 
-    module _ (e : v.number ≡ 0) where
-      P : Passed K (plan_fits K (length plan) (length counts) n) gates given records
-      P = passed K (plan_fits K (length plan) (length counts) n) gates given records (sym number_is ∙ e)
+    P : Passed K (plan_fits K (length plan) (length counts) n) gates given records
+    P = passed K (plan_fits K (length plan) (length counts) n) gates given records none
 
-      readable : Readable (pin_count gates) records
-      readable = record { short = P.short; readable = P.readable; named = P.named }
+    readable : Readable (pin_count gates) records
+    readable = record { short = P.short; readable = P.readable; named = P.named }
 
-      here : PlanHere K gates plan counts n
-      unfolding plan_fits rooms
-      here =
-          let a = and_true (plan_sized K (length plan) && leb n (rooms K (length plan))) (leb n (length counts)) P.areas in
-          let b = and_true (plan_sized K (length plan)) (leb n (rooms K (length plan))) a.0 in
-          let m : n * 2 ^ (K + 1) ≤ length plan / 2 ^ (K + 1) * 2 ^ (K + 1) = mul-le-mul_right (2 ^ (K + 1)) (leb-true n (length plan / 2 ^ (K + 1)) b.1) in
-          record { tall = high K P.height; pins = P.few; stages = omega (arith, div-mul-le_self (length plan) (2 ^ (K + 1))); counted = leb-true _ _ a.1 }
+    here : PlanHere K gates plan counts n
+    unfolding plan_fits rooms
+    here =
+        let a = and_true (plan_sized K (length plan) && leb n (rooms K (length plan))) (leb n (length counts)) P.areas in
+        let b = and_true (plan_sized K (length plan)) (leb n (rooms K (length plan))) a.0 in
+        let m : n * 2 ^ (K + 1) ≤ length plan / 2 ^ (K + 1) * 2 ^ (K + 1) = mul-le-mul_right (2 ^ (K + 1)) (leb-true n (length plan / 2 ^ (K + 1)) b.1) in
+        record { tall = high K P.height; pins = P.few; stages = omega (arith, div-mul-le_self (length plan) (2 ^ (K + 1))); counted = leb-true _ _ a.1 }
 
-      -- the plan may be checked
-      pub plan_at : (count : Count) → RoomCounted records count → PlanAt K gates given records plan counts n count
-      plan_at count R = record { here = here; right = readable; counted = R.counts; few = R.few; named = P.given_named }
+    -- the plan may be checked
+    pub plan_at : (count : Count) → RoomCounted records count → PlanAt K gates given records plan counts n count
+    plan_at count R = record { here = here; right = readable; counted = R.counts; few = R.few; named = P.given_named }
 
-      module _ (p : Place) (L : PlanSays K gates given records plan words counts n p) where
-        -- a fault
-        pub answer_fault : p.wrong ≡ true → (q : Pin) → q.0 ≡ 0 → outcome (record { number = 22; stage = p.stage; position = p.position; pin = q }) ≡ plan_checker K gates given records plan words counts n
-        unfolding outcome judged fault_for
-        answer_fault t q z = sym (checker_judged (sym number_is ∙ e) ∙ ap judged (sym L.is) ∙ rw (t, z))
+    -- a fault
+    pub answer_fault : (p : Place) → PlanSays K gates given records plan words counts n (Err p) → outcome (Err (record { why = WrongPlan; stage = p.stage; position = p.position })) ≡ plan_checker K gates given records plan words counts n
+    unfolding outcome judged fault_for
+    answer_fault p L = sym (checker_judged none ∙ ap judged (sym L.is))
 
-        -- none
-        pub answer_none : p.wrong ≡ false → (q : Pin) → q.0 ≡ 0 → outcome (record { number = 0; stage = 0; position = 0; pin = q }) ≡ plan_checker K gates given records plan words counts n
-        unfolding outcome judged fault_for
-        answer_none t q z = sym (checker_judged (sym number_is ∙ e) ∙ ap judged (sym L.is) ∙ rw (t, z))
+    -- none
+    pub answer_none : {v : Unit {0}} → PlanSays K gates given records plan words counts n (Ok v) → outcome (Ok tt) ≡ plan_checker K gates given records plan words counts n
+    unfolding outcome judged fault_for
+    answer_none L = sym (checker_judged none ∙ ap judged (sym L.is))
 
 -- ---- the reservation
 

@@ -1,16 +1,16 @@
 -- Endpoints by marks, record after record. Assumes nothing.
-use Prim.Native.Nat.{ℕ, zero, suc, ◌+◌, ◌≤◌, ◌<◌}
+use Prim.Native.Nat.{ℕ, ◌+◌, ◌≤◌, ◌<◌}
 use mathlib.Core.Path.{◌≡◌, refl, sym, ◌∙◌, ap}
 use mathlib.Core.Bool.{Bool, true, false, not, ◌&&◌, ◌||◌}
 use mathlib.Core.List.{List, [], ◌∷◌, ◌++◌}
 use native.Mathlib.Omega.{arith}
 use lib.Dec.{ltb}
 use lib.ListN.{length, get_or, drop}
-use borrow.Author.Tests.{lt-ltb, le-ltb}
+use borrow.Author.Tests.{lt-ltb}
 use Rattle.rules.specs.Lists.{mem, keep, every, insert, insert_all, In}
-use Rattle.rules.specs.Records.{Group, groups, read, group_at, groups_of, whole_at, endpoints_of, waiting_of}
-use Rattle.rules.proofs.Bools.{and_right, and_none, and_assoc}
-use Rattle.rules.proofs.Lists.Members.{split, true_false, every_in, in_here, in_there}
+use Rattle.rules.specs.Records.{Group, groups, read, group_at, groups_of, endpoints_of, waiting_of}
+use Rattle.rules.proofs.Bools.{and_right, and_assoc}
+use Rattle.rules.proofs.Lists.Members.{split, every_in, in_here, in_there}
 use Rattle.records.specs.Values.{size_at, endpoint_at}
 use Rattle.records.proofs.Reading.{Stands, standing, size_endpoints, endpoint_is, every_step, every_end}
 use Rattle.checks.proofs.Laws.Passed.{Next, read_next, read_last}
@@ -133,7 +133,7 @@ module _ (records marks : List ℕ) (A : EndsAt records) where
     pub ends_at : RecordAt records at
     ends_at = record { whole = next.whole; short = A.short }
 
-    pub ends_stands : Stands records at
+    ends_stands : Stands records at
     ends_stands = standing records at next.whole
 
     module _ (r : Bool) (W : RecordWritten records marks at r) where

@@ -1,18 +1,18 @@
 -- What a stage holds above level 0, as marks; loads that agree on the graph's pins. Assumes nothing.
 use Prim.Native.Nat.{ℕ, zero, suc, ◌+◌, ◌-◌, ◌*◌, ◌^◌, ◌≤◌, ◌<◌}
 use mathlib.Core.Path.{◌≡◌, refl, sym, ◌∙◌, ap}
-use mathlib.Core.Bool.{Bool, true, false, not, ◌&&◌}
+use mathlib.Core.Bool.{Bool, true, false}
 use mathlib.Core.List.{List, [], ◌∷◌}
 use native.Mathlib.Omega.{arith}
 use native.Mathlib.Nat.{pow-succ'}
 use lib.Dec.{eqb, ltb}
 use lib.Pow.{pow_mono}
-use lib.ListN.{length, get_or, take, drop, length-drop}
-use lib.Seq.{take-take, drop-drop, length-take-le}
-use borrow.Author.Tests.{ltb-true, ltb-false, eq-eqb, ne_eqb}
-use Rattle.rules.specs.Lists.{nothing, found, mem}
+use lib.ListN.{length, get_or, take, drop}
+use lib.Seq.{take-take, drop-drop}
+use borrow.Author.Tests.{ltb-true, ltb-false, ne_eqb}
+use Rattle.rules.specs.Lists.{mem}
 use Rattle.rules.specs.Cells.{is_height, empty, filled, width, stage_size, word_limit}
-use Rattle.rules.specs.Graph.{Node, leaf}
+use Rattle.rules.specs.Graph.{Node}
 use Rattle.rules.specs.Fold.{first_at, lowest}
 use Rattle.rules.specs.Coded.{cell_pin, pins}
 use Rattle.rules.specs.Build.{Stage}
@@ -22,7 +22,7 @@ use Rattle.rules.proofs.Lists.Members.{split, eqb_true, eqb_false, eqb_same}
 use Rattle.rules.proofs.Lists.Parts.{map-take, map-drop}
 use Rattle.rules.proofs.Stage.Staged.{two_step}
 use Rattle.cells.specs.Answers.{or_zero}
-use Rattle.cells.proofs.Heights.{Tall, tall_height, or_zero_true}
+use Rattle.cells.proofs.Heights.{tall_height, or_zero_true}
 use Rattle.plan_check_stage.specs.Marks.{marked, Marks}
 use Rattle.plan_check_stage.specs.Cells.{High}
 use Rattle.plan_check_stage.proofs.Laws.Marks.{mark_past, mark_in, mark_out}

@@ -1,29 +1,29 @@
 -- Stage after stage: the first fault and the written pins, as far as the stages are checked. Assumes nothing.
-use Prim.Native.Nat.{ℕ, zero, suc, ◌+◌, ◌-◌, ◌*◌, ◌^◌, ◌≤◌, ◌<◌}
+use Prim.Native.Nat.{ℕ, suc, ◌+◌, ◌-◌, ◌*◌, ◌^◌, ◌≤◌, ◌<◌}
 use mathlib.Core.Path.{◌≡◌, refl, sym, ◌∙◌, ap}
-use mathlib.Core.Bool.{Bool, true, false, not, ◌&&◌, ◌||◌}
-use mathlib.Core.List.{List, [], ◌∷◌}
+use mathlib.Core.Bool.{Bool, true, false, ◌||◌}
+use mathlib.Core.List.{List, ◌∷◌}
 use native.Mathlib.Omega.{arith}
 use native.Mathlib.Nat.{add-zero}
 use lib.Dec.{eqb}
 use lib.ListN.{length, get_or, take, drop, length-drop}
 use lib.Seq.{drop-drop, get_or-drop, length-take-le, take_all}
 use borrow.Author.Tests.{eq-eqb, ne_eqb}
-use Rattle.rules.specs.Lists.{nothing, found}
+use Rattle.std.specs.Prelude.{Result, Ok, Err, Some, None}
+use Rattle.rules.specs.Lists.{nothing}
 use Rattle.rules.specs.Cells.{is_height, stage_size}
-use Rattle.rules.specs.Graph.{Node, graph_of, pin_count}
+use Rattle.rules.specs.Graph.{Node, graph_of}
 use Rattle.rules.specs.Build.{Stage}
-use Rattle.rules.specs.Faults.{Fault, faultless, fault_at, right_at, first_not, end_right, first_may, held_in, fault_from, holds_in, written_in, cut}
-use Rattle.rules.proofs.Lists.Members.{split, true_false, eqb_true, eqb_false}
+use Rattle.rules.specs.Faults.{right_at, first_not, end_right, first_may, held_in, fault_from, holds_in, written_in, cut}
+use Rattle.rules.proofs.Lists.Members.{split, eqb_true, eqb_false}
 use Rattle.graph.proofs.Gates.{graph_length}
 use Rattle.cells.specs.Answers.{or_zero}
-use Rattle.cells.proofs.Heights.{or_zero_true}
 use Rattle.plan_check_stage.specs.Marks.{marked}
 use Rattle.plan_check_stage.specs.Cells.{Gives, may_of, High, StageHere, place_of, FirstWrong}
-use Rattle.plan_check_stage.specs.Ending.{words_from, EndRight, WordsAt, WordsMark}
+use Rattle.plan_check_stage.specs.Ending.{words_from, EndRight}
 use Rattle.plan_check_stage.proofs.Laws.Ending.{words_count}
 use Rattle.plan_check.specs.declared.stages.Place.{Place}
-use Rattle.plan_check.specs.Stages.{fault_for, or_else, stage_with, StageSays, StepSays, stage_from, Held, TurnAt, PlanHere, FirstAt, FirstSays}
+use Rattle.plan_check.specs.Stages.{fault_for, or_else, stage_with, StageSays, StepSays, stage_from, Held, TurnAt, FirstAt, FirstSays}
 use Rattle.plan_check.proofs.Laws.Loads.{size_is, fault_same}
 
 -- where a stage ends
@@ -36,49 +36,38 @@ rest_is from words = take_all (length words - from) (drop from words) (rw length
 
 -- ---- places
 
-abbrev pub nobody : Place
-nobody = record { wrong = false; stage = 0; position = 0 }
-
-abbrev pub at_place : ℕ → ℕ → Place
-at_place k p = record { wrong = true; stage = k; position = p }
+abbrev pub at_place : ℕ → ℕ → Result (Unit {0}) Place
+at_place k p = Err (record { stage = k; position = p })
 
 -- ---- a stage
 
-module _ (K : ℕ) (g : List Node) (marks looks : List ℕ) (k : ℕ) (cells words : List ℕ) (n room p : ℕ) (F : FirstWrong K g marks looks (eqb k 1) cells p) where
+module _ (K : ℕ) (g : List Node) (marks looks : List ℕ) (k : ℕ) (cells words : List ℕ) (n room : ℕ) where
   -- a cell is wrong
-  pub says_cell : (p ≡ 0 → ⊥) → (r : Place) → r ≡ at_place k p → StageSays K g marks looks k cells words n room r
+  pub says_cell : (p : ℕ) → FirstWrong K g marks looks (eqb k 1) cells (Some p) → StageSays K g marks looks k cells words n room (at_place k p)
   unfolding or_else fault_from place_of
-  says_cell d r e = record {
-    is = λ given G ss. let f : first_not (right_at K g given (may_of (eqb k 1) g given looks) cells) (stage_size K - 1) 1 ≡ found p = F.is given G ∙ place p d in rw (f, fault_from, e);
-    few = λ t. true_false (ap (λ (x : Place). x.wrong) e) t;
-    at = λ t. true_false (ap (λ (x : Place). x.wrong) e) t;
-  }
-    where
-      place : (q : ℕ) → (q ≡ 0 → ⊥) → place_of q ≡ found q
-      place zero b = absurd (b refl)
-      place (suc q) b = refl
+  says_cell p F = record { is = λ given G ss. rw (F.is given G, fault_from); few = tt; at = tt }
 
-  module _ (z : p ≡ 0) (t : Bool) (E : EndRight K cells words n room t) where
+  module _ (F : FirstWrong K g marks looks (eqb k 1) cells None) (t : Bool) (E : EndRight K cells words n room t) where
     right : (given : List ℕ) → Gives given marks → first_not (right_at K g given (may_of (eqb k 1) g given looks) cells) (stage_size K - 1) 1 ≡ nothing
     unfolding place_of
-    right given G = F.is given G ∙ rw z
+    right given G = F.is given G
 
     -- its end is wrong
-    pub says_end : t ≡ false → (r : Place) → r ≡ at_place k 0 → StageSays K g marks looks k cells words n room r
+    pub says_end : t ≡ false → StageSays K g marks looks k cells words n room (at_place k 0)
     unfolding or_else fault_from
-    says_end f r e = record {
-      is = λ given G ss. let d : end_right K room (stage_with cells words n) ≡ false = sym E.is ∙ f in rw (right given G, d, fault_from, e);
-      few = λ u. true_false (ap (λ (x : Place). x.wrong) e) u;
-      at = λ u. true_false (ap (λ (x : Place). x.wrong) e) u;
+    says_end f = record {
+      is = λ given G ss. let d : end_right K room (stage_with cells words n) ≡ false = sym E.is ∙ f in rw (right given G, d, fault_from);
+      few = tt;
+      at = tt;
     }
 
     -- it has no fault
-    pub says_none : t ≡ true → (r : Place) → r ≡ nobody → StageSays K g marks looks k cells words n room r
+    pub says_none : t ≡ true → StageSays K g marks looks k cells words n room (Ok tt)
     unfolding or_else fault_from
-    says_none f r e = record {
-      is = λ given G ss. let d : end_right K room (stage_with cells words n) ≡ true = sym E.is ∙ f in rw (right given G, d, fault_from, e, words_count n 0 words);
-      few = λ u. E.few f;
-      at = λ u. E.at f;
+    says_none f = record {
+      is = λ given G ss. let d : end_right K room (stage_with cells words n) ≡ true = sym E.is ∙ f in rw (right given G, d, fault_from, words_count n 0 words);
+      few = E.few f;
+      at = E.at f;
     }
 
 -- ---- the stages
@@ -168,7 +157,7 @@ module _ (K : ℕ) (gates marks plan words counts : List ℕ) (n room : ℕ) (lo
         let v : eqb at 0 ≡ false = ne_eqb at 0 ne in
         rw (v, u, loads_at) (sym (C.held.some ne q (omega (arith, graph_length gates, A.here.pins)))))
 
-    module _ (c : ℕ) (ec : c ≡ get_or counts k 0) (e : ℕ) (ee : e ≡ at + 2 ^ (K + 1)) (written' : List ℕ) (r : Place)
+    module _ (c : ℕ) (ec : c ≡ get_or counts k 0) (e : ℕ) (ee : e ≡ at + 2 ^ (K + 1)) (written' : List ℕ) (r : Result (Unit {0}) Place)
         (S₀ : StepSays K g marks looks (k + 1) (take (e - at) (drop at plan)) (take (length words - from) (drop from words)) c left written written' r) where
       S : StepSays K g marks looks (k + 1) (take (e - at) (drop at plan)) (drop from words) c left written written' r
       S = rw (rest_is from words) at S₀
@@ -189,20 +178,17 @@ module _ (K : ℕ) (gates marks plan words counts : List ℕ) (n room : ℕ) (lo
           ∙ rw (s, ← cells_are) (S.says.is given G rest)
 
       -- the stage has a fault
-      pub checking_wrong : r.wrong ≡ true → FirstSays K g marks plan words counts n room written' r
+      pub checking_wrong : (p : Place) → r ≡ Err p → FirstSays K g marks plan words counts n room written' r
       unfolding or_else fault_for
-      checking_wrong t = record {
-        is = λ given G. one_step given G ∙ rw t;
-        each = λ u. true_false t u;
-      }
+      checking_wrong p t = record { is = λ given G. one_step given G ∙ rw t; each = rw t tt }
 
-      module _ (t : r.wrong ≡ false) where
+      module _ (t : r ≡ Ok tt) where
         -- the words fit
         pub checking_few : c ≤ left
-        checking_few = S.says.few t
+        checking_few = rw t at S.says.few
 
         pub checking_there : from + c ≤ length words
-        checking_there = omega (arith, (S.says.at t).there, length-drop from words, C.there)
+        checking_there = omega (arith, (rw t at S.says.at).there, length-drop from words, C.there)
 
         passes : (given : List ℕ) → or_else r (fault_from K g given (held_in K (stage_from K at plan)) (left - c) (suc (k + 1)) rest) ≡ fault_from K g given (held_in K (stage_from K at plan)) (left - c) (suc (k + 1)) rest
         unfolding or_else
@@ -230,7 +216,7 @@ module _ (K : ℕ) (gates marks plan words counts : List ℕ) (n room : ℕ) (lo
               same = λ given G. one_step given G ∙ passes given ∙ fault_same K g given (held_in K (stage_from K at plan)) (loads_at K g given plan (at + 2 ^ (K + 1))) (λ q b. next_loads given q) (left - c) (suc (k + 1)) rest
                   ∙ ap (λ (x : ℕ). fault_from K g given (loads_at K g given plan x) (left - c) (suc (k + 1)) (cut (n - (k + 1)) K (drop x plan) (drop (from + c) words) (drop (k + 1) counts))) (sym ee);
               each = λ q b. C.each q b ∙ ap (λ (x : List Stage). marked written q || written_in q x) (cut_step n K at from k plan words counts c h ec)
-                  ∙ rw (S.each t q (omega (arith, C.size)), cells_are, ee) (or_assoc (marked written q) (holds_in q (stage_from K at plan) (words_from c 0 (drop from words))) (written_in q rest));
+                  ∙ rw ((rw t at S.each) q (omega (arith, C.size)), cells_are, ee) (or_assoc (marked written q) (holds_in q (stage_from K at plan) (words_from c 0 (drop from words))) (written_in q rest));
             }
           where
             or_assoc : (a b d : Bool) → (a || (b || d)) ≡ ((a || b) || d)
@@ -238,13 +224,13 @@ module _ (K : ℕ) (gates marks plan words counts : List ℕ) (n room : ℕ) (lo
             or_assoc false b d = refl
 
   -- no stage has one
-  pub checking_done : (k at from left : ℕ) (looks written : List ℕ) → Checking K g marks plan words counts n room k at from left looks written → n ≤ k → (r : Place) → r ≡ nobody → FirstSays K g marks plan words counts n room written r
+  pub checking_done : (k at from left : ℕ) (looks written : List ℕ) → Checking K g marks plan words counts n room k at from left looks written → n ≤ k → FirstSays K g marks plan words counts n room written (Ok tt)
   unfolding cut fault_from fault_for written_in
-  checking_done k at from left looks written C h r e =
+  checking_done k at from left looks written C h =
       let z : n - k ≡ 0 = omega arith in
       record {
-        is = λ given G. C.same given G ∙ rw (z, e);
-        each = λ u q b. C.each q b ∙ rw z (or_none (marked written q));
+        is = λ given G. C.same given G ∙ rw z;
+        each = λ q b. C.each q b ∙ rw z (or_none (marked written q));
       }
     where
       or_none : (b : Bool) → (b || false) ≡ b

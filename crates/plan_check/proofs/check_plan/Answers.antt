@@ -1,20 +1,24 @@
 -- `plan_check::check_plan` meets its contract. Assumes nothing.
 use mathlib.Core.List.{[]}
-use mathlib.Core.Path.{refl}
+use Rattle.std.proofs.lemmas.Result.{err_from_is_err_and}
 use Rattle.plan_check.proofs.Laws.Answers.{answer_refused, room_at, plan_at, answer_fault, answer_none}
 use Rattle.plan_check.proofs.check_plan.Goals as goal
 
-pub returns-then-verdict-ne0 : goal.returns-then-verdict-ne0
-returns-then-verdict-ne0 c = answer_refused _ _ _ _ _ _ _ _ _ c.plan_fits.ensures _ c.refusal-verdict.ensures c.if-verdict-ne0.true
+pub returns-in_err-refusal : goal.returns-in_err-refusal
+returns-in_err-refusal c =
+    let p = err_from_is_err_and c.from_residual.result c.from_residual.ensures.1 in
+    rw (p.1, p.2) (answer_refused _ _ _ _ _ _ _ _ _ c.plan_fits-sized.ensures _ c.in_err-refusal.ensures)
 
 pub counted-count-requires : goal.counted-count-requires
-counted-count-requires c = room_at _ _ _ _ _ _ c.refusal-verdict.ensures c.if-verdict-ne0.false
+counted-count-requires c = room_at _ _ _ _ _ c.in_ok-refusal.ensures
 
-pub plan_place-place-requires : goal.plan_place-place-requires
-plan_place-place-requires c = plan_at _ _ _ _ _ [] _ _ _ c.plan_fits.ensures _ c.refusal-verdict.ensures c.if-verdict-ne0.false _ c.counted-count.ensures
+pub plan_place-requires : goal.plan_place-requires
+plan_place-requires c = plan_at _ _ _ _ _ [] _ _ _ c.plan_fits-sized.ensures c.in_ok-refusal.ensures _ c.counted-count.ensures
 
-pub returns-then-place : goal.returns-then-place
-returns-then-place c = answer_fault _ _ _ _ _ _ _ _ _ c.plan_fits.ensures _ c.refusal-verdict.ensures c.if-verdict-ne0.false _ c.plan_place-place.ensures c.if-place.true _ refl
+pub returns-in_err-plan_place : goal.returns-in_err-plan_place
+returns-in_err-plan_place c =
+    let p = err_from_is_err_and c.from_residual-in_err-plan_place.result c.from_residual-in_err-plan_place.ensures.1 in
+    rw (p.1, p.2) (answer_fault _ _ _ _ _ _ _ _ _ c.plan_fits-sized.ensures c.in_ok-refusal.ensures _ c.in_err-plan_place.ensures)
 
 pub returns : goal.returns
-returns c = answer_none _ _ _ _ _ _ _ _ _ c.plan_fits.ensures _ c.refusal-verdict.ensures c.if-verdict-ne0.false _ c.plan_place-place.ensures c.if-place.false _ refl
+returns c = answer_none _ _ _ _ _ _ _ _ _ c.plan_fits-sized.ensures c.in_ok-refusal.ensures c.in_ok-plan_place.ensures

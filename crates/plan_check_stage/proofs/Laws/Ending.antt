@@ -2,57 +2,37 @@
 use Prim.Native.Nat.{ℕ, zero, suc, ◌+◌, ◌-◌, ◌*◌, ◌^◌, ◌≤◌, ◌<◌}
 use mathlib.Core.Path.{◌≡◌, refl, sym, ◌∙◌, ap}
 use mathlib.Core.Bool.{Bool, true, false, not, ◌&&◌, ◌||◌}
-use mathlib.Core.List.{List, [], ◌∷◌, map}
+use mathlib.Core.List.{List, [], ◌∷◌}
 use native.Mathlib.Omega.{arith}
-use lib.Dec.{eqb, ltb, leb}
-use lib.ListN.{length, get_or, take, drop, length-map, length-drop, get_or-eq_default}
-use lib.Seq.{drop-cons, drop-length, length-take-le}
-use borrow.Author.Tests.{lt-ltb, le-ltb, le-leb, lt-leb}
+use lib.Dec.{ltb}
+use lib.ListN.{length, get_or, take, drop, length-map, get_or-eq_default}
+use lib.Seq.{drop-cons, length-take-le}
+use borrow.Author.Tests.{ltb-true, ltb-false, le-ltb, le-leb, lt-leb}
+use Rattle.std.specs.List.{list_any, list_all}
+use Rattle.std.proofs.lemmas.List.{get_or-take}
+use Rattle.std.proofs.lemmas.List.Folds.{list_all_at}
 use Rattle.rules.specs.Lists.{mem, every, up_to}
 use Rattle.rules.specs.Cells.{is_height, empty, filled, word_limit, word_fits, level_one_size, row_at, row, first_empty}
-use Rattle.rules.specs.Coded.{pins, cell_pin}
+use Rattle.rules.specs.Coded.{pins}
 use Rattle.rules.specs.Faults.{is_found, end_right, holds_in}
 use Rattle.rules.proofs.Bools.{and_none}
-use Rattle.rules.proofs.Lists.Members.{split, true_false, eqb_true, eqb_false}
+use Rattle.rules.proofs.Lists.Members.{split, true_false}
 use Rattle.rules.proofs.Lists.Lengths.{length-up_to}
 use Rattle.rules.proofs.Lists.Parts.{map-take, map-drop}
 use Rattle.cells.specs.Answers.{or_zero}
 use Rattle.cells.proofs.Heights.{or_zero_true}
-use Rattle.plan_check_stage.specs.Marks.{marked, mark_or, Marks}
+use Rattle.plan_check_stage.specs.Marks.{marked, Marks}
 use Rattle.plan_check_stage.specs.Cells.{High, StageHere}
 use Rattle.plan_check_stage.specs.Ending.{words_from, HasFree, WordsRight, EndRight, WordsAt, WordsMark}
 use Rattle.plan_check_stage.proofs.Laws.Marks.{get_or_inside, mark_in, mark_out}
 
 -- ---- an empty cell
 
--- those before i are filled
-pub record FullTo (cells : List ℕ) (i : ℕ) : Type 0 where
-  pub upto : i ≤ length cells
-  pub same : is_found (first_empty 0 cells) ≡ is_found (first_empty i (drop i cells))
-
-module _ (cells : List ℕ) where
-  -- at the beginning
-  pub full_none : FullTo cells 0
-  full_none = record { upto = omega arith; same = refl }
-
-  module _ (i : ℕ) (F : FullTo cells i) (h : i < length cells) where
-    next : drop i cells ≡ get_or cells i 0 ∷ drop (i + 1) cells
-    next = let s : suc i ≡ i + 1 = omega arith in drop-cons cells i 0 h ∙ rw s
-
-    -- an empty cell
-    pub full_here : filled (get_or cells i 0) ≡ false → true ≡ is_found (first_empty 0 cells)
-    unfolding first_empty is_found
-    full_here e = sym (F.same ∙ rw (next, e, first_empty))
-
-    -- a filled one
-    pub full_more : filled (get_or cells i 0) ≡ true → FullTo cells (i + 1)
-    unfolding first_empty
-    full_more e = let s : suc i ≡ i + 1 = omega arith in record { upto = omega arith; same = F.same ∙ rw (next, e, first_empty, s) }
-
-  -- none is empty
-  pub full_done : (i : ℕ) → FullTo cells i → length cells ≤ i → false ≡ is_found (first_empty 0 cells)
-  unfolding first_empty is_found
-  full_done i F h = let e : i ≡ length cells = omega (arith, F.upto) in sym (F.same ∙ rw (e, drop-length cells))
+-- a list has a first empty cell where any of its cells is empty
+empty_any : (i : ℕ) (cells : List ℕ) → list_any (λ (c : ℕ). not (filled c)) cells ≡ is_found (first_empty i cells)
+unfolding first_empty is_found
+empty_any i [] = refl
+empty_any i (c ∷ cells) = split (filled c) (λ t. rw (t, first_empty) (empty_any (suc i) cells)) (λ t. rw (t, first_empty))
 
 module _ (K : ℕ) (cells : List ℕ) (S : StageHere K cells) (a : ℕ) (ea : a ≡ or_zero (is_height K) (level_one_size K)) where
   -- the cells of level 1
@@ -60,11 +40,11 @@ module _ (K : ℕ) (cells : List ℕ) (S : StageHere K cells) (a : ℕ) (ea : a 
   level_one = rw (S.tall.height, or_zero_true (2 ^ (K - 1))) at ea
 
   -- the row of level 1 is the part that was lent
-  pub free_row : (b : ℕ) → b ≡ 2 * a → (r : Bool) → r ≡ is_found (first_empty 0 (take (b - a) (drop a cells))) → HasFree K cells r
+  pub free_row : (b : ℕ) → b ≡ 2 * a → (r : Bool) → r ≡ list_any (λ (c : ℕ). not (filled c)) (take (b - a) (drop a cells)) → HasFree K cells r
   unfolding row row_at
   free_row b eb r er =
       let z : b - a ≡ a = omega arith in
-      record { is = er ∙ rw (z, level_one) }
+      record { is = er ∙ empty_any 0 (take (b - a) (drop a cells)) ∙ rw (z, level_one) }
 
 -- ---- words
 
@@ -88,58 +68,42 @@ next_word n i words h =
     let s : suc i ≡ i + 1 = omega arith in
     rw e (words_step (n - (i + 1)) i words ∙ rw s)
 
--- those before i are words
-pub record FitTo (K : ℕ) (words : List ℕ) (n i : ℕ) : Type 0 where
-  pub upto : i ≤ n
-  pub there : i ≤ length words
-  pub below : (k : ℕ) → k < i → get_or words k 0 < word_limit K
-  pub same : every (word_fits K) (words_from n 0 words) ≡ every (word_fits K) (words_from (n - i) i words)
+module _ (K : ℕ) (words : List ℕ) where
+  -- a word that isn't there
+  past : High K → (n i : ℕ) → i ≤ length words → length words < i + n → every (word_fits K) (words_from n i words) ≡ false
+  unfolding every word_fits empty
+  past H zero i b h = absurd (omega arith)
+  past H (suc n) i b h = rw (words_step n i words) (split (ltb i (length words))
+      (λ t.
+      let u = ltb-true _ _ t in
+      split (word_fits K (get_or words i empty)) (λ y. rw (y, every) (past H n (suc i) (omega arith) (omega arith))) (λ y. rw (y, every)))
+      (λ t. rw (get_or-eq_default words empty {n = i} (ltb-false _ _ t), le-ltb 4294967295 (word_limit K) (omega (arith, H.words, H.high)), every)))
+
+  -- those that are there
+  all_words : (n i : ℕ) → i + n ≤ length words → list_all (word_fits K) (take n (drop i words)) ≡ every (word_fits K) (words_from n i words)
+  unfolding every
+  all_words zero i h = rw (words_none i words)
+  all_words (suc n) i h =
+      rw (drop-cons words i empty (omega arith), words_step n i words)
+      (split (word_fits K (get_or words i empty)) (λ t. rw (t, every) (all_words n (suc i) (omega arith))) (λ t. rw (t, every)))
 
 module _ (K : ℕ) (H : High K) (words : List ℕ) (n : ℕ) where
-  -- at the beginning
-  pub fit_none : FitTo K words n 0
-  fit_none = let z : n - 0 ≡ n = omega arith in record { upto = omega arith; there = omega arith; below = λ k l. absurd (omega arith); same = rw z }
+  -- too few words
+  pub words_few : length words < n → WordsRight K words n false
+  words_few h = record { is = sym (past K words H n 0 (omega arith) (omega arith)); there = λ t. true_false refl (sym t); below = λ t. true_false refl (sym t) }
 
-  module _ (i : ℕ) (F : FitTo K words n i) (h : i < n) where
-    wrong : word_fits K (get_or words i empty) ≡ false → WordsRight K words n false
-    unfolding every
-    wrong e = record { is = sym (F.same ∙ rw (next_word n i words h, e, every)); there = λ t. true_false refl (sym t); below = λ t. true_false refl (sym t) }
-
-    -- a word that isn't there
-    pub fit_past : length words ≤ i → WordsRight K words n false
-    unfolding word_fits empty
-    fit_past l = wrong (rw (get_or-eq_default words empty {n = i} l, le-ltb 4294967295 (word_limit K) (omega (arith, H.words, H.high))))
-
-    module _ (there : i < length words) (x limit : ℕ) (ex : x ≡ get_or words i 0) (el : limit ≡ or_zero (is_height K) (word_limit K)) where
-      word : x ≡ get_or words i empty
-      word = ex ∙ get_or_inside words i 0 empty there
-
-      bound : limit ≡ word_limit K
-      bound = rw (H.height, or_zero_true (word_limit K)) at el
-
-      -- one past the limit
-      pub fit_wrong : limit ≤ x → WordsRight K words n false
-      unfolding word_fits
-      fit_wrong b = wrong (rw (← word) (le-ltb x (word_limit K) (omega (arith, bound))))
-
-      -- a word
-      pub fit_more : x < limit → FitTo K words n (i + 1)
-      unfolding every word_fits
-      fit_more b =
-          let t : word_fits K (get_or words i empty) ≡ true = rw (← word) (lt-ltb x (word_limit K) (omega (arith, bound))) in
-          record {
-            upto = omega arith;
-            there = omega arith;
-            below = λ k l. split (eqb k i) (λ d. rw (eqb_true k i d, ← ex) (omega (arith, bound))) (λ d. F.below k (omega (arith, eqb_false k i d)));
-            same = F.same ∙ rw (next_word n i words h, t, every);
-          }
-
-  -- all are words
-  pub fit_done : (i : ℕ) → FitTo K words n i → n ≤ i → WordsRight K words n true
-  unfolding every
-  fit_done i F h =
-      let e : n - i ≡ 0 = omega arith in
-      record { is = sym (F.same ∙ rw (e, words_none i words)); there = λ t. omega (arith, F.upto, F.there); below = λ t k l. F.below k (omega arith) }
+  -- the words decide
+  pub words_all : n ≤ length words → (limit : ℕ) → limit ≡ or_zero (is_height K) (word_limit K) → (r : Bool) → r ≡ list_all (λ (x : ℕ). ltb x limit) (take n words) → WordsRight K words n r
+  unfolding word_fits
+  words_all h limit el r er =
+      let bound : limit ≡ word_limit K = rw (H.height, or_zero_true (word_limit K)) at el in
+      let all : r ≡ list_all (λ (x : ℕ). ltb x (word_limit K)) (take n words) = rw bound at er in
+      record {
+        is = all ∙ all_words K words n 0 (omega arith);
+        there = λ t. h;
+        below = λ t i l. split (ltb (get_or words i 0) (word_limit K)) (λ y. ltb-true _ _ y)
+            (λ y. true_false (sym all ∙ t) (list_all_at (λ (x : ℕ). ltb x (word_limit K)) (take n words) i 0 (omega (arith, length-take-le n words h)) (rw (get_or-take n words i 0 l) y)));
+      }
 
 -- ---- the end of a stage
 
@@ -207,13 +171,16 @@ module _ (cells words : List ℕ) (n : ℕ) (A : WordsAt cells words n) (l : Lis
   pub held_none : HeldTo cells words n l 0 l
   held_none = let z : n - 0 ≡ n = omega arith in record { len = refl; upto = omega arith; each = λ q h. rw z }
 
-  module _ (i : ℕ) (now : List ℕ) (R : HeldTo cells words n l i now) (h : i < n) (w : ℕ) (ew : w ≡ get_or words i 0) where
+  module _ (i : ℕ) (now : List ℕ) (R : HeldTo cells words n l i now) (h : i < n) (w : ℕ) (ew : w ≡ get_or (take n words) i 0) where
+    read : w ≡ get_or words i 0
+    read = ew ∙ get_or-take n words i 0 h
+
     held_word : get_or words i empty ≡ w
-    held_word = get_or_inside words i empty 0 (omega (arith, A.there)) ∙ sym ew
+    held_word = get_or_inside words i empty 0 (omega (arith, A.there)) ∙ sym read
 
     -- the word's cells stand in the stage
     pub held_inside : 32 * w + 32 ≤ length cells
-    held_inside = omega (arith, A.inside i h)
+    held_inside = rw read (A.inside i h)
 
     -- one more word
     module _ (a e : ℕ) (ea : a ≡ 32 * w) (ee : e ≡ a + 32) (now' : List ℕ) (M : Marks (pins (take (e - a) (drop a cells))) 1 now now') where

@@ -1,7 +1,7 @@
 -- Marks by pin, read and written. Assumes nothing.
 use Prim.Native.Nat.{ℕ, zero, suc, ◌+◌, ◌≤◌, ◌<◌}
-use mathlib.Core.Path.{◌≡◌, refl, sym, ◌∙◌, ap}
-use mathlib.Core.Bool.{Bool, true, false, not, ◌||◌}
+use mathlib.Core.Path.{◌≡◌, refl, sym, ◌∙◌}
+use mathlib.Core.Bool.{true, false, not}
 use mathlib.Core.List.{List, [], ◌∷◌, ◌++◌}
 use native.Mathlib.Omega.{arith}
 use native.Mathlib.Numerals.{add-one}
@@ -9,7 +9,6 @@ use lib.Dec.{eqb}
 use lib.ListN.{length, get_or, set, take, length-set, length-map, get_or-eq_default}
 use lib.Seq.{get_or-set_same, get_or-set_other, take-suc, take-length}
 use Rattle.rules.specs.Lists.{mem}
-use Rattle.rules.specs.Cells.{empty}
 use Rattle.rules.specs.Coded.{cell_pin, pins}
 use Rattle.rules.proofs.Lists.Members.{split, eqb_true, eqb_false, in_here, in_append_right}
 use Rattle.rules.proofs.Lists.Parts.{get_d_map}

@@ -1,25 +1,28 @@
 -- A cell's test, by what the code tests, and the first cell that fails. Assumes nothing.
-use Prim.Native.Nat.{ℕ, zero, suc, ◌+◌, ◌-◌, ◌*◌, ◌^◌, ◌≤◌, ◌<◌}
+use Prim.Native.Nat.{ℕ, suc, ◌+◌, ◌-◌, ◌^◌, ◌≤◌, ◌<◌}
 use mathlib.Core.Path.{◌≡◌, refl, sym, ◌∙◌, ap}
-use mathlib.Core.Bool.{Bool, true, false, not, ◌&&◌, ◌||◌}
-use mathlib.Core.List.{List, [], ◌∷◌}
+use mathlib.Core.Bool.{Bool, true, false, not, ◌&&◌}
+use mathlib.Core.List.{List}
 use native.Mathlib.Omega.{arith}
 use lib.Dec.{eqb, ltb}
 use lib.ListN.{length, get_or}
 use borrow.Author.Tests.{lt-ltb, le-ltb, eq-eqb, ne_eqb, not-true, not-false}
-use Rattle.rules.specs.Lists.{nothing, found, mem}
+use Rattle.std.specs.Prelude.{Some, None}
+use Rattle.rules.specs.Lists.{mem}
 use Rattle.rules.specs.Cells.{is_height, empty, filled, width, stage_size, first_lower, second_lower}
 use Rattle.rules.specs.Graph.{Node, leaf, gate, pin_of, inversion_of, graph_of, pin_count}
 use Rattle.rules.specs.Fold.{is_leaf}
 use Rattle.rules.specs.Coded.{cell_pin, and_of, and_cell}
 use Rattle.rules.specs.Faults.{splits, right_above, right_at, first_not, first_may}
-use Rattle.rules.proofs.Lists.Members.{split, true_false}
 use Rattle.rules.proofs.Fold.Bits.{lower_cells}
+use Rattle.graph.specs.declared.Node as graph
+use Rattle.graph.specs.declared.Node.TheVariants.{Leaf, Gate}
+use Rattle.graph.specs.Values.{node_for}
 use Rattle.graph.proofs.Gates.{graph_length}
 use Rattle.cells.specs.Answers.{or_zero}
 use Rattle.cells.proofs.Heights.{or_zero_true}
 use Rattle.plan_check_stage.specs.Marks.{marked}
-use Rattle.plan_check_stage.specs.Cells.{Gives, may_of, High, StageHere, CellHere, Above, Loadable, Loads, CellRight, place_of, FirstWrong}
+use Rattle.plan_check_stage.specs.Cells.{Gives, may_of, StageHere, CellHere, Above, Loadable, Loads, CellRight, place_of, FirstWrong}
 use Rattle.plan_check_stage.proofs.Laws.Marks.{get_or_inside}
 
 -- what a test for the empty mark tells
@@ -97,6 +100,12 @@ module _ (g : List Node) (marks : List ℕ) (c x y p : ℕ) (ep : p ≡ cell_pin
 -- a leaf, or a gate
 pub leaf_there : (g : List Node) (n : ℕ) (k : Node) → k ≡ get_or g n leaf → (r : Bool) → r ≡ is_leaf k → Loadable g n r
 leaf_there g n k e r d = record { is = d ∙ ap is_leaf e }
+
+-- what is no leaf is a gate
+pub gate_there : (k : graph.Node) → (k ≡ Leaf → ⊥) → false ≡ is_leaf (node_for k)
+unfolding node_for is_leaf
+gate_there Leaf h = absurd (h refl)
+gate_there (Gate a b) h = refl
 
 module _ (g : List Node) (marks looks : List ℕ) (first : Bool) (n : ℕ) where
   -- in a later stage
@@ -248,20 +257,16 @@ module _ (K : ℕ) (g : List Node) (marks looks : List ℕ) (first : Bool) (cell
     }
 
     -- it is not
-    pub wrong_here : r ≡ false → FirstWrong K g marks looks first cells p
+    pub wrong_here : r ≡ false → FirstWrong K g marks looks first cells (Some p)
     unfolding first_not place_of
     wrong_here e = record {
       is = λ given G.
           let n : length cells - p ≡ suc (length cells - (p + 1)) = omega arith in
           let t : right_at K g given (may_of first g given looks) cells p ≡ false = sym (R.is given G) ∙ e in
-          W.same given G ∙ rw (n, t, first_not) (place p W.one);
+          W.same given G ∙ rw (n, t, first_not);
     }
-      where
-        place : (q : ℕ) → 1 ≤ q → found q ≡ place_of q
-        place zero b = absurd (omega arith)
-        place (suc q) b = refl
 
   -- all are right
-  pub wrong_done : (p : ℕ) → WrongFrom K g marks looks first cells p → length cells ≤ p → FirstWrong K g marks looks first cells 0
+  pub wrong_done : (p : ℕ) → WrongFrom K g marks looks first cells p → length cells ≤ p → FirstWrong K g marks looks first cells None
   unfolding first_not place_of
   wrong_done p W h = record { is = λ given G. let n : length cells - p ≡ 0 = omega arith in W.same given G ∙ rw n }

@@ -2,7 +2,7 @@
 use mathlib.Core.Path.{◌≡◌, refl, ap}
 use mathlib.Core.Bool.{true}
 use mathlib.Core.List.{List}
-use Prim.Native.Nat.{ℕ, ◌-◌, ◌≤◌}
+use Prim.Native.Nat.{ℕ, ◌≤◌}
 use native.Mathlib.Omega.{arith}
 use lib.Dec.{leb}
 use lib.ListN.{length, take}
@@ -10,7 +10,10 @@ use borrow.Author.Tests.{le-leb}
 use Rattle.rules.specs.Lists.{laid_over}
 use Rattle.rules.specs.Job.{Job, Job?, no_job, job, read_job}
 use Rattle.rules.proofs.Job.Bits.{Bytes}
-use Rattle.job.specs.declared.Answer.{Answer}
+use Rattle.std.specs.Prelude.{Ok, Err}
+use Rattle.refusals.specs.declared.Refusal.{Refusal}
+use Rattle.refusals.proofs.Numbers.{number_is}
+use Rattle.job.specs.declared.Job as code
 use Rattle.job.specs.Answers as read
 use Rattle.program.specs.Sizes.{ReadAt, Fits}
 use Rattle.program.proofs.Laws.Read.{read_fits, read_gates, read_given, read_records_lem, front}
@@ -20,19 +23,19 @@ job_cases no_job f g = f refl
 job_cases (job J) f g = g J refl
 
 -- the job stands in the areas
-pub record Got (bs : List ℕ) (a : Answer) (g v c : List ℕ) : Type 0 where
+pub record Got (bs : List ℕ) (a : code.Job) (g v c : List ℕ) : Type 0 where
   pub J : Job
   pub is : read_job bs ≡ job J
   pub fits : Fits J.height J.gates J.records
   pub height : a.height ≡ J.height
-  pub gates : take (a.gates - 0) g ≡ J.gates
-  pub given : take (a.given - 0) v ≡ J.given
-  pub records : take (a.records - 0) c ≡ J.records
+  pub gates : take a.gates g ≡ J.gates
+  pub given : take a.given v ≡ J.given
+  pub records : take a.records c ≡ J.records
   pub gates_in : a.gates ≤ 1002
   pub given_in : a.given ≤ 4096
   pub records_in : a.records ≤ 512
 
-module _ (bs g v c : List ℕ) (B : Bytes bs) (A : ReadAt g v c) (a : Answer) (g' v' c' : List ℕ) (e : read.outcome a g' v' c' ≡ read.read_into (read_job bs) g v c) where
+module _ (bs g v c : List ℕ) (B : Bytes bs) (A : ReadAt g v c) (g' v' c' : List ℕ) where
   module _ (J : Job) (j : read_job bs ≡ job J) where
     room : read.room_for J g v c ≡ true
     unfolding read.room_for
@@ -42,40 +45,41 @@ module _ (bs g v c : List ℕ) (B : Bytes bs) (A : ReadAt g v c) (a : Answer) (g
         let z : leb (length J.records) (length c) ≡ true = le-leb (length J.records) (length c) (omega (arith, A.records, read_records_lem bs J B j)) in
         rw (x, y, z)
 
-    is_laid : read.outcome a g' v' c' ≡ read.laid J g v c
+    is_laid : (o : read.Outcome) → o ≡ read.read_into (read_job bs) g v c → o ≡ read.laid J g v c
     unfolding read.read_into
-    is_laid = rw (j, read.read_into, room) at e
+    is_laid o e = rw (j, read.read_into, room) at e
 
-    got : Got bs a g' v' c'
+    got : (a : code.Job) → read.outcome (Ok a) g' v' c' ≡ read.read_into (read_job bs) g v c → Got bs a g' v' c'
     unfolding read.outcome read.laid
-    got =
-        let ng : a.gates ≡ length J.gates = ap (λ (o : read.Outcome). o.gates) is_laid in
-        let nv : a.given ≡ length J.given = ap (λ (o : read.Outcome). o.given) is_laid in
-        let nc : a.records ≡ length J.records = ap (λ (o : read.Outcome). o.records) is_laid in
-        let lg : g' ≡ laid_over J.gates g = ap (λ (o : read.Outcome). o.gates_area) is_laid in
-        let lv : v' ≡ laid_over J.given v = ap (λ (o : read.Outcome). o.given_area) is_laid in
-        let lc : c' ≡ laid_over J.records c = ap (λ (o : read.Outcome). o.records_area) is_laid in
+    got a e =
+        let l = is_laid (read.outcome (Ok a) g' v' c') e in
+        let ng : a.gates ≡ length J.gates = ap (λ (o : read.Outcome). o.gates) l in
+        let nv : a.given ≡ length J.given = ap (λ (o : read.Outcome). o.given) l in
+        let nc : a.records ≡ length J.records = ap (λ (o : read.Outcome). o.records) l in
+        let lg : g' ≡ laid_over J.gates g = ap (λ (o : read.Outcome). o.gates_area) l in
+        let lv : v' ≡ laid_over J.given v = ap (λ (o : read.Outcome). o.given_area) l in
+        let lc : c' ≡ laid_over J.records c = ap (λ (o : read.Outcome). o.records_area) l in
         record {
           J = J;
           is = j;
           fits = read_fits bs J B j;
-          height = ap (λ (o : read.Outcome). o.height) is_laid;
-          gates = rw lg (front (a.gates - 0) J.gates g (omega arith));
-          given = rw lv (front (a.given - 0) J.given v (omega arith));
-          records = rw lc (front (a.records - 0) J.records c (omega arith));
+          height = ap (λ (o : read.Outcome). o.height) l;
+          gates = rw lg (front a.gates J.gates g ng);
+          given = rw lv (front a.given J.given v nv);
+          records = rw lc (front a.records J.records c nc);
           gates_in = omega (arith, read_gates bs J B j);
           given_in = omega (arith, read_given bs J B j);
           records_in = omega (arith, read_records_lem bs J B j);
         }
 
-  -- a number other than 0 means that the bytes are no job
-  pub read_none : (a.number ≡ 0 → ⊥) → read_job bs ≡ no_job
+  -- a refusal means that the bytes are no job
+  pub read_none : (r : Refusal) → read.outcome (Err r) g' v' c' ≡ read.read_into (read_job bs) g v c → read_job bs ≡ no_job
   unfolding read.outcome read.laid
-  read_none h = job_cases (read_job bs) (λ j. j) (λ J j. absurd (h (ap (λ (o : read.Outcome). o.number) (is_laid J j))))
+  read_none r e = job_cases (read_job bs) (λ j. j) (λ J j. absurd (number_is r (ap (λ (o : read.Outcome). o.number) (is_laid J j (read.outcome (Err r) g' v' c') e))))
 
-  -- 0 means that a job was read, and it stands in the areas
-  pub read_got : a.number ≡ 0 → Got bs a g' v' c'
+  -- else a job was read, and it stands in the areas
+  pub read_got : (a : code.Job) → read.outcome (Ok a) g' v' c' ≡ read.read_into (read_job bs) g v c → Got bs a g' v' c'
   unfolding read.outcome read.read_into read.refused
-  read_got h = job_cases (read_job bs)
-      (λ j. absurd (let d : a.number ≡ 11 = ap (λ (o : read.Outcome). o.number) (rw (j, read.read_into) at e) in omega arith))
-      (λ J j. got J j)
+  read_got a e = job_cases (read_job bs)
+      (λ j. absurd (let d : ◌≡◌ {A = ℕ} 0 11 = ap (λ (o : read.Outcome). o.number) (rw (j, read.read_into) at e) in omega arith))
+      (λ J j. got J j a e)

@@ -1,6 +1,6 @@
 -- What a build in the program's areas leaves prints the job's text. Assumes nothing.
 use mathlib.Core.Path.{◌≡◌, refl, sym, ◌∙◌, ap}
-use mathlib.Core.Bool.{true, false}
+use mathlib.Core.Bool.{true}
 use mathlib.Core.List.{List}
 use Prim.Native.Nat.{ℕ, zero, suc, ◌+◌, ◌-◌, ◌*◌, ◌%◌, ◌≤◌}
 use native.Mathlib.Nat.{mul-mod_left, mul-div_cancel}
@@ -9,22 +9,26 @@ use lib.Dec.{leb, eqb}
 use lib.ListN.{length, take}
 use lib.Pow.{pow_pos, pow_mono}
 use lib.Seq.{length-take-le}
-use borrow.Author.Tests.{leb-true, le-leb, eq-eqb}
+use borrow.Author.Tests.{le-leb, eq-eqb}
 use Rattle.rules.specs.Cells.{empty, is_height, word_limit, stage_size, rooms}
 use Rattle.rules.specs.Graph.{graph_of, pin_count}
 use Rattle.rules.specs.Records.{groups_of}
 use Rattle.rules.specs.Checks.{plan_sized, work_size, areas_sized, refusal_of}
 use Rattle.rules.specs.Traversal.{WordRule, needed_runs}
 use Rattle.rules.specs.Build as rules
-use Rattle.rules.specs.Listing.{answer_text, job_text}
-use Rattle.rules.proofs.Lists.Members.{split, and_true}
+use Rattle.rules.specs.Listing.{answer_text, job_text, refused_line}
+use Rattle.rules.proofs.Lists.Members.{split}
 use Rattle.cells.specs.Answers.{or_zero}
 use Rattle.checks.specs.Passed.{Passed}
 use Rattle.checks.proofs.Laws.Passed.{passed}
-use Rattle.placer.specs.declared.Answer.{Answer}
+use Rattle.std.specs.Prelude.{Ok, Err}
+use Rattle.refusals.specs.Numbers.{number_of, pin_of}
+use Rattle.refusals.proofs.Numbers.{number_is}
+use Rattle.placer.specs.declared.Built.{Built}
+use Rattle.placer.specs.declared.Refused.{Refused}
 use Rattle.placer.specs.Answers.{told, areas, outcome}
-use Rattle.listing.specs.Listing.{written, answered}
-use Rattle.listing.proofs.Laws.Answered.{at_height, answered_no}
+use Rattle.listing.specs.Listing.{written, listed, answered}
+use Rattle.listing.proofs.Laws.Answered.{at_height, answered_no, answered_yes}
 use Rattle.listing.proofs.Laws.Built.{answer_printed}
 use Rattle.program.specs.Sizes.{job_of, AreasAt, BuildAt}
 
@@ -64,11 +68,17 @@ module _ {K : ℕ} {gates records pl ws cs w : List ℕ} (B : BuildAt K gates re
       let t : leb (16 * pin_count gates + 8 * length records + 512) (length w) ≡ true = le-leb (16 * pin_count gates + 8 * length records + 512) (length w) (omega (arith, B.work, B.fits.pins, B.fits.numbers)) in
       rw (p, q, r, t)
 
-  -- what the build answered and left, listed
-  pub text_printed : (given out pl' ws' cs' w' : List ℕ) (a : Answer) → outcome a pl' ws' cs' w' ≡ rules.placer needed_runs K gates given records (areas pl ws cs w) →
-      answered K a.number a.stages a.stage a.pin.0 pl' ws' cs' out ≡ written (job_text needed_runs (job_of K gates given records)) out
+  -- what the build left, listed
+  pub text_built : (given out pl' ws' cs' w' : List ℕ) (b : Built) → outcome (Ok b) pl' ws' cs' w' ≡ rules.placer needed_runs K gates given records (areas pl ws cs w) →
+      listed K b.stages pl' ws' cs' out ≡ written (job_text needed_runs (job_of K gates given records)) out
   unfolding outcome told areas
-  text_printed given out pl' ws' cs' w' a e = rw (← e) at (placed_text needed_runs K gates given records (areas pl ws cs w) out all_right four_rooms)
+  text_built given out pl' ws' cs' w' b e = answered_yes K b.stages pl' ws' cs' out 0 0 0 refl ∙ (rw (← e) at (placed_text needed_runs K gates given records (areas pl ws cs w) out all_right four_rooms))
+
+  -- why it was refused
+  pub text_refused : (given out pl' ws' cs' w' : List ℕ) (r : Refused) → outcome (Err r) pl' ws' cs' w' ≡ rules.placer needed_runs K gates given records (areas pl ws cs w) →
+      written (refused_line (number_of r.why) r.stage (pin_of r.why)) out ≡ written (job_text needed_runs (job_of K gates given records)) out
+  unfolding outcome told areas
+  text_refused given out pl' ws' cs' w' r e = answered_no K 0 pl' ws' cs' out (number_of r.why) r.stage (pin_of r.why) (number_is r.why) ∙ (rw (← e) at (placed_text needed_runs K gates given records (areas pl ws cs w) out all_right four_rooms))
 
 -- the front of the plan area
 module _ {K : ℕ} {gates records pl ws cs w : List ℕ} (A : AreasAt K gates records pl ws cs w) (s : ℕ) (e : s ≡ or_zero (is_height K) (stage_size K)) where

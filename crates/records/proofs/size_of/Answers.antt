@@ -18,7 +18,3 @@ returns-in-Memory c = rw c.in-Memory.is
 pub returns-in-StagedPin : goal.returns-in-StagedPin
 unfolding number_of size_of
 returns-in-StagedPin c = rw c.in-StagedPin.is
-
-pub returns-in-Unknown : goal.returns-in-Unknown
-unfolding number_of size_of
-returns-in-Unknown c = rw c.in-Unknown.is

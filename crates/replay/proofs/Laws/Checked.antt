@@ -2,9 +2,8 @@
 use Prim.Native.Nat.{ℕ, zero, suc}
 use mathlib.Core.Path.{◌≡◌, refl, sym, ◌∙◌, ap}
 use mathlib.Core.Logic.{◌≢◌}
-use mathlib.Core.Bool.{Bool, true, false, ◌&&◌}
+use mathlib.Core.Bool.{Bool, ◌&&◌}
 use mathlib.Core.List.{List}
-use native.Mathlib.Omega.{arith}
 use lib.ListN.{length}
 use Rattle.rules.specs.Cells.{is_height}
 use Rattle.rules.specs.Graph.{graph_of}
@@ -13,12 +12,16 @@ use Rattle.rules.specs.Traversal.{needed_runs}
 use Rattle.rules.specs.Checks.{pin_shown, refusal_of}
 use Rattle.rules.specs.Build.{refuse_checked}
 use Rattle.rules.proofs.Lists.Members.{split}
-use Rattle.checks.specs.declared.Verdict.{Verdict}
+use Rattle.std.specs.Prelude.{Result, Ok, Err}
+use Rattle.refusals.specs.declared.Refusal.{Refusal}
+use Rattle.refusals.specs.Numbers.{number_of, pin_of, number_said}
+use Rattle.refusals.proofs.Numbers.{number_is}
 use Rattle.checks.specs.Values.{Says}
 use Rattle.checks.specs.Passed.{Passed}
 use Rattle.checks.proofs.Laws.Passed.{passed}
 use Rattle.checks.proofs.Laws.Refusing.{height_first}
-use Rattle.placer.specs.declared.Answer.{Answer}
+use Rattle.placer.specs.declared.Built.{Built}
+use Rattle.placer.specs.declared.Refused.{Refused}
 use Rattle.placer.specs.Answers.{told, areas}
 use Rattle.replay_form.specs.Clocks.{line_leaves, bits_out, flip_flops}
 use Rattle.replay_form.specs.Calls as form
@@ -41,9 +44,9 @@ later_pin gates given records driven starting lines recording out end =
     (λ p. rw (p, later_refusal))
 
 -- what the first checks tell is what the later ones ask
-pub checked_in : (K : ℕ) (b : Bool) (gates given records : List ℕ) (v : Verdict) → Says (refusal_of K b gates given records) gates v → v.number ≡ 0 → Checked gates × Readable records
-checked_in K b gates given records v S h =
-    let P : Passed K b gates given records = passed K b gates given records (sym S.number ∙ h) in
+pub checked_in : (K : ℕ) (b : Bool) (gates given records : List ℕ) {A : Type 0} {x : A} → Says (refusal_of K b gates given records) gates (Ok x) → Checked gates × Readable records
+checked_in K b gates given records S =
+    let P : Passed K b gates given records = passed K b gates given records (sym S.number) in
     (record { few = P.few }, record { readable = P.readable; short = P.short })
 
 module _ (K : ℕ) (gates given records driven starting : List ℕ) (lines : ℕ) (recording plan words counts work tape slots bits out end : List ℕ) where
@@ -53,7 +56,7 @@ module _ (K : ℕ) (gates given records driven starting : List ℕ) (lines : ℕ
   abbrev a : form.Lent
   a = record { build = record { plan = plan; words = words; counts = counts; work = work }; tape = tape; slots = slots; bits = bits; out = out; end = end }
 
-  refusing : (n : ℕ) → form.replay_refusal J a ≡ suc n → (r : Answer) → told r ≡ refuse_checked (suc n) gates →
+  refusing : (n : ℕ) → form.replay_refusal J a ≡ suc n → (r : Result Built Refused) → told r ≡ refuse_checked (suc n) gates →
       outcome r plan words counts work tape slots bits out end ≡ form.replay needed_runs (job K gates given records driven starting lines recording) (lent plan words counts work tape slots bits out end)
   unfolding outcome lent areas job form.replay
   refusing n e r t = rw (e, form.replay, t)
@@ -62,38 +65,36 @@ module _ (K : ℕ) (gates given records driven starting : List ℕ) (lines : ℕ
   some zero h = absurd (h refl)
   some (suc k) h = (k, refl)
 
-  module _ (b : Bool) (eb : b ≡ (is_height K && replay_sized K gates records (length plan) (length words) (length counts) (length work) (length tape) (length slots) (length bits))) (v : Verdict)
-      (S : Says (refusal_of K b gates given records) gates v) where
-    number_is : v.number ≡ refusal_of K (form.areas_right J a) gates given records
+  module _ (b : Bool) (eb : b ≡ (is_height K && replay_sized K gates records (length plan) (length words) (length counts) (length work) (length tape) (length slots) (length bits))) where
+    first_is : {A : Type 0} {v : Result A Refusal} → Says (refusal_of K b gates given records) gates v → number_said v ≡ refusal_of K (form.areas_right J a) gates given records
     unfolding form.areas_right
-    number_is = S.number ∙ height_first K _ gates given records b eb
+    first_is S = S.number ∙ height_first K _ gates given records b eb
 
     -- one of 1 to 5 or 23 refuses
-    pub refused_first : v.number ≢ 0 → (r : Answer) → r ≡ record { number = v.number; stages = 0; words = 0; stage = 0; pin = v.pin; cells = 0 } →
-        outcome r plan words counts work tape slots bits out end ≡ form.replay needed_runs (job K gates given records driven starting lines recording) (lent plan words counts work tape slots bits out end)
+    pub refused_first : {A : Type 0} {e : Refusal} → Says {A = A} (refusal_of K b gates given records) gates (Err e) →
+        outcome (Err (record { why = e; stage = 0 })) plan words counts work tape slots bits out end ≡ form.replay needed_runs (job K gates given records driven starting lines recording) (lent plan words counts work tape slots bits out end)
     unfolding form.replay_refusal told refuse_checked
-    refused_first h r er =
-        let k = some v.number h in
-        let e : refusal_of K (form.areas_right J a) gates given records ≡ suc k.0 = sym number_is ∙ k.1 in
-        let p : v.pin.0 ≡ pin_shown (suc k.0) gates = S.pin ∙ ap (λ (i : ℕ). pin_shown i gates) (sym S.number ∙ k.1) in
-        refusing k.0 (rw (e, form.replay_refusal)) r (ap told er ∙ (λ i. record { number = k.1 i; stages = 0; words = 0; stage = 0; pin = p i; cells = 0 }))
+    refused_first {e = e} S =
+        let k = some (number_of e) (number_is e) in
+        let q : refusal_of K (form.areas_right J a) gates given records ≡ suc k.0 = sym (first_is S) ∙ k.1 in
+        let p : pin_of e ≡ pin_shown (suc k.0) gates = S.pin ∙ ap (λ (i : ℕ). pin_shown i gates) (sym S.number ∙ k.1) in
+        refusing k.0 (rw (q, form.replay_refusal)) _ (λ i. record { number = k.1 i; stages = 0; words = 0; stage = 0; pin = p i; cells = 0 })
 
-    module _ (h : v.number ≡ 0) where
-      module _ (l : ℕ) (el : l ≡ later_refusal gates given records driven (length starting) lines (length recording) (length out) (length end)) where
-        later_is : form.replay_refusal J a ≡ l
-        unfolding form.replay_refusal form.later_of
-        later_is = let e : refusal_of K (form.areas_right J a) gates given records ≡ 0 = sym number_is ∙ h in rw (e, form.replay_refusal) (sym el)
+    module _ {A : Type 0} {x : A} (S : Says (refusal_of K b gates given records) gates (Ok x)) where
+      later_is : form.replay_refusal J a ≡ later_refusal gates given records driven (length starting) lines (length recording) (length out) (length end)
+      unfolding form.replay_refusal form.later_of
+      later_is = let e : refusal_of K (form.areas_right J a) gates given records ≡ 0 = sym (first_is S) in rw (e, form.replay_refusal)
 
-        -- one of 18, 19, 20 and 17 refuses
-        pub refused_later : l ≢ 0 → (r : Answer) → r ≡ record { number = l; stages = 0; words = 0; stage = 0; pin = record { 0 = 0 }; cells = 0 } →
-            outcome r plan words counts work tape slots bits out end ≡ form.replay needed_runs (job K gates given records driven starting lines recording) (lent plan words counts work tape slots bits out end)
-        unfolding told refuse_checked
-        refused_later d r er =
-            let k = some l d in
-            let p : pin_shown (suc k.0) gates ≡ 0 = ap (λ (i : ℕ). pin_shown i gates) (sym k.1 ∙ el) ∙ later_pin gates given records driven (length starting) lines (length recording) (length out) (length end) in
-            refusing k.0 (later_is ∙ k.1) r (ap told er ∙ (λ i. record { number = k.1 i; stages = 0; words = 0; stage = 0; pin = sym p i; cells = 0 }))
+      -- one of 18, 19, 20 and 17 refuses
+      pub refused_later : (e : Refusal) → number_of e ≡ later_refusal gates given records driven (length starting) lines (length recording) (length out) (length end) → pin_of e ≡ 0 →
+          outcome (Err (record { why = e; stage = 0 })) plan words counts work tape slots bits out end ≡ form.replay needed_runs (job K gates given records driven starting lines recording) (lent plan words counts work tape slots bits out end)
+      unfolding told refuse_checked
+      refused_later e el ep =
+          let k = some (number_of e) (number_is e) in
+          let p : pin_shown (suc k.0) gates ≡ 0 = ap (λ (i : ℕ). pin_shown i gates) (sym k.1 ∙ el) ∙ later_pin gates given records driven (length starting) lines (length recording) (length out) (length end) in
+          refusing k.0 (later_is ∙ sym el ∙ k.1) _ (λ i. record { number = k.1 i; stages = 0; words = 0; stage = 0; pin = (ep ∙ sym p) i; cells = 0 })
 
-        -- or none
-        pub built_in : l ≡ 0 → BuiltIn K gates given records driven starting lines recording plan words counts work tape slots bits out end
-        unfolding job lent areas
-        built_in d = record { passes = later_is ∙ d }
+      -- or none
+      pub built_in : 0 ≡ later_refusal gates given records driven (length starting) lines (length recording) (length out) (length end) → BuiltIn K gates given records driven starting lines recording plan words counts work tape slots bits out end
+      unfolding job lent areas
+      built_in d = record { passes = later_is ∙ sym d }

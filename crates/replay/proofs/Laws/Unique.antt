@@ -2,20 +2,17 @@
 use Prim.Native.Nat.{ℕ}
 use mathlib.Core.List.{List}
 use mathlib.Core.Path.{◌≡◌, sym, ap, ◌∙◌}
-use Rattle.rules.specs.Build.{Reply}
-use Rattle.placer.specs.declared.Answer.{Answer}
-use Rattle.placer.specs.Answers.{told, areas}
+use Rattle.std.specs.Prelude.{Result}
+use Rattle.placer.specs.declared.Built.{Built}
+use Rattle.placer.specs.declared.Refused.{Refused}
+use Rattle.placer.specs.Answers.{areas}
+use Rattle.placer.proofs.Laws.Unique.{one_answer}
 use Rattle.replay_form.specs.Calls.{Lent, Outcome}
 use Rattle.replay.specs.Answers.{lent, outcome}
 
 -- two answers and their areas agree in everything
-pub record Same (a a' : Answer) (pl ws cs w t s b o e pl' ws' cs' w' t' s' b' o' e' : List ℕ) : Type 0 where
-  pub number : a.number ≡ a'.number
-  pub stages : a.stages ≡ a'.stages
-  pub words : a.words ≡ a'.words
-  pub stage : a.stage ≡ a'.stage
-  pub pin : a.pin.0 ≡ a'.pin.0
-  pub cells : a.cells ≡ a'.cells
+pub record Same (a a' : Result Built Refused) (pl ws cs w t s b o e pl' ws' cs' w' t' s' b' o' e' : List ℕ) : Type 0 where
+  pub answer : a ≡ a'
   pub plan : pl ≡ pl'
   pub words_area : ws ≡ ws'
   pub counts : cs ≡ cs'
@@ -27,17 +24,12 @@ pub record Same (a a' : Answer) (pl ws cs w t s b o e pl' ws' cs' w' t' s' b' o'
   pub end : e ≡ e'
 
 -- two that tell the same outcome do
-pub one_outcome : (O : Outcome) (a a' : Answer) (pl ws cs w t s b o e pl' ws' cs' w' t' s' b' o' e' : List ℕ) → outcome a pl ws cs w t s b o e ≡ O → outcome a' pl' ws' cs' w' t' s' b' o' e' ≡ O → Same a a' pl ws cs w t s b o e pl' ws' cs' w' t' s' b' o' e'
-unfolding outcome told lent areas
+pub one_outcome : (O : Outcome) (a a' : Result Built Refused) (pl ws cs w t s b o e pl' ws' cs' w' t' s' b' o' e' : List ℕ) → outcome a pl ws cs w t s b o e ≡ O → outcome a' pl' ws' cs' w' t' s' b' o' e' ≡ O → Same a a' pl ws cs w t s b o e pl' ws' cs' w' t' s' b' o' e'
+unfolding outcome lent areas
 one_outcome O a a' pl ws cs w t s b o e pl' ws' cs' w' t' s' b' o' e' d c =
     let q : outcome a pl ws cs w t s b o e ≡ outcome a' pl' ws' cs' w' t' s' b' o' e' = d ∙ sym c in
     record {
-      number = ap (λ (x : Outcome). x.reply.number) q;
-      stages = ap (λ (x : Outcome). x.reply.stages) q;
-      words = ap (λ (x : Outcome). x.reply.words) q;
-      stage = ap (λ (x : Outcome). x.reply.stage) q;
-      pin = ap (λ (x : Outcome). x.reply.pin) q;
-      cells = ap (λ (x : Outcome). x.reply.cells) q;
+      answer = one_answer a a' (ap (λ (x : Outcome). x.reply) q);
       plan = ap (λ (x : Outcome). x.lent.build.plan) q;
       words_area = ap (λ (x : Outcome). x.lent.build.words) q;
       counts = ap (λ (x : Outcome). x.lent.build.counts) q;

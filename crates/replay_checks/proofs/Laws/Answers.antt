@@ -1,11 +1,11 @@
 -- The answers of the checks, number by number. Assumes nothing.
-use Prim.Native.Nat.{ℕ, zero, suc, ◌+◌, ◌≤◌, ◌<◌}
+use Prim.Native.Nat.{ℕ, ◌≤◌, ◌<◌}
 use mathlib.Core.Path.{◌≡◌, refl, sym, ◌∙◌, ap}
 use mathlib.Core.Bool.{Bool, true, false, ◌&&◌}
 use mathlib.Core.List.{List, [], ◌∷◌}
 use native.Mathlib.Omega.{arith}
 use lib.Dec.{eqb, ltb}
-use lib.ListN.{length, get_or, take, replicate, length-replicate, get_or-replicate, get_or-eq_default}
+use lib.ListN.{length, replicate, length-replicate, get_or-replicate, get_or-eq_default}
 use lib.Seq.{length-take-le}
 use borrow.Author.Tests.{eq-eqb, ne_eqb, ltb-true, ltb-false}
 use Rattle.rules.specs.Lists.{is_nil}
@@ -14,9 +14,9 @@ use Rattle.rules.specs.Records.{groups_of}
 use Rattle.rules.specs.Reservation.{memories}
 use Rattle.rules.proofs.Lists.Members.{split}
 use Rattle.graph.proofs.Gates.{graph_length}
-use Rattle.replay_form.specs.Clocks.{line_leaves, bits_out, flip_flops}
+use Rattle.replay_form.specs.Clocks.{line_leaves}
 use Rattle.replay_form.specs.Calls.{plain, driven_right, later_refusal}
-use Rattle.replay_run.specs.Leaves.{Marked, LeavesIn, LeavesPut}
+use Rattle.replay_run.specs.Leaves.{Marked, LeavesPut}
 use Rattle.replay_run.proofs.Laws.Leaves.{marks_are, leaves_are}
 use Rattle.replay_checks.specs.declared.counts.Counts.{Counts}
 use Rattle.replay_checks.specs.Values.{MarksAt, Counted, measured, numbered}

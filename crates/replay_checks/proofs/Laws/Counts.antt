@@ -1,7 +1,7 @@
 -- Memories, flip-flops and bits, record after record. Assumes nothing.
-use Prim.Native.Nat.{ℕ, zero, suc, ◌+◌, ◌≤◌, ◌<◌}
-use mathlib.Core.Path.{◌≡◌, refl, sym, ◌∙◌, ap}
-use mathlib.Core.Bool.{true, false}
+use Prim.Native.Nat.{ℕ, ◌+◌, ◌≤◌, ◌<◌}
+use mathlib.Core.Path.{◌≡◌, sym, ◌∙◌, ap}
+use mathlib.Core.Bool.{true}
 use mathlib.Core.List.{List, [], ◌∷◌}
 use native.Mathlib.Omega.{arith}
 use lib.Dec.{eqb}
@@ -13,10 +13,10 @@ use Rattle.rules.specs.Reservation.{memories}
 use Rattle.rules.proofs.Lists.Members.{split}
 use Rattle.records.specs.Values.{size_at}
 use Rattle.records.proofs.Reading.{standing}
-use Rattle.checks.proofs.Laws.Passed.{Next, read_next, read_last}
+use Rattle.checks.proofs.Laws.Passed.{read_next, read_last}
 use Rattle.replay_form.specs.Clocks.{bits_out, flip_flops}
 use Rattle.replay_run.proofs.Laws.Flips.{kinds, whole_some}
-use Rattle.replay_checks.specs.Values.{Readable, one_if, Counted}
+use Rattle.replay_checks.specs.Values.{Readable, one_if}
 
 -- a kind is the one asked for
 pub one_if_lem : (n k a : ℕ) → k ≡ a → n + 1 ≡ n + one_if k a

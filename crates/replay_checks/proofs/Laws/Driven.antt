@@ -1,23 +1,22 @@
 -- Driven pins, from the last down. Assumes nothing.
-use Prim.Native.Nat.{ℕ, zero, suc, ◌+◌, ◌-◌, ◌≤◌, ◌<◌}
-use mathlib.Core.Path.{◌≡◌, refl, sym, ◌∙◌, ap}
+use Prim.Native.Nat.{ℕ, zero, suc, ◌-◌, ◌≤◌, ◌<◌}
+use mathlib.Core.Path.{◌≡◌, refl, sym, ◌∙◌}
 use mathlib.Core.Bool.{Bool, true, false, not, ◌&&◌}
 use mathlib.Core.List.{List, [], ◌∷◌}
 use native.Mathlib.Omega.{arith}
 use lib.Dec.{ltb}
-use lib.ListN.{length, get_or, set, drop, length-set}
+use lib.ListN.{length, get_or, set, drop}
 use lib.Seq.{drop-cons, drop-length}
 use borrow.Author.Tests.{le-ltb}
-use Rattle.rules.specs.Lists.{mem, every, up_to, keep}
+use Rattle.rules.specs.Lists.{mem, every}
 use Rattle.rules.specs.Graph.{Node, leaf, graph_of, pin_count}
 use Rattle.rules.specs.Fold.{is_leaf}
-use Rattle.rules.specs.Records.{groups_of}
 use Rattle.rules.proofs.Lists.Members.{split, and_true, true_false}
 use Rattle.graph.proofs.Gates.{graph_length}
-use Rattle.replay_form.specs.Clocks.{is_one, leaf_pin, line_leaves}
+use Rattle.replay_form.specs.Clocks.{is_one, leaf_pin}
 use Rattle.replay_form.specs.Calls.{once, driven_right}
-use Rattle.replay_run.specs.Leaves.{line_leaf, Marked, LeavesPut}
-use Rattle.replay_run.proofs.Laws.Leaves.{MarkedTo, marked_none, marked_more, marked_done, marks_are, leaves_are}
+use Rattle.replay_run.specs.Leaves.{line_leaf}
+use Rattle.replay_run.proofs.Laws.Leaves.{MarkedTo, marked_none, marked_more, marked_done, marks_are}
 use Rattle.replay_checks.specs.Values.{MarksAt, LeavesMarked}
 
 module _ (g : List Node) (x : ℕ) (xs : List ℕ) where

@@ -1,61 +1,24 @@
 -- Products compared by division. Assumes nothing.
-use Prim.Native.Nat.{ℕ, ◌+◌, ◌*◌, ◌/◌, ◌%◌, ◌≤◌, ◌<◌}
-use mathlib.Core.Path.{◌≡◌, refl, sym, ◌∙◌, ap}
-use mathlib.Core.Bool.{Bool, true, false, ◌&&◌}
-use native.Mathlib.Omega.{arith}
-use native.Mathlib.Nat.{le-div_iff_mul-le, mul-mod_left, mul-div_cancel}
+use Prim.Native.Nat.{ℕ, ◌*◌, ◌%◌}
+use mathlib.Core.Path.{◌≡◌, sym, ◌∙◌, ap}
+use mathlib.Core.Logic.{◌⊎◌, inl, inr}
+use mathlib.Core.Bool.{true, false}
+use native.Mathlib.Nat.{mul-mod_left}
 use lib.Dec.{leb, eqb}
-use borrow.Author.Tests.{eq-eqb, ne_eqb, le-leb, lt-leb, leb-true, leb-false}
-use Rattle.rules.proofs.Lists.Members.{split, eqb_true, eqb_false}
-use Rattle.rules.proofs.Lists.Parts.{divides}
+use borrow.Author.Tests.{eq-eqb, ne_eqb}
 use Rattle.replay_form.specs.Calls.{lengths_right, out_right}
 use Rattle.replay_checks.specs.Values.{measured}
 
-module _ (length n each : ℕ) where
-  -- nothing times a number
-  pub product_none : each ≡ 0 → eqb length 0 ≡ eqb length (n * each)
-  product_none e = let z : n * 0 ≡ 0 = omega arith in rw (e, z)
-
-  module _ (some : each ≡ 0 → ⊥) where
-    -- what `each` does not divide is no product
-    pub product_odd : (length % each ≡ 0 → ⊥) → false ≡ eqb length (n * each)
-    product_odd h = sym (ne_eqb length (n * each) (λ e. h (ap (λ (x : ℕ). x % each) e ∙ mul-mod_left n each)))
-
-    -- what it divides is one of what comes out
-    pub product_even : length % each ≡ 0 → eqb (length / each) n ≡ eqb length (n * each)
-    product_even h =
-        let d : length ≡ length / each * each = divides length each h in
-        split (eqb (length / each) n)
-        (λ t. rw t (sym (eq-eqb length (n * each) (d ∙ ap (λ (x : ℕ). x * each) (eqb_true (length / each) n t)))))
-        (λ t. rw t (sym (ne_eqb length (n * each) (λ e. eqb_false (length / each) n t (ap (λ (x : ℕ). x / each) e ∙ mul-div_cancel n {n = each} (omega (arith, some)))))))
-
-    -- a product is within a length where n is within what comes out
-    pub product_fits : leb n (length / each) ≡ leb (n * each) length
-    product_fits =
-        let i = le-div_iff_mul-le {k = each} {x = n} {y = length} (omega (arith, some)) in
-        split (leb n (length / each))
-        (λ t. rw t (sym (le-leb (n * each) length (i.0 (leb-true n (length / each) t)))))
-        (λ t. rw t (sym (lt-leb (n * each) length (over (leb-false n (length / each) t)))))
-      where
-        over : length / each < n → length < n * each
-        over h = split (leb (n * each) length)
-            (λ t. absurd (omega (arith, (le-div_iff_mul-le {k = each} {x = n} {y = length} (omega (arith, some))).1 (leb-true (n * each) length t))))
-            (λ t. leb-false (n * each) length t)
-
-  -- nothing is within any length
-  pub product_nothing : each ≡ 0 → true ≡ leb (n * each) length
-  product_nothing e = let z : n * 0 ≡ 0 = omega arith in rw (e, z) (sym (le-leb 0 length (omega arith)))
+-- what `each` does not divide is no product
+pub product_odd : (length n each : ℕ) → (length % each ≡ 0 → ⊥) → false ≡ eqb length (n * each)
+product_odd length n each h = sym (ne_eqb length (n * each) (λ e. h (ap (λ (x : ℕ). x % each) e ∙ mul-mod_left n each)))
 
 module _ (flips leaves driven starting lines recording : ℕ) where
-  -- another number of driven pins
-  pub lengths_driven : (driven ≡ flips → ⊥) → false ≡ lengths_right flips leaves driven starting lines recording
+  -- another number of driven pins or of starting bits
+  pub lengths_wrong : ((driven ≡ flips) × (starting ≡ flips → ⊥)) ⊎ (driven ≡ flips → ⊥) → false ≡ lengths_right flips leaves driven starting lines recording
   unfolding lengths_right
-  lengths_driven e = rw (ne_eqb driven flips e)
-
-  -- another number of starting bits
-  pub lengths_starting : driven ≡ flips → (starting ≡ flips → ⊥) → false ≡ lengths_right flips leaves driven starting lines recording
-  unfolding lengths_right
-  lengths_starting d e = rw (eq-eqb driven flips d, ne_eqb starting flips e)
+  lengths_wrong (inl h) = rw (eq-eqb driven flips h.0, ne_eqb starting flips h.1)
+  lengths_wrong (inr h) = rw (ne_eqb driven flips h)
 
   -- else the recording decides
   pub lengths_recording : driven ≡ flips → starting ≡ flips → eqb recording (lines * leaves) ≡ lengths_right flips leaves driven starting lines recording

@@ -1,7 +1,7 @@
 -- A job that no check refuses, and a plan without a fault: the parts that the run is lent, and what it leaves. Assumes nothing.
 use Prim.Native.Nat.{ℕ, zero, suc, ◌+◌, ◌-◌, ◌*◌, ◌/◌, ◌^◌, ◌≤◌}
 use mathlib.Core.Path.{◌≡◌, refl, sym, ◌∙◌, ap}
-use mathlib.Core.Bool.{Bool, true, ◌&&◌}
+use mathlib.Core.Bool.{true, ◌&&◌}
 use mathlib.Core.List.{List, [], ◌++◌}
 use native.Mathlib.Omega.{arith}
 use lib.Dec.{leb}
@@ -14,9 +14,9 @@ use Rattle.rules.specs.Graph.{graph_of, pin_count}
 use Rattle.rules.specs.Records.{groups_of}
 use Rattle.rules.specs.Reservation.{reserved}
 use Rattle.rules.specs.Checks.{plan_sized, refusal_of}
-use Rattle.rules.specs.Build.{Stage, cells_of, words_of, counts_of}
+use Rattle.rules.specs.Build.{Stage, cells_of, words_of}
 use Rattle.rules.specs.Faults.{faultless, first_may, fault_from, cut, fault}
-use Rattle.rules.proofs.Lists.Members.{and_true}
+use Rattle.rules.proofs.Lists.Members.{and_true, true_false}
 use Rattle.rules.proofs.Lists.Parts.{part_laid}
 use Rattle.checks.specs.Passed.{Passed}
 use Rattle.checks.proofs.Laws.Passed as checks
@@ -25,7 +25,7 @@ use Rattle.fold.proofs.Laws.Stages.{size_there}
 use Rattle.placer.proofs.Laws.Course.{limit_small}
 use Rattle.coded.specs.Inputs.{Input}
 use Rattle.coded.proofs.Reading.{accepted_parts}
-use Rattle.replay_form.specs.Clocks.{Ran, Circuit, ones, line_leaves, bits_out, flip_flops, plain_bits, plain_run}
+use Rattle.replay_form.specs.Clocks.{Ran, ones, line_leaves, bits_out, flip_flops, plain_bits, plain_run}
 use Rattle.replay_form.specs.Accepted.{Accepted}
 use Rattle.replay_form.specs.Calls as form
 use Rattle.replay_form.specs.Calls.{slots_size, bits_size, out_right}
@@ -33,7 +33,7 @@ use Rattle.replay_form.proofs.Lengths.{length_ones, length_end}
 use Rattle.replay_form.proofs.Accepted.{cut_accepted}
 use Rattle.replay_form.proofs.Cut.{words_few, cut_cells, cut_counts, cut_many, cut_words, words_there}
 use Rattle.replay_form.proofs.Calls as calls
-use Rattle.replay_plan.specs.Runs.{RunIn, circuit}
+use Rattle.replay_plan.specs.Runs.{circuit}
 use Rattle.replay.specs.Answers.{job, FinishIn, Finished}
 use Rattle.replay.specs.Sizes.{lists_sized}
 use Rattle.replay.proofs.Laws.Built.{free}
@@ -206,7 +206,7 @@ module _ (K : ℕ) (gates given records driven starting : List ℕ) (lines : ℕ
     cells_many = length-take-le (u - 0) plan (omega (arith, Q.plan_part)) ∙ omega (arith, Q.used_is)
 
     -- the run may begin
-    pub finish_in : (all : ℕ) → all ≡ sum (take (n - 0) counts) → FinishIn 0 K gates records driven starting lines recording (take (u - 0) plan) words (take (n - 0) counts) all (take (c - 0) work) (take (u - 0) tape) (take (h - 0) slots) (take (l - 0) bits) out (take (f - 0) end)
+    pub finish_in : (all : ℕ) → all ≡ sum (take (n - 0) counts) → FinishIn true K gates records driven starting lines recording (take (u - 0) plan) words (take (n - 0) counts) all (take (c - 0) work) (take (u - 0) tape) (take (h - 0) slots) (take (l - 0) bits) out (take (f - 0) end)
     finish_in all ea =
         let z : n - 0 ≡ n = omega arith in
         let w : words_of ss ≡ take (sum (take n counts)) words = cut_words K n plan words counts there.1 words_are.0 in
@@ -233,10 +233,10 @@ module _ (K : ℕ) (gates given records driven starting : List ℕ) (lines : ℕ
             slots_room = omega (arith, slots_length, cells_many);
             bits_room = rw (cells_many, bits_length) (omega arith);
           };
-          clear = λ d. absurd (d refl);
+          clear = λ d. true_false refl d;
         }
 
-    module _ (w t q v o e : List ℕ) (F : Finished 0 gates records driven starting lines recording (take (c - 0) work) (take (u - 0) tape) (take (h - 0) slots) (take (l - 0) bits) out (take (f - 0) end) w t q v o e) where
+    module _ (w t q v o e : List ℕ) (F : Finished true gates records driven starting lines recording (take (c - 0) work) (take (u - 0) tape) (take (h - 0) slots) (take (l - 0) bits) out (take (f - 0) end) w t q v o e) where
       plain : finished_run J p ≡ plain_run (circuit gates records driven) lines recording starting
       unfolding finished_run stages_in form.ran_of form.circuit_of
       plain = calls.faultless_plain I given_none driven lines recording starting plan words counts n area A.right

@@ -1,13 +1,12 @@
 -- What an answer of a call means: with 0 the bits are those of the plain graph, run the same way; a refusal changes nothing. Assumes nothing.
 use Prim.Native.Nat.{ℕ, zero, suc, ◌+◌, ◌*◌}
-use mathlib.Core.Path.{◌≡◌, refl, sym, ◌∙◌, ap}
+use mathlib.Core.Path.{◌≡◌, refl, ◌∙◌, ap}
 use mathlib.Core.Logic.{◌≢◌}
 use mathlib.Core.List.{List, ◌++◌}
 use native.Mathlib.Omega.{arith}
-use lib.ListN.{length, take}
+use lib.ListN.{take}
 use Rattle.rules.specs.Lists.{laid_over}
 use Rattle.rules.specs.Records.{groups_of}
-use Rattle.rules.specs.Checks.{refusal_of, pin_shown}
 use Rattle.rules.specs.Faults.{Fault, faultless, fault_at, fault}
 use Rattle.replay_form.specs.Clocks.{Ran, bits_out, flip_flops, line_size}
 use Rattle.replay_form.specs.Calls.{Job, circuit_of, ran_of}

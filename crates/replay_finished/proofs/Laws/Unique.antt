@@ -1,18 +1,16 @@
 -- Any two outcomes that the promise of `replay_plan` allows are the same, answer and areas. Assumes nothing.
 use Prim.Native.Nat.{ℕ}
 use mathlib.Core.List.{List}
-use mathlib.Core.Path.{◌≡◌, sym, ap, ◌∙◌}
-use Rattle.plan_check.specs.declared.Answer.{Answer}
-use Rattle.plan_check.specs.Answers as check
+use mathlib.Core.Path.{◌≡◌, refl, sym, ap, ◌∙◌}
+use Rattle.std.specs.Prelude.{Result}
+use Rattle.plan_check.specs.declared.Refused.{Refused}
+use Rattle.plan_check.proofs.Laws.Unique as check
 use Rattle.replay_finished.specs.Calls.{Lent, Outcome}
 use Rattle.replay_finished.specs.Answers.{lent, outcome}
 
 -- two answers and their areas agree in everything
-pub record Same (a a' : Answer) (w t s b o e w' t' s' b' o' e' : List ℕ) : Type 0 where
-  pub number : a.number ≡ a'.number
-  pub stage : a.stage ≡ a'.stage
-  pub position : a.position ≡ a'.position
-  pub pin : a.pin.0 ≡ a'.pin.0
+pub record Same (a a' : Result (Unit {0}) Refused) (w t s b o e w' t' s' b' o' e' : List ℕ) : Type 0 where
+  pub answer : a ≡ a'
   pub work : w ≡ w'
   pub tape : t ≡ t'
   pub slots : s ≡ s'
@@ -21,15 +19,12 @@ pub record Same (a a' : Answer) (w t s b o e w' t' s' b' o' e' : List ℕ) : Typ
   pub end : e ≡ e'
 
 -- two that tell the same outcome do
-pub one_outcome : (O : Outcome) (a a' : Answer) (w t s b o e w' t' s' b' o' e' : List ℕ) → outcome a w t s b o e ≡ O → outcome a' w' t' s' b' o' e' ≡ O → Same a a' w t s b o e w' t' s' b' o' e'
-unfolding outcome lent check.outcome
+pub one_outcome : (O : Outcome) (a a' : Result (Unit {0}) Refused) (w t s b o e w' t' s' b' o' e' : List ℕ) → outcome a w t s b o e ≡ O → outcome a' w' t' s' b' o' e' ≡ O → Same a a' w t s b o e w' t' s' b' o' e'
+unfolding outcome lent
 one_outcome O a a' w t s b o e w' t' s' b' o' e' d c =
     let q : outcome a w t s b o e ≡ outcome a' w' t' s' b' o' e' = d ∙ sym c in
     record {
-      number = ap (λ (x : Outcome). x.reply.number) q;
-      stage = ap (λ (x : Outcome). x.reply.stage) q;
-      position = ap (λ (x : Outcome). x.reply.position) q;
-      pin = ap (λ (x : Outcome). x.reply.pin) q;
+      answer = check.one_outcome _ a a' (ap (λ (x : Outcome). x.reply) q) refl;
       work = ap (λ (x : Outcome). x.lent.work) q;
       tape = ap (λ (x : Outcome). x.lent.tape) q;
       slots = ap (λ (x : Outcome). x.lent.slots) q;

@@ -1,28 +1,16 @@
 -- Bytes, one after the other. Assumes nothing.
-use Prim.Native.Nat.{ℕ, zero, suc, ◌+◌, ◌-◌, ◌≤◌, ◌<◌}
-use mathlib.Core.Path.{◌≡◌, refl, sym, ◌∙◌, ap}
-use mathlib.Core.Bool.{true, false}
-use mathlib.Core.List.{List, [], ◌∷◌, map}
+use Prim.Native.Nat.{ℕ, ◌+◌, ◌≤◌, ◌<◌}
+use mathlib.Core.Path.{◌≡◌, refl, sym, ◌∙◌}
+use mathlib.Core.List.{List}
 use native.Mathlib.Omega.{arith}
 use lib.Dec.{eqb}
-use lib.ListN.{length, get_or, set, replicate, length-set, length-replicate, get_or-replicate}
+use lib.ListN.{length, get_or, set, length-set}
 use lib.Seq.{get_or-set_same, get_or-set_other, ext_get_or}
-use borrow.Author.Tests.{eq-eqb, ne_eqb}
 use Rattle.rules.specs.Fold.{as_number}
 use Rattle.rules.proofs.Lists.Members.{split, eqb_true, eqb_false}
 use Rattle.rules.proofs.Lists.Parts.{get_d_map}
 use Rattle.replay_form.specs.Clocks.{is_one, ones}
 use Rattle.replay_form.proofs.Lengths.{length_ones}
-
--- 0 is the bit 0
-pub bit_zero : (x : ℕ) → x ≡ 0 → 0 ≡ as_number (is_one x)
-unfolding as_number is_one
-bit_zero x e = rw e
-
--- anything else the bit 1
-pub bit_one : (x : ℕ) → (x ≡ 0 → ⊥) → 1 ≡ as_number (is_one x)
-unfolding as_number is_one
-bit_one x e = rw (ne_eqb x 0 e)
 
 -- the first i bytes are those of a function
 pub record Filled (f : ℕ → ℕ) (s : List ℕ) (i : ℕ) (now : List ℕ) : Type 0 where
@@ -42,11 +30,6 @@ module _ (f : ℕ → ℕ) (s : List ℕ) where
         (λ t. let e = eqb_true k i t in rw (e, get_or-set_same now i v 0 h) ev)
         (λ t. let e = eqb_false k i t in get_or-set_other now i k v 0 e ∙ F.each k (omega (arith, e)));
   }
-
--- all are 0
-pub cleared : (s : List ℕ) (i : ℕ) (now : List ℕ) → Filled (λ k. 0) s i now → length now ≤ i → now ≡ replicate (length s) 0
-cleared s i now F h = ext_get_or 0 now (replicate (length s) 0) (F.len ∙ sym (length-replicate (length s) 0))
-    (λ k b. F.each k (omega arith) ∙ sym (get_or-replicate (length s) k 0 0 (omega (arith, F.len))))
 
 -- all are bits
 pub copied : (from s : List ℕ) → length s ≡ length from → (i : ℕ) (now : List ℕ) → Filled (λ k. as_number (is_one (get_or from k 0))) s i now → length from ≤ i → now ≡ ones from

@@ -24,7 +24,7 @@ use Rattle.graph.proofs.Gates.{graph_length}
 use Rattle.checks.specs.Passed.{Passed}
 use Rattle.checks.proofs.Laws.Passed.{passed}
 use Rattle.coded.specs.Inputs.{Input}
-use Rattle.replay_form.specs.Clocks.{is_one, ones, leaf_pin, line_leaves, Circuit, Ran, run, plain_bits, plain_run}
+use Rattle.replay_form.specs.Clocks.{is_one, ones, leaf_pin, line_leaves, Circuit, Ran, plain_bits, plain_run}
 use Rattle.replay_form.specs.Tape.{tape_bits, tape_run}
 use Rattle.replay_form.specs.Plans.{written_at}
 use Rattle.replay_form.specs.Calls.{once, driven_right}

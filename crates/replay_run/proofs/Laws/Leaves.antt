@@ -1,16 +1,16 @@
 -- The leaves of a line, pin after pin. Assumes nothing.
 use Prim.Native.Nat.{ℕ, zero, suc, ◌+◌, ◌-◌, ◌≤◌, ◌<◌}
-use mathlib.Core.Path.{◌≡◌, refl, sym, ◌∙◌, ap, ap₂}
+use mathlib.Core.Path.{◌≡◌, refl, sym, ◌∙◌, ap}
 use mathlib.Core.Bool.{Bool, true, false, not, ◌&&◌}
-use mathlib.Core.List.{List, [], ◌∷◌, ◌++◌, append_assoc, append-nil}
+use mathlib.Core.List.{List, ◌∷◌, ◌++◌, append_assoc, append-nil}
 use native.Mathlib.Omega.{arith}
 use native.Mathlib.Numerals.{add-one}
-use lib.Dec.{eqb, ltb}
+use lib.Dec.{eqb}
 use lib.ListN.{length, get_or, set, take, drop, length-set}
 use lib.Seq.{take-suc-set, get_or-set_same, get_or-set_other, drop-cons, drop-length}
-use borrow.Author.Tests.{eq-eqb, ne_eqb, lt-ltb}
+use borrow.Author.Tests.{ne_eqb, lt-ltb}
 use Rattle.rules.specs.Lists.{keep, up_to, mem}
-use Rattle.rules.specs.Graph.{Node, leaf, gate, graph_of, pin_count}
+use Rattle.rules.specs.Graph.{Node, leaf, graph_of, pin_count}
 use Rattle.rules.specs.Fold.{is_leaf}
 use Rattle.rules.proofs.Lists.Members.{split, eqb_true, eqb_false}
 use Rattle.graph.proofs.Gates.{graph_length}

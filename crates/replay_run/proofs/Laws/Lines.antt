@@ -1,24 +1,23 @@
 -- Lines of a recording over slots, clock by clock, and what they are of the definitions. Assumes nothing.
 use Prim.Native.Nat.{ℕ, zero, suc, ◌+◌, ◌-◌, ◌*◌, ◌≤◌, ◌<◌}
-use mathlib.Core.Path.{◌≡◌, refl, sym, ◌∙◌, ap, ap₂}
-use mathlib.Core.Bool.{Bool, true, false}
+use mathlib.Core.Path.{◌≡◌, refl, sym, ◌∙◌, ap}
 use mathlib.Core.List.{List, [], ◌∷◌, ◌++◌, append_assoc, append-nil}
 use native.Mathlib.Omega.{arith}
 use native.Mathlib.Nat.{suc-mul}
 use lib.Dec.{eqb}
-use lib.ListN.{length, get_or, take, drop, length-append, length-drop, length-take, take-append-drop, get_or-append}
+use lib.ListN.{length, get_or, take, drop, length-append, length-drop, take-append-drop, get_or-append}
 use lib.Seq.{get_or-take, get_or-drop, length-take-le, drop-drop, take_at, drop_at}
-use Rattle.rules.specs.Lists.{mem, laid_over}
+use Rattle.rules.specs.Lists.{laid_over}
 use Rattle.rules.specs.Graph.{Node}
 use Rattle.rules.proofs.Lists.Members.{split}
 use Rattle.replay_form.specs.Clocks.{line_leaves, pin_bits, Circuit, Valuation, Ran, clock, line_size, and_then, run}
 use Rattle.replay_form.specs.Tape.{slot_bit, run_tape}
 use Rattle.replay_form.proofs.Tape.{length_run}
-use Rattle.replay_tape.specs.Running.{entries_of, RunAt}
-use Rattle.replay_tape.specs.Clocks.{put_bits, PinsAt, handed, place_bit, pick, datas, FlipsAt, bits_at, ClockIn, ClockOut, places_of, flips_from}
+use Rattle.replay_tape.specs.Running.{entries_of}
+use Rattle.replay_tape.specs.Clocks.{put_bits, handed, place_bit, pick, datas, bits_at, ClockIn, ClockOut, places_of, flips_from}
 use Rattle.replay_tape.proofs.Laws.Running.{number_small, ran_small}
 use Rattle.replay_tape.proofs.Laws.Clocks.{length_put, length_handed, length_datas, clock_run, slot_there, slots_length}
-use Rattle.replay_tape.proofs.Laws.Circuits.{put_append, put_out, run_keeps, Resting, length_pins, pins_put, clock_is}
+use Rattle.replay_tape.proofs.Laws.Circuits.{put_append, put_out, run_keeps, Resting, length_pins, clock_is}
 use Rattle.replay_run.specs.Lines.{lines_run, LinesIn, LinesOut}
 
 one_more : (left m : ℕ) → 0 < left → left * m ≡ (left - 1) * m + m
@@ -139,22 +138,25 @@ module _ (tape places flips driven leaves recording bits₀ state₀ out₀ : Li
           (then_assoc (record { out = take to out; end = state }) (record { out = y; end = state' }) (lines_run tape places flips driven leaves pins n (left - 1) (drop e recording) bits' state'))
 
       -- one line more
-      pub clocked_more : Clocked tape places flips driven leaves recording bits₀ state₀ out₀ pins n k (left - 1) e s bits' state' out'
-      clocked_more =
-          let l : length out' ≡ length out = ap length out_there ∙ length-append (take to out ++ y) (drop s out) ∙ omega (arith, head_length, length-drop s out, part_there) in
-          let sl : length state' ≡ length flips = ap length O.next ∙ length_datas flips _ state in
-          record {
-            blen = slots_length tape places flips driven leaves line bits state (take (s - to) (drop to out)) pins n clock_in (put_bits leaves line bits) refl put refl bits' slots ∙ R.blen;
-            slen = sl ∙ sym A.flops;
-            olen = l ∙ R.olen;
-            bit = kept_bit;
-            ahead = omega (arith, R.ahead, one_more left (length leaves) h);
-            room = omega (arith, R.room, one_more left (length places) h, l);
-            rest =
-                ap (drop s) out_there ∙ drop_at (take to out ++ y) (drop s out) s head_length
-                ∙ ap (λ (m : ℕ). drop m out) es ∙ sym (drop-drop (length places) to out) ∙ ap (drop (length places)) R.rest ∙ drop-drop (length places) to out₀ ∙ ap (λ (m : ℕ). drop m out₀) (sym es);
-            done = more_done;
-          }
+      pub clocked_more : (m : ℕ) → m ≡ left - 1 → Clocked tape places flips driven leaves recording bits₀ state₀ out₀ pins n k m e s bits' state' out'
+      clocked_more m em = rw em one
+        where
+          one : Clocked tape places flips driven leaves recording bits₀ state₀ out₀ pins n k (left - 1) e s bits' state' out'
+          one =
+              let l : length out' ≡ length out = ap length out_there ∙ length-append (take to out ++ y) (drop s out) ∙ omega (arith, head_length, length-drop s out, part_there) in
+              let sl : length state' ≡ length flips = ap length O.next ∙ length_datas flips _ state in
+              record {
+                blen = slots_length tape places flips driven leaves line bits state (take (s - to) (drop to out)) pins n clock_in (put_bits leaves line bits) refl put refl bits' slots ∙ R.blen;
+                slen = sl ∙ sym A.flops;
+                olen = l ∙ R.olen;
+                bit = kept_bit;
+                ahead = omega (arith, R.ahead, one_more left (length leaves) h);
+                room = omega (arith, R.room, one_more left (length places) h, l);
+                rest =
+                    ap (drop s) out_there ∙ drop_at (take to out ++ y) (drop s out) s head_length
+                    ∙ ap (λ (m : ℕ). drop m out) es ∙ sym (drop-drop (length places) to out) ∙ ap (drop (length places)) R.rest ∙ drop-drop (length places) to out₀ ∙ ap (λ (m : ℕ). drop m out₀) (sym es);
+                done = more_done;
+              }
 
   -- all lines
   pub clocked_done : (left from to : ℕ) (bits state out : List ℕ) → Clocked tape places flips driven leaves recording bits₀ state₀ out₀ pins n k left from to bits state out → left ≤ 0 →

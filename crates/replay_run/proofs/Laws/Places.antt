@@ -1,14 +1,12 @@
 -- The places that the records hand out, number after number and record after record. Assumes nothing.
-use Prim.Native.Nat.{ℕ, zero, suc, ◌+◌, ◌-◌, ◌*◌, ◌≤◌, ◌<◌}
+use Prim.Native.Nat.{ℕ, zero, suc, ◌+◌, ◌*◌, ◌≤◌, ◌<◌}
 use mathlib.Core.Path.{◌≡◌, refl, sym, ◌∙◌, ap, ap₂}
-use mathlib.Core.Bool.{Bool, true, false}
+use mathlib.Core.Bool.{true}
 use mathlib.Core.List.{List, [], ◌∷◌, ◌++◌, map, append_assoc, append-nil}
 use native.Mathlib.Omega.{arith}
-use native.Mathlib.Numerals.{add-one}
-use lib.Dec.{eqb}
 use lib.ListN.{length, get_or, set, take, drop, length-set, length-map}
 use lib.Seq.{take-suc, take-suc-set, take_all, length-take-le, get_or-take, get_or-drop}
-use borrow.Author.Tests.{eq-eqb, ne_eqb}
+use borrow.Author.Tests.{ne_eqb}
 use Rattle.rules.specs.Graph.{pin_of, inversion_of, literal_of}
 use Rattle.rules.specs.Records.{Group, output, flip_flop, memory, staged_pin, groups, size_of, group_at, whole_at, read, endpoints_of, groups_of}
 use Rattle.rules.specs.Records.{Ends}

@@ -1,11 +1,12 @@
 -- The slots that pins are read from: positions, words and stages from the last down. Assumes nothing.
-use Prim.Native.Nat.{ℕ, zero, suc, ◌+◌, ◌-◌, ◌*◌, ◌≤◌, ◌<◌}
+use Prim.Native.Nat.{ℕ, zero, suc, ◌+◌, ◌-◌, ◌*◌, ◌≤◌, ◌<◌, min}
 use mathlib.Core.Path.{◌≡◌, refl, sym, ◌∙◌, ap, ap₂}
 use mathlib.Core.Logic.{◌⊎◌, inl, inr, ⊎_elim}
 use mathlib.Core.List.{List, [], ◌∷◌, ◌++◌, append_assoc}
 use native.Mathlib.Omega.{arith}
 use native.Mathlib.Nat.{mul-suc}
-use lib.Dec.{eqb}
+use lib.Dec.{eqb, leb}
+use borrow.Author.Tests.{leb-true, leb-false}
 use lib.ListN.{length, get_or, set, take, drop, length-drop, length-set, length-map}
 use lib.Seq.{take_all, length-take-le, get_or-set_same, get_or-set_other, get_or-drop, drop-cons, drop-length, drop-drop, take-suc, take-nil, take_at, drop_at, take-length}
 use Rattle.rules.specs.Lists.{Found, nothing, found, sum}
@@ -16,7 +17,7 @@ use Rattle.rules.proofs.Lists.Members.{split, eqb_true, eqb_false}
 use Rattle.replay_form.specs.Plans.{in_words, written_at}
 use Rattle.replay_form.specs.Accepted.{Sized}
 use Rattle.replay_tape.specs.Clocks.{read_slot}
-use Rattle.replay_run.specs.Slots.{Least, slot_or, Slotted, WordRead, WordsRead, written_by, PlanAt, PlanRead}
+use Rattle.replay_run.specs.Slots.{slot_or, Slotted, WordRead, WordsRead, written_by, PlanAt, PlanRead}
 
 drop_past : (l : List ℕ) (n : ℕ) → length l ≤ n → drop n l ≡ []
 drop_past [] zero h = refl
@@ -42,20 +43,23 @@ pub record WordTo (cells slots : List ℕ) (at p : ℕ) (reads now : List ℕ) :
 
 module _ (cells slots reads : List ℕ) (at : ℕ) where
   -- none at the beginning
-  pub word_none : (p : ℕ) → Least (at + 32) (length cells) p → WordTo cells slots at p reads reads
+  pub word_none : (p : ℕ) → p ≡ min (length cells) (at + 32) → WordTo cells slots at p reads reads
   unfolding first_at slot_or
-  word_none p L = record {
-    high = L.first;
-    inside = L.second;
-    low = ⊎_elim (λ h. inl (omega arith)) (λ h. inr h) L.one;
+  word_none p e = record {
+    high = omega arith;
+    inside = omega arith;
+    low = ⊎_elim (λ h. inl (omega arith)) (λ h. inr h) one;
     slotted = record { len = refl; each = λ q h. rw none };
   }
     where
+      one : (at + 32 ≤ p) ⊎ (length cells ≤ p)
+      one = split (leb (at + 32) (length cells)) (λ t. let h = leb-true (at + 32) (length cells) t in inl (omega arith)) (λ t. let h = leb-false (at + 32) (length cells) t in inr (omega arith))
+
       none : take (at + 32 - p) (drop p (pins cells)) ≡ []
       none = ⊎_elim
           (λ h. let z : at + 32 - p ≡ 0 = omega arith in rw z)
           (λ h. rw (drop_past (pins cells) p (omega (arith, pins_many cells)), take-nil (at + 32 - p)))
-          L.one
+          one
 
   module _ (p : ℕ) (now : List ℕ) (R : WordTo cells slots at p reads now) (h : at < p) (n v : ℕ) (en : n ≡ get_or (pins cells) (p - 1) 0) (ev : v ≡ get_or slots (p - 1) 0) where
     front : take (at + 32 - (p - 1)) (drop (p - 1) (pins cells)) ≡ n ∷ take (at + 32 - p) (drop p (pins cells))

@@ -17,7 +17,7 @@ use Rattle.replay_form.specs.Tape.{slot_bit, run_tape}
 use Rattle.rules.specs.Lists.{laid_over}
 use Rattle.replay_tape.specs.Running.{entries_of, RunAt}
 use Rattle.replay_tape.specs.Clocks.{put_bits, PinsAt, ClockIn, ClockOut, bits_at, place_bit, handed, PlacesAt, pick, datas, FlipsAt, record_places, places_of, flips_from}
-use Rattle.replay_tape.proofs.Laws.Running.{literal_number, number_small, length_entries, length_ran, ran_small}
+use Rattle.replay_tape.proofs.Laws.Running.{literal_number, number_small, length_ran, ran_small}
 
 -- ---- bits to their pins
 

@@ -1,7 +1,7 @@
 -- A tape's bits, entry after entry. Assumes nothing.
 use Prim.Native.Nat.{ℕ, zero, suc, ◌+◌, ◌*◌, ◌/◌, ◌%◌, ◌≤◌, ◌<◌}
 use mathlib.Core.Path.{◌≡◌, refl, sym, ◌∙◌, ap, ap₂}
-use mathlib.Core.Bool.{Bool, true, false, not, ◌&&◌}
+use mathlib.Core.Bool.{Bool, true, false, ◌&&◌}
 use mathlib.Core.List.{List, [], ◌∷◌, ◌++◌}
 use native.Mathlib.Omega.{arith}
 use native.Mathlib.Numerals.{add-one}
@@ -10,7 +10,7 @@ use lib.ListN.{length, get_or, set, take, drop, length-set, length-append, take-
 use lib.Seq.{get_or-take, length-take-le, drop-cons, set_at, append_snoc, get_or-append_seam, get_or-set_other, get_or-set_same}
 use borrow.Author.Tests.{ltb-true, ltb-false}
 use Rattle.rules.specs.Lists.{laid_over}
-use Rattle.rules.specs.Graph.{Node, gate, pin_of, inversion_of, literal_bit}
+use Rattle.rules.specs.Graph.{gate, pin_of, inversion_of, literal_bit}
 use Rattle.rules.specs.Fold.{as_number}
 use Rattle.rules.proofs.Lists.Members.{split, eqb_true, eqb_false}
 use Rattle.replay_form.specs.Clocks.{is_one}

@@ -21,7 +21,7 @@ use Rattle.checks.proofs.Laws.Passed.{Next, read_next, read_last, rest_below}
 use Rattle.placer_start.specs.declared.reservation.Added.{Added}
 use Rattle.placer_start.specs.declared.reservation.Added.TheVariants.{Memory, Code}
 use Rattle.placer_start.specs.Reservation.{AddsGroup, codes_of, memories_of}
-use Rattle.reservation_count.specs.Chains.{code_of, added_at, code_at, newest, Chain, none, link, heads_with, links_with, LinkAt, Linked, ChainsAt, Chains, Chained}
+use Rattle.reservation_count.specs.Chains.{code_of, added_at, code_at, newest, Chain, none, link, heads_with, links_with, LinkAt, Linked, ChainsAt, Chained}
 use Rattle.reservation_count.proofs.Laws.Lists.{newest_same, newest_other}
 
 -- ---- a record's activation
@@ -171,7 +171,7 @@ module _ (records heads links : List ℕ) (A : ChainsAt records heads links) whe
     }
 
     -- a whole record stands there
-    pub chaining_stands : Stands records at
+    chaining_stands : Stands records at
     chaining_stands = standing records at next.whole
 
     abbrev g : Group

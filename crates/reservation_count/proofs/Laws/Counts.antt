@@ -1,14 +1,12 @@
 -- Counting all records. Assumes nothing.
-use Prim.Native.Nat.{ℕ, ◌+◌, ◌≤◌, ◌<◌}
-use mathlib.Core.Path.{◌≡◌, refl, sym, ◌∙◌, ap}
+use Prim.Native.Nat.{ℕ}
+use mathlib.Core.Path.{◌≡◌, ◌∙◌, ap}
 use mathlib.Core.List.{List}
 use native.Mathlib.Omega.{arith}
 use lib.Dec.{ltb}
 use lib.ListN.{length, get_or, replicate, length-replicate, get_or-replicate, get_or-eq_default}
 use borrow.Author.Tests.{ltb-true, ltb-false}
-use Rattle.rules.specs.Records.{groups_of}
 use Rattle.rules.proofs.Lists.Members.{split}
-use Rattle.placer_start.specs.declared.reservation.Count.{Count}
 use Rattle.reservation_count.specs.Chains.{ChainsAt, Chained}
 use Rattle.reservation_count.specs.Walks.{SumAt, Summed}
 use Rattle.reservation_count.specs.Counts.{CountAt, Counted}

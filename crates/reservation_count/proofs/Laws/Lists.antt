@@ -1,12 +1,12 @@
 -- The distinct codes of a pin: in whatever order they are met, and by residue. Assumes nothing.
-use Prim.Native.Nat.{ℕ, ◌+◌, ◌%◌, ◌≤◌, ◌<◌}
-use mathlib.Core.Path.{◌≡◌, refl, sym, ◌∙◌, ap}
+use Prim.Native.Nat.{ℕ, ◌+◌, ◌%◌, ◌≤◌}
+use mathlib.Core.Path.{◌≡◌, refl, sym, ◌∙◌}
 use mathlib.Core.Bool.{Bool, true, false}
 use mathlib.Core.List.{List, [], ◌∷◌, ◌++◌, append-nil}
 use native.Mathlib.Omega.{arith}
 use lib.Dec.{eqb}
 use lib.ListN.{length}
-use Rattle.rules.specs.Lists.{mem, keep, insert, insert_all, distinct, In, Out, Once, nobody}
+use Rattle.rules.specs.Lists.{mem, keep, insert, insert_all, distinct, Once, nobody}
 use Rattle.rules.specs.Reservation.{Activation, codes_at}
 use Rattle.rules.proofs.Lists.Members.{split, true_false, eqb_true, eqb_false, eqb_same, in_here, in_append_right, in_keep, keep_in, keep_append, in_distinct, distinct_in}
 use Rattle.rules.proofs.Written.Words.{once_insert, once_insert_all}

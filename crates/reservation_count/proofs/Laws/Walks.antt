@@ -1,20 +1,21 @@
 -- Chains, walked with stamps. Assumes nothing.
-use Prim.Native.Nat.{ℕ, suc, pred, ◌+◌, ◌-◌, ◌*◌, ◌/◌, ◌%◌, ◌≤◌, ◌<◌}
+use Prim.Native.Nat.{ℕ, zero, suc, pred, ◌+◌, ◌-◌, ◌*◌, ◌/◌, ◌%◌, ◌≤◌, ◌<◌}
 use mathlib.Core.Path.{◌≡◌, refl, sym, ◌∙◌, ap}
 use mathlib.Core.Bool.{Bool, true, false, not}
-use mathlib.Core.List.{List, [], ◌∷◌, ◌++◌}
+use mathlib.Core.List.{List, [], ◌∷◌}
 use native.Mathlib.Omega.{arith}
+use native.Mathlib.Numerals.{add-one}
 use lib.Dec.{eqb}
+use mir.Val.{bool_byte}
 use lib.ListN.{length, get_or, set, drop, length-set, length-append}
 use lib.Seq.{get_or-set_same, get_or-set_other}
 use borrow.Author.Tests.{eq-eqb, ne_eqb}
 use Rattle.rules.specs.Lists.{mem, keep, insert, insert_all, distinct}
 use Rattle.rules.specs.Fold.{as_number}
 use Rattle.rules.specs.Records.{groups_of, whole_at}
-use Rattle.rules.specs.Reservation.{activations, duplicates, codes_at}
-use Rattle.rules.proofs.Lists.Members.{split, true_false, eqb_true, eqb_false, eqb_same, in_insert, mem_other}
-use Rattle.rules.specs.Inside.Some.{Some, Every}
-use Rattle.records.proofs.Reading.{Stands, standing}
+use Rattle.rules.specs.Reservation.{activations}
+use Rattle.rules.proofs.Lists.Members.{split, eqb_true, eqb_false, eqb_same, in_insert, mem_other}
+use Rattle.records.proofs.Reading.{standing}
 use Rattle.placer_start.specs.Reservation.{WholeAt}
 use Rattle.reservation_count.specs.Chains.{code_at, newest, Chain, none, link}
 use Rattle.reservation_count.specs.Walks.{residue, StampAt, Stamped, WalkAt, Walked, AllAt, AllWalked, SumAt, Summed}
@@ -24,16 +25,12 @@ use Rattle.reservation_count.proofs.Laws.Sums.{total, extra, duplicates_total}
 
 -- ---- a stamp
 
-module _ (l : List ℕ) (k id : ℕ) where
-  -- it stood there
-  pub stamped_old : get_or l k 0 ≡ id → Stamped l k id (set l k id) 0
-  unfolding as_number
-  stamped_old e = record { is = refl; new = rw (eq-eqb (get_or l k 0) id e); few = omega arith }
-
-  -- it did not
-  pub stamped_new : (get_or l k 0 ≡ id → ⊥) → Stamped l k id (set l k id) 1
-  unfolding as_number
-  stamped_new e = record { is = refl; new = rw (ne_eqb (get_or l k 0) id e); few = omega arith }
+-- it is new unless it stood there
+pub stamped : (l : List ℕ) (k id r : ℕ) → r ≡ bool_byte (not (eqb (get_or l k 0) id)) → Stamped l k id (set l k id) r
+unfolding as_number
+stamped l k id r e = split (eqb (get_or l k 0) id)
+    (λ t. let z : r ≡ 0 = rw t at e in record { is = refl; new = rw t z; few = omega arith })
+    (λ t. let z : r ≡ 1 = rw t at e in record { is = refl; new = rw t z; few = omega arith })
 
 -- ---- one chain and residue
 
@@ -203,50 +200,48 @@ module _ (records links l : List ℕ) (head r id : ℕ) (cs : List ℕ) (A : Wal
 
 -- ---- the four residues
 
--- what a walk says
-abbrev pub Walks : (records links l : List ℕ) → (head r id : ℕ) → List ℕ → ℕ → Type 0
-Walks records links l head r id l' n = Every (λ cs. WalkAt records links l head id cs) (λ cs. Walked head r id cs l l' n)
+-- the distinct codes of the first r
+unfoldable pub by_residue : ℕ → List ℕ → ℕ
+by_residue zero cs = 0
+by_residue (suc r) cs = by_residue r cs + length (distinct (keep (residue r) cs))
+
+-- the first r are walked
+pub record Residues (l : List ℕ) (head base : ℕ) (cs : List ℕ) (r n : ℕ) (now : List ℕ) : Type 0 where
+  pub len : length now ≡ length l
+  pub upto : r ≤ 4
+  pub below : (k : ℕ) → get_or now k 0 ≤ base + r
+  pub few : n ≤ r * head
+  pub is : n ≡ by_residue r cs
 
 module _ (records links l : List ℕ) (head base : ℕ) (cs : List ℕ) (A : AllAt records links l head base cs) where
-  -- before the next residue every stamp is smaller
-  next : (l' : List ℕ) (id : ℕ) → length l' ≡ length l → ((k : ℕ) → get_or l' k 0 < id) → WalkAt records links l' head id cs
-  next l' id e b = record { short = A.short; room = A.room; chain = rw e A.chain; inside = A.inside; fresh = b }
+  -- none at the beginning
+  pub residues_none : Residues l head base cs 0 0 l
+  unfolding by_residue
+  residues_none = record { len = refl; upto = omega arith; below = λ k. omega (arith, A.fresh k); few = omega arith; is = refl }
 
-  -- after the last the residues are all codes
-  all_walked : (l₁ l₂ l₃ l₄ : List ℕ) (a b c d : ℕ) → Walked head 0 (base + 1) cs l l₁ a → Walked head 1 (base + 2) cs l₁ l₂ b → Walked head 2 (base + 3) cs l₂ l₃ c → Walked head 3 (base + 4) cs l₃ l₄ d →
-      AllWalked head base cs l l₄ (a + b + c + d)
-  all_walked l₁ l₂ l₃ l₄ a b c d P Q R S =
-      let e : a + b + c + d ≡ length (distinct cs) = omega (arith, distinct_four cs, P.is, Q.is, R.is, S.is) in
-      record {
-        len = S.len ∙ R.len ∙ Q.len ∙ P.len;
-        below = S.below;
-        few = omega (arith, distinct_few cs, chain_few A.chain);
-        is = e;
-      }
+  module _ (r n : ℕ) (now : List ℕ) (R : Residues l head base cs r n now) where
+    -- for the next one every stamp is smaller
+    pub residue_at : r < 4 → (id : ℕ) → id ≡ base + 1 + r → WalkAt records links now head id cs
+    residue_at h id e = record { short = A.short; room = A.room; chain = rw R.len A.chain; inside = A.inside; fresh = λ k. omega (arith, R.below k) }
 
-  pub all_first : WalkAt records links l head (base + 1) cs
-  all_first = next l (base + 1) refl (λ k. omega (arith, A.fresh k))
+    -- one more
+    pub residues_more : r < 4 → (id : ℕ) → id ≡ base + 1 + r → (now' : List ℕ) (m : ℕ) → Walked head r id cs now now' m → Residues l head base cs (r + 1) (n + m) now'
+    unfolding by_residue
+    residues_more h id e now' m W = record {
+      len = W.len ∙ R.len;
+      upto = omega arith;
+      below = λ k. omega (arith, W.below k);
+      few = omega (arith, R.few, W.few);
+      is = rw (add-one r, by_residue) (omega (arith, R.is, W.is));
+    }
 
-  module _ (l₁ : List ℕ) (a : ℕ) (P : Walks records links l head 0 (base + 1) l₁ a) where
-    pub all_second : WalkAt records links l₁ head (base + 2) cs
-    all_second = let W = P.all cs all_first in next l₁ (base + 2) W.len (λ k. omega (arith, W.below k))
-
-    module _ (l₂ : List ℕ) (b : ℕ) (Q : Walks records links l₁ head 1 (base + 2) l₂ b) where
-      pub all_third : WalkAt records links l₂ head (base + 3) cs
-      all_third = let W = P.all cs all_first in let X = Q.all cs all_second in next l₂ (base + 3) (X.len ∙ W.len) (λ k. omega (arith, X.below k))
-
-      module _ (l₃ : List ℕ) (c : ℕ) (R : Walks records links l₂ head 2 (base + 3) l₃ c) where
-        pub all_fourth : WalkAt records links l₃ head (base + 4) cs
-        all_fourth = let W = P.all cs all_first in let X = Q.all cs all_second in let Y = R.all cs all_third in next l₃ (base + 4) (Y.len ∙ X.len ∙ W.len) (λ k. omega (arith, Y.below k))
-
-        module _ (l₄ : List ℕ) (d : ℕ) (S : Walks records links l₃ head 3 (base + 4) l₄ d) where
-          -- the counts are small
-          pub all_few : a + b + c + d ≤ 262144
-          all_few = omega (arith, (P.all cs all_first).few, (Q.all cs all_second).few, (R.all cs all_third).few, (S.all cs all_fourth).few, A.inside, A.short)
-
-          -- all are walked
-          pub all_done : AllWalked head base cs l l₄ (a + b + c + d)
-          all_done = all_walked l₁ l₂ l₃ l₄ a b c d (P.all cs all_first) (Q.all cs all_second) (R.all cs all_third) (S.all cs all_fourth)
+    -- the four are all codes
+    pub residues_done : 4 ≤ r → AllWalked head base cs l now n
+    unfolding by_residue
+    residues_done h =
+        let z : r ≡ 4 = omega (arith, R.upto) in
+        let e = rw z at R.is in
+        record { len = R.len; below = λ k. omega (arith, R.below k); few = omega (arith, e, distinct_four cs, distinct_few cs, chain_few A.chain); is = omega (arith, e, distinct_four cs) }
 
 -- ---- all pins
 

@@ -1,6 +1,6 @@
 -- The filled cells of an accepted build are what its kept pins cost, stage by stage; the lent plan has so many. Assumes nothing.
-use Prim.Native.Nat.{ℕ, zero, suc, ◌+◌, ◌-◌, ◌≤◌}
-use mathlib.Core.Path.{◌≡◌, refl, ◌∙◌}
+use Prim.Native.Nat.{ℕ, zero, suc, ◌-◌, ◌≤◌}
+use mathlib.Core.Path.{◌≡◌, refl}
 use mathlib.Core.List.{List, [], ◌∷◌, ◌++◌, map}
 use native.Mathlib.Omega.{arith}
 use lib.ListN.{length, replicate}
@@ -9,12 +9,12 @@ use Rattle.rules.specs.Cells.{empty, filled, word_limit}
 use Rattle.rules.specs.Graph.{Node}
 use Rattle.rules.specs.Records.{Group, waiting_of}
 use Rattle.rules.specs.Reservation.{reserved, reservable}
-use Rattle.rules.specs.Traversal.{WordRule, Setting, setting}
+use Rattle.rules.specs.Traversal.{WordRule, setting}
 use Rattle.rules.specs.Ending.{one_stage, stage}
 use Rattle.rules.specs.Build.{Stage, refusal, whole, stages, build, cells_of, reply}
 use Rattle.rules.specs.Cost.{Placings, Costs, none, more}
 use Rattle.rules.specs.Inside.Lean.{blank}
-use Rattle.rules.specs.Inside.Walks.{Graph, Ready, Work}
+use Rattle.rules.specs.Inside.Walks.{Graph, Ready}
 use Rattle.rules.proofs.Lists.Members.{split, count-append}
 use Rattle.rules.proofs.Needed.Needs.{setting_sound}
 use Rattle.rules.proofs.Stage.Staged.{the_end}

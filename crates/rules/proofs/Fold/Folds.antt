@@ -18,7 +18,7 @@ use Rattle.rules.proofs.Cells.Positions.{position_placed}
 use Rattle.rules.proofs.Lists.Members.{split, eqb_true, eqb_false, eqb_same, in_here, in_there}
 use Rattle.rules.proofs.Walk.Reverse.{out_sub, in_below}
 use Rattle.rules.specs.Inside.Walks.{Sound, Graph, Marked}
-use Rattle.rules.proofs.Tree.Loads.{Fine, rows}
+use Rattle.rules.proofs.Tree.Loads.{Fine}
 use Rattle.rules.proofs.Stage.Puts.{cell}
 use Rattle.rules.proofs.Stage.Staged.{two_step}
 use Rattle.rules.specs.Inside.Plans.{Step, copies, splits, Sane}

@@ -1,6 +1,6 @@
 -- Membership in lists of numbers. Assumes nothing.
 use Prim.Native.Nat.{ℕ, zero, suc, ◌+◌, ◌<◌}
-use mathlib.Core.Path.{◌≡◌, refl, sym, subst}
+use mathlib.Core.Path.{◌≡◌, refl, sym, subst, ◌∙◌}
 use mathlib.Core.Logic.{◌⊎◌, inl, inr, ◌≢◌}
 use mathlib.Core.Bool.{Bool, true, false, ◌&&◌, ◌||◌}
 use mathlib.Core.List.{List, [], ◌∷◌, ◌++◌, map, reverse, reverse_aux}
@@ -309,3 +309,22 @@ every_in f q [] e i = in_nil q i
 every_in f q (x ∷ xs) e i = split (f x)
     (λ t. elim (in_cons q x xs i) [ inl d ↦ rw d t | inr d ↦ every_in f q xs (rw (t, every) at e) d ])
     (λ t. true_false e (rw (t, every)))
+
+-- where all entries pass, so does each by its place
+pub every_at : (f : ℕ → Bool) (xs : List ℕ) → every f xs ≡ true → (k : ℕ) → k < length xs → f (get_or xs k 0) ≡ true
+unfolding every
+every_at f [] e k h = absurd (omega arith)
+every_at f (x ∷ xs) e zero h = split (f x) (λ t. t) (λ t. true_false e (rw (t, every)))
+every_at f (x ∷ xs) e (suc k) h = split (f x) (λ t. every_at f xs (rw (t, every) at e) k (omega arith)) (λ t. true_false e (rw (t, every)))
+
+-- and where each passes by its place, all do
+pub at_every : (f : ℕ → Bool) (xs : List ℕ) → ((k : ℕ) → k < length xs → f (get_or xs k 0) ≡ true) → every f xs ≡ true
+unfolding every
+at_every f [] h = refl
+at_every f (x ∷ xs) h = rw (h 0 (omega arith), every) (at_every f xs (λ k l. h (suc k) (omega arith)))
+
+-- what says whether each entry passes says whether all do
+pub every_told : (f : ℕ → Bool) (xs : List ℕ) (b : Bool) → (b ≡ true → (k : ℕ) → k < length xs → f (get_or xs k 0) ≡ true)
+    → (((k : ℕ) → k < length xs → f (get_or xs k 0) ≡ true) → b ≡ true) → b ≡ every f xs
+every_told f xs true to from = sym (at_every f xs (to refl))
+every_told f xs false to from = split (every f xs) (λ t. from (every_at f xs t) ∙ sym t) (λ t. sym t)

@@ -10,7 +10,6 @@ use Rattle.rules.specs.Lists.{mem, gather, In, Out, Sub}
 use Rattle.rules.specs.Graph.{Node, below}
 use Rattle.rules.specs.Traversal.{WordRule, traverse, Setting, setting, level_at, reverse_levels}
 use Rattle.rules.specs.Placing.{asked, asks, needed, tree_of, reverse_of, needed_of}
-use Rattle.rules.specs.Depth.{depth}
 use Rattle.rules.proofs.Lists.Members.{split, T→true, in_cons, in_nil, in_append_right, in_distinct, in_gather, in_reverse, reverse_in, keep_in, gather_in, distinct_in, eqb_true, and_true}
 use Rattle.rules.specs.Loops.{From, start, step}
 use Rattle.rules.specs.Inside.Walks.{Ranked, Visited, Sound, Graph}

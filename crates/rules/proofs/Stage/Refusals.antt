@@ -13,7 +13,7 @@ use Rattle.rules.specs.Records.{Group, waiting_of}
 use Rattle.rules.specs.Reservation.{memories, duplicates, reserved, reservable}
 use Rattle.rules.specs.Traversal.{WordRule, setting}
 use Rattle.rules.specs.Placing.{filled_plan}
-use Rattle.rules.specs.Ending.{refused, stage, one_stage}
+use Rattle.rules.specs.Ending.{refused, one_stage}
 use Rattle.rules.specs.Build.{Stage, refusal, whole, more, before, stages, build, words_of}
 use Rattle.rules.specs.States.{state, after_from, after, first_from, first_stages, SoFar}
 use Rattle.rules.specs.Capacity.{ReservationOver, no_word_left, over_limit}

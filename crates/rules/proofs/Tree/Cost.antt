@@ -1,8 +1,8 @@
 -- What placing and taking back report, and the plan of a stage as its kept pins cost it. Assumes nothing.
 use Prim.Native.Nat.{ℕ, zero, suc, ◌+◌, ◌*◌, ◌^◌, ◌≤◌, ◌<◌}
-use mathlib.Core.Path.{◌≡◌, refl, sym, ◌∙◌, ap}
+use mathlib.Core.Path.{◌≡◌, refl, ◌∙◌, ap}
 use mathlib.Core.Bool.{true, false}
-use mathlib.Core.List.{List, [], ◌∷◌}
+use mathlib.Core.List.{List}
 use native.Mathlib.Omega.{arith}
 use native.Mathlib.Nat.{pow-succ'}
 use lib.Dec.{ltb}
@@ -28,7 +28,7 @@ use Rattle.rules.proofs.Tree.Held.{node}
 use Rattle.rules.proofs.Tree.Invariant.{final_at}
 use Rattle.rules.proofs.Tree.Fair.{apart, bare, listed_filled, fair_first, fair_kept}
 use Rattle.rules.proofs.Tree.Back.{back_bare, taken_back}
-use Rattle.rules.proofs.Tree.Tally.{bit, count_set}
+use Rattle.rules.proofs.Tree.Tally.{count_set}
 
 -- ---- one cell
 

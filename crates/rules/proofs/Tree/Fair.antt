@@ -24,7 +24,7 @@ use Rattle.rules.proofs.Tree.Held.{tree_in, in_tree, node}
 use Rattle.rules.proofs.Stage.Flat.{blank_replicate}
 use Rattle.rules.proofs.Stage.Staged.{two_step, small_filled}
 use Rattle.rules.proofs.Fold.Whole.{zero_kept}
-use Rattle.rules.specs.Inside.Plans.{Placeable, Sane, Tall, Under, TidyAt, Tidy, Fair}
+use Rattle.rules.specs.Inside.Plans.{Placeable, Under, TidyAt, Tidy, Fair}
 use Rattle.rules.proofs.Tree.Loads.{wide, rows, first, second}
 use Rattle.rules.proofs.Tree.Sane.{frame, head, sane_kept, sane_first}
 use Rattle.rules.proofs.Tree.Cone.{tall_kept, cone}

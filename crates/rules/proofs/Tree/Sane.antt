@@ -11,10 +11,10 @@ use lib.ListN.{length, get_or, set, replicate, length-set}
 use lib.Seq.{get_or-set_same, get_or-set_other}
 use borrow.Author.Tests.{ltb-true, ltb-false}
 use Rattle.rules.specs.Cells.{filled, empty, row_at}
-use Rattle.rules.specs.Graph.{leaf, gate, pin_of}
+use Rattle.rules.specs.Graph.{leaf, pin_of}
 use Rattle.rules.specs.Traversal.{Setting, level_at}
 use Rattle.rules.specs.Placing.{place}
-use Rattle.rules.specs.Lists.{In, Out}
+use Rattle.rules.specs.Lists.{In}
 use Rattle.rules.proofs.Lists.Members.{split, true_false, eqb_true, eqb_false}
 use Rattle.rules.specs.Inside.Walks.{Sound, Marked}
 use Rattle.rules.specs.Inside.Plans.{Placeable, Step, copies, splits, Sane}

@@ -1,6 +1,6 @@
 -- Rule 1: the traversal lists each pin once, after the pins it follows, and only pins that are reached. Assumes nothing.
 use Prim.Native.Nat.{ℕ, zero, suc, ◌<◌}
-use mathlib.Core.Logic.{◌⊎◌, inl, inr}
+use mathlib.Core.Logic.{inl, inr}
 use mathlib.Core.List.{List, [], ◌∷◌}
 use native.Mathlib.Omega.{arith}
 use Rattle.rules.specs.Inside.Walks.{Topo, none, more, Ranked, Visited}

@@ -6,6 +6,7 @@ use native.Mathlib.Omega.{arith}
 use lib.ListN.{length, take, drop}
 use lib.Seq.{take_at}
 use borrow.Author.Tests.{le-leb}
+use Rattle.std.specs.Prelude.{Result}
 use Rattle.rules.specs.Lists.{padded, laid_over}
 use Rattle.rules.specs.Cells.{empty, word_limit, rooms}
 use Rattle.rules.specs.Graph.{graph_of}
@@ -13,14 +14,17 @@ use Rattle.rules.specs.Checks.{work_size}
 use Rattle.rules.specs.Build as build
 use Rattle.rules.proofs.Build.Lengths.{length_padded}
 use Rattle.rules.proofs.Build.Coding.{words_coded, counts_coded}
-use Rattle.placer.specs.Answers.{told}
-use Rattle.theorems.proofs.Calls.{Call, rooms_of, Told, answered, Whole, whole}
+use Rattle.theorems.proofs.Calls.{Call, reply, rooms_of, Told, answered, Whole, whole}
 use Rattle.sheet_form.specs.Forms.{sheet_one, sheet_two}
 use Rattle.sheet_form.specs.Sheets.{sheet_bytes, sheet}
 use Rattle.sheet_form.specs.Lifting.{read_either}
 use Rattle.sheet_form.specs.Calls.{Areas, areas, Written, written, into, writer, Loaded, loaded, reader}
 use Rattle.sheet_form.proofs.Calls.{counts_length, three, four, few_stages, few_words, built_short, writer_built, reader_sheet, built_read, old_read}
-use Rattle.sheet_read.specs.declared.Answer.{Answer}
+use Rattle.refusals.specs.declared.Refusal.{Refusal}
+use Rattle.sheet_read.specs.declared.walk.Contents.{Contents}
+use Rattle.sheet_read.specs.Walk as reading
+use Rattle.sheet_write.specs.Fits.{wrote}
+use Rattle.sheet.proofs.Laws.Calls.{bytes_are}
 
 -- the bytes that hold any sheet of a build: 4, a byte a word that may be written, and 20 * 2^(K-2) a stage
 abbrev pub bytes_enough : (K stages : ℕ) → ℕ
@@ -29,17 +33,16 @@ bytes_enough K stages = 4 + 2 ^ (K - 5) + stages * (20 * 2 ^ (K - 2))
 -- a call of `write` over the areas that a build left, by its contract
 pub record WriteCall (C : Call) : Type 0 where
   pub entry : List ℕ
-  pub number : ℕ
-  pub size : ℕ
+  pub answer : Result ℕ Refusal
   pub exit : List ℕ
-  pub ensures : written number size exit ≡ writer sheet_two C.height C.answer.stages (areas C.exit.plan C.exit.words C.exit.counts) entry
+  pub ensures : wrote answer exit ≡ writer sheet_two C.height (reply C).stages (areas C.exit.plan C.exit.words C.exit.counts) entry
 
 -- a call of `read` over some bytes with some graph, by its contract
 pub record ReadCall (bytes gates : List ℕ) : Type 0 where
   pub entry : Areas
-  pub answer : Answer
+  pub answer : Result Contents Refusal
   pub exit : Areas
-  pub ensures : loaded answer.number answer.height answer.stages answer.words exit ≡ reader gates bytes entry
+  pub ensures : reading.told answer exit ≡ reader gates bytes entry
 
 -- its areas are lent as a build's are: as many rooms, a count each, W words
 pub record Alike (C : Call) (a : Areas) : Type 0 where
@@ -50,10 +53,10 @@ pub record Alike (C : Call) (a : Areas) : Type 0 where
 -- it answers 0 with the build's height, stages and words, and leaves the plan, the first W words and a count a room as the build did; numbers behind
 -- these stay
 pub record Same (C : Call) {bytes gates : List ℕ} (R : ReadCall bytes gates) : Type 0 where
-  pub number : R.answer.number ≡ 0
-  pub height : R.answer.height ≡ C.height
-  pub stages : R.answer.stages ≡ C.answer.stages
-  pub words : R.answer.words ≡ C.answer.words
+  pub number : (reading.reply R.answer).number ≡ 0
+  pub height : (reading.reply R.answer).height ≡ C.height
+  pub stages : (reading.reply R.answer).stages ≡ (reply C).stages
+  pub words : (reading.reply R.answer).words ≡ (reply C).words
   pub plan_area : R.exit.plan ≡ C.exit.plan
   pub words_area : R.exit.words ≡ laid_over (take (word_limit C.height) C.exit.words) R.entry.words
   pub counts_area : R.exit.counts ≡ laid_over (take (rooms_of C) C.exit.counts) R.entry.counts
@@ -65,7 +68,7 @@ front xs ys p q = rw q (take_at xs (drop (length xs) ys) _ p)
 same_areas : {p q w v c d : List ℕ} → p ≡ q → w ≡ v → c ≡ d → areas p w c ≡ areas q v d
 same_areas x y z = cc
 
-module _ (C : Call) (z : C.answer.number ≡ 0) where
+module _ (C : Call) (z : (reply C).number ≡ 0) where
   abbrev P : Whole C
   P = whole C z
 
@@ -98,12 +101,12 @@ module _ (C : Call) (z : C.answer.number ≡ 0) where
   unfolding build.areas_after build.stages_of
   left = rw (words_same, counts_same) (same_areas t.plan t.words t.counts)
 
-  stages_are : C.answer.stages ≡ length ss
-  unfolding told build.reply
+  stages_are : (reply C).stages ≡ length ss
+  unfolding build.reply
   stages_are = ap (λ (r : build.Reply). r.stages) t.reply
 
-  words_are : C.answer.words ≡ length (build.words_of ss)
-  unfolding told build.reply
+  words_are : (reply C).words ≡ length (build.words_of ss)
+  unfolding build.reply
   words_are = ap (λ (r : build.Reply). r.words) t.reply
 
   words_few : length (build.words_of ss) ≤ word_limit C.height
@@ -113,7 +116,7 @@ module _ (C : Call) (z : C.answer.number ≡ 0) where
   stages_few = omega (arith, counts_length ss, few_stages C.rule C.height C.gates C.given C.records C.entry P.passes ss e)
 
   -- it is written whole
-  sheet_written_lem : (W : WriteCall C) → bytes_enough C.height C.answer.stages ≤ length W.entry → written W.number W.size W.exit ≡ written 0 (length bs) (laid_over bs W.entry)
+  sheet_written_lem : (W : WriteCall C) → bytes_enough C.height (reply C).stages ≤ length W.entry → wrote W.answer W.exit ≡ written 0 (length bs) (laid_over bs W.entry)
   unfolding into
   sheet_written_lem W h =
       let short : length bs ≤ length W.entry = omega (arith, rw stages_are at h, built_short C.rule C.height C.gates C.given C.records C.entry P.passes ss e) in
@@ -125,7 +128,7 @@ module _ (C : Call) (z : C.answer.number ≡ 0) where
 
   -- bytes that are read as what the build left
   module _ {bytes gates : List ℕ} (is : read_either gates bytes ≡ sheet (record { height = C.height; stages = cs })) (R : ReadCall bytes gates) (A : Alike C R.entry) where
-    sheet_read_lem : loaded R.answer.number R.answer.height R.answer.stages R.answer.words R.exit
+    sheet_read_lem : reading.told R.answer R.exit
         ≡ loaded 0 C.height (length ss) (length (build.words_of ss)) (three (build.areas_after C.height need cs (four R.entry)))
     sheet_read_lem = R.ensures ∙ reader_sheet C.rule C.height C.gates C.given C.records C.entry P.passes ss e gates bytes is R.entry A.plan A.words A.counts
 
@@ -149,10 +152,11 @@ module _ (C : Call) (z : C.answer.number ≡ 0) where
 
   -- Build, write, read, the same areas: with so many bytes `write` answers 0, and so does `read` of the bytes that it wrote, with any graph or none, in areas
   -- lent as a build's are, with the height, stages and words of the build, and leaves what the build left.
-  pub build_write_read : (W : WriteCall C) → bytes_enough C.height C.answer.stages ≤ length W.entry → (W.number ≡ 0) × ((gates : List ℕ) (R : ReadCall (take W.size W.exit) gates) → Alike C R.entry → Same C R)
+  pub build_write_read : (W : WriteCall C) → bytes_enough C.height (reply C).stages ≤ length W.entry →
+      ((wrote W.answer W.exit).number ≡ 0) × ((gates : List ℕ) (R : ReadCall (take (wrote W.answer W.exit).length W.exit) gates) → Alike C R.entry → Same C R)
   build_write_read W h =
       let w = sheet_written_lem W h in
-      let f : take W.size W.exit ≡ bs = front bs W.entry (sym (ap (λ (x : Written). x.length) w)) (ap (λ (x : Written). x.bytes) w) in (
+      let f : take (wrote W.answer W.exit).length W.exit ≡ bs = front bs W.entry (sym (ap (λ (x : Written). x.length) w)) (sym (bytes_are W.answer W.exit) ∙ ap (λ (x : Written). x.bytes) w) in (
         ap (λ (x : Written). x.number) w,
         (λ gates R A. same_read (rw f (built_read C.rule C.height C.gates C.given C.records C.entry P.passes ss e gates)) R A),
       )

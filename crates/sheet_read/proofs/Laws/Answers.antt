@@ -1,6 +1,6 @@
 -- The answer of reading. Assumes nothing.
-use mathlib.Core.Path.{◌≡◌, refl, sym, ap, ◌∙◌}
-use mathlib.Core.Bool.{Bool, true, false, ◌&&◌}
+use mathlib.Core.Path.{◌≡◌, refl, sym, ◌∙◌}
+use mathlib.Core.Bool.{true, false, ◌&&◌}
 use mathlib.Core.List.{List, [], ◌∷◌}
 use Prim.Native.Nat.{ℕ, ◌<◌}
 use native.Mathlib.Omega.{arith}
@@ -8,17 +8,15 @@ use lib.Dec.{ltb, eqb}
 use lib.ListN.{length, get_or}
 use borrow.Author.Tests.{lt-ltb, le-ltb, eq-eqb, ne_eqb, eqb-true, eqb-false}
 use Rattle.rules.proofs.Lists.Members.{split}
-use Rattle.sheet_form.specs.Sheets.{sheet, read_sheet}
+use Rattle.sheet_form.specs.Sheets.{refused, read_sheet}
 use Rattle.sheet_form.specs.Lifting.{read_either}
-use Rattle.sheet_form.specs.Calls.{Areas, areas, loaded, unread, roomy, areas_with, from, reader}
+use Rattle.sheet_form.specs.Calls.{Areas, areas, loaded, unread, roomy, from, reader}
 use Rattle.sheet_form.proofs.Calls.{counts_length}
-use Rattle.sheet_read.specs.declared.Answer.{Answer}
-use Rattle.sheet_read.specs.Walk.{known_number, sheet_with, Known, JudgedAs}
+use Rattle.sheet_form.specs.Kinds.{number_for}
+use Rattle.sheet_form.specs.declared.SheetKind.{SheetKind}
+use Rattle.sheet_form.specs.declared.SheetKind.TheVariants.{Pins, Cells}
+use Rattle.sheet_read.specs.Walk.{known_number, sheet_with, Known}
 use Rattle.sheet_read.specs.Areas.{room_for, Filled}
-
--- an answer that refuses
-pub refuses : {a : Answer} {n : ℕ} → (a.number ≡ n) × (a.height ≡ 0) × (a.stages ≡ 0) × (a.words ≡ 0) → (b : Areas) → loaded a.number a.height a.stages a.words b ≡ loaded n 0 0 0 b
-refuses e b = rw (e.0, e.1, e.2, e.3)
 
 -- no byte at all
 pub none_read : (gates xs : List ℕ) → length xs ≡ 0 → (b : Areas) → loaded 15 0 0 0 b ≡ reader gates xs b
@@ -28,61 +26,64 @@ none_read gates (x ∷ xs) h b = absurd (omega arith)
 
 module _ (b n : ℕ) where
   -- sheet 2
-  pub known_two : b ≡ 2 → 2 ≡ known_number b n
+  pub known_two : b ≡ 2 → known_number b n ≡ 2
   unfolding known_number
-  known_two e = sym (rw (eq-eqb b 2 e, known_number))
+  known_two e = rw (eq-eqb b 2 e, known_number)
 
   module _ (h : b ≡ 2 → ⊥) where
     -- neither
-    pub known_other : (b ≡ 1 → ⊥) → 0 ≡ known_number b n
+    pub known_other : (b ≡ 1 → ⊥) → known_number b n ≡ 0
     unfolding known_number
-    known_other k = sym (rw (ne_eqb b 2 h, ne_eqb b 1 k, known_number))
+    known_other k = rw (ne_eqb b 2 h, ne_eqb b 1 k, known_number)
 
     -- sheet 1 without a graph
-    pub known_none : b ≡ 1 → n ≡ 0 → 0 ≡ known_number b n
+    pub known_none : b ≡ 1 → n ≡ 0 → known_number b n ≡ 0
     unfolding known_number
-    known_none e z = sym (rw (ne_eqb b 2 h, eq-eqb b 1 e, le-ltb 0 n (omega arith), known_number))
+    known_none e z = rw (ne_eqb b 2 h, eq-eqb b 1 e, le-ltb 0 n (omega arith), known_number)
 
     -- and with one
-    pub known_one : b ≡ 1 → (n ≡ 0 → ⊥) → 1 ≡ known_number b n
+    pub known_one : b ≡ 1 → (n ≡ 0 → ⊥) → known_number b n ≡ 1
     unfolding known_number
-    known_one e z = let p : 0 < n = split (eqb n 0) (λ t. absurd (z (eqb-true n 0 t))) (λ t. let k = eqb-false n 0 t in omega arith) in sym (rw (ne_eqb b 2 h, eq-eqb b 1 e, lt-ltb 0 n p, known_number))
+    known_one e z = let p : 0 < n = split (eqb n 0) (λ t. absurd (z (eqb-true n 0 t))) (λ t. let k = eqb-false n 0 t in omega arith) in rw (ne_eqb b 2 h, eq-eqb b 1 e, lt-ltb 0 n p, known_number)
+
+-- every kind of sheet has a number above 0
+pub kind_some : (k : SheetKind) → number_for k ≡ 0 → ⊥
+kind_some Pins e = omega arith
+kind_some Cells e = omega arith
 
 -- an unknown sheet number
-pub other_read : (gates xs : List ℕ) → (length xs ≡ 0 → ⊥) → (number : ℕ) → number ≡ known_number (get_or xs 0 0) (length gates) → number ≡ 0 → (b : Areas) → loaded 16 0 0 0 b ≡ reader gates xs b
+pub other_read : (gates xs : List ℕ) → (length xs ≡ 0 → ⊥) → known_number (get_or xs 0 0) (length gates) ≡ 0 → (b : Areas) → loaded 16 0 0 0 b ≡ reader gates xs b
 unfolding reader read_either read_sheet from unread known_number
-other_read gates [] h n e z b = absurd (h refl)
-other_read gates (x ∷ xs) h n e z b = split (eqb x 2)
-    (λ t. absurd (let q : n ≡ 2 = e ∙ rw (t, known_number) in omega arith))
+other_read gates [] h z b = absurd (h refl)
+other_read gates (x ∷ xs) h z b = split (eqb x 2)
+    (λ t. absurd (let q : ◌≡◌ {A = ℕ} 0 2 = sym z ∙ rw (t, known_number) in omega arith))
     (λ t. split (eqb x 1 && ltb 0 (length gates))
-    (λ u. absurd (let q : n ≡ 1 = e ∙ rw (t, u, known_number) in omega arith))
+    (λ u. absurd (let q : ◌≡◌ {A = ℕ} 0 1 = sym z ∙ rw (t, u, known_number) in omega arith))
     (λ u. rw (u, read_either, t, read_sheet)))
 
-module _ {number : ℕ} {gates xs p w c p' w' c' : List ℕ} {is : Bool} {K n total : ℕ} (J : JudgedAs number gates xs p w c p' w' c' is K n total) where
-  -- bytes that are no sheet
-  pub no_read : is ≡ false → loaded 15 0 0 0 (areas p' w' c') ≡ reader gates xs (areas p w c)
-  unfolding reader from unread
-  no_read z = rw (J.no z, J.plan, J.words, J.counts)
+-- bytes that are no sheet
+pub no_read : (gates xs : List ℕ) → read_either gates xs ≡ refused 15 → (b : Areas) → loaded 15 0 0 0 b ≡ reader gates xs b
+unfolding reader from unread
+no_read gates xs z b = rw z
 
-module _ {number : ℕ} {gates xs p w c p' w' c' : List ℕ} {K n total : ℕ} (k : Known number gates xs K n total) (a : p' ≡ p) (b : w' ≡ w) (d : c' ≡ c) where
+module _ {number : ℕ} {gates xs : List ℕ} {K n total : ℕ} (k : Known number gates xs K n total) (p w c : List ℕ) where
   stages_are : length k.ss ≡ n
   stages_are = sym (counts_length k.ss) ∙ k.count
 
-  room_are : roomy (sheet_with K k.ss) (areas p w c) ≡ room_for K n total (length p') (length w') (length c')
+  room_are : roomy (sheet_with K k.ss) (areas p w c) ≡ room_for K n total (length p) (length w) (length c)
   unfolding roomy room_for
-  room_are = rw (a, b, d, stages_are, k.sum)
+  room_are = rw (stages_are, k.sum)
 
   -- an area that is too short
-  pub short_read : room_for K n total (length p') (length w') (length c') ≡ false → loaded 17 0 0 0 (areas p' w' c') ≡ reader gates xs (areas p w c)
+  pub short_read : room_for K n total (length p) (length w) (length c) ≡ false → loaded 17 0 0 0 (areas p w c) ≡ reader gates xs (areas p w c)
   unfolding reader from unread
-  short_read e = let r = room_are ∙ e in rw (k.is, from, r, a, b, d)
+  short_read e = let r = room_are ∙ e in rw (k.is, from, r)
 
   -- a sheet that is read
-  pub is_read : {p₂ w₂ c₂ : List ℕ} → room_for K n total (length p') (length w') (length c') ≡ true → Filled number gates xs K n total p' w' c' p₂ w₂ c₂ → loaded 0 K n total (areas p₂ w₂ c₂) ≡ reader gates xs (areas p w c)
+  pub is_read : {p₂ w₂ c₂ : List ℕ} → room_for K n total (length p) (length w) (length c) ≡ true → Filled number gates xs K n total p w c p₂ w₂ c₂ → loaded 0 K n total (areas p₂ w₂ c₂) ≡ reader gates xs (areas p w c)
   unfolding reader from
   is_read e F =
       let r = room_are ∙ e in
-      let t : areas p' w' c' ≡ areas p w c = rw (a, b, d) in
-      let f = F.is k ∙ ap (areas_with (sheet_with K k.ss)) t in
+      let f = F.is k in
       let m = k.sum in
       rw (k.is, from, r) (rw (f, stages_are, m))

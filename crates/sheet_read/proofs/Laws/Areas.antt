@@ -1,29 +1,28 @@
 -- The areas that a sheet is read into. Assumes nothing.
 use mathlib.Core.Path.{◌≡◌, refl, sym, ap, ◌∙◌}
-use mathlib.Core.Bool.{Bool, true, false, ◌&&◌}
-use mathlib.Core.List.{List, [], ◌∷◌, ◌++◌, append_assoc, append-nil}
-use Prim.Native.Nat.{ℕ, zero, suc, ◌+◌, ◌-◌, ◌*◌, ◌/◌, ◌^◌, ◌<◌, ◌≤◌}
+use mathlib.Core.Bool.{true, false, ◌&&◌}
+use mathlib.Core.List.{List, ◌++◌, append_assoc, append-nil}
+use Prim.Native.Nat.{ℕ, ◌+◌, ◌-◌, ◌*◌, ◌^◌, ◌<◌, ◌≤◌}
 use native.Mathlib.Nat.{mul-le-mul_right, le-div_iff_mul-le}
 use native.Mathlib.Omega.{arith}
 use lib.Dec.{leb}
 use lib.ListN.{length, take, drop, replicate, length-append, length-drop, length-replicate}
-use lib.Pow.{pow_pos, pow_mono}
+use lib.Pow.{pow_pos}
 use lib.Seq.{sets, sets-eq, take_at, drop_at, drop-drop, length-take-le}
 use borrow.Author.Tests.{le-leb, lt-leb, leb-true, leb-false}
 use Rattle.rules.specs.Lists.{padded, laid_over}
 use Rattle.rules.specs.Cells.{empty, is_height, stage_size, word_limit, rooms}
-use Rattle.rules.specs.Build.{Stage, cells_of, words_of, counts_of}
-use Rattle.rules.specs.Job.{got}
+use Rattle.rules.specs.Build.{cells_of, words_of, counts_of}
 use Rattle.rules.proofs.Lists.Members.{split, and_true}
 use Rattle.rules.proofs.Bools.{and_none}
 use Rattle.rules.proofs.Job.Fields.{no_cut, same_got}
 use Rattle.cells.specs.Answers.{or_zero}
-use Rattle.bits.specs.Fields.{bits_in}
 use Rattle.sheet_form.specs.Sheets.{Sheet}
-use Rattle.sheet_form.specs.Calls.{Areas, areas, areas_with}
-use Rattle.sheet_form.proofs.Stages.{tall}
-use Rattle.sheet_read.specs.Walk.{SheetAt, sheet_with, Stored, Walked, Known}
-use Rattle.sheet_read.specs.Areas.{room_for, PadAt, Padded, FillAt, Filled}
+use Rattle.sheet_form.specs.Calls.{areas_with}
+use Rattle.sheet_read.specs.Walk.{Stored, Walked, WalkedAs}
+use Rattle.std.specs.Prelude.{Option, Some, None}
+use Rattle.sheet_read.specs.declared.walk.Extent.{Extent}
+use Rattle.sheet_read.specs.Areas.{room_for, Padded, FillAt, Filled}
 
 is_height_lem : (K x : ℕ) {n : ℕ} → is_height K ≡ true → n ≡ or_zero (is_height K) x → n ≡ x
 unfolding or_zero
@@ -116,10 +115,6 @@ unfolding rooms
 rooms_most K size = (le-div_iff_mul-le (pow_pos (K + 1))).0 (omega arith)
 
 module _ {number : ℕ} {gates xs : List ℕ} {K n total : ℕ} {p w c : List ℕ} (A : FillAt number gates xs K n total p w c) where
-  -- the walk may be done again
-  pub walk_asks : SheetAt xs
-  walk_asks = record { some = A.known.some; small = A.known.small }
-
   R : Room K n total (length p) (length w) (length c)
   R = room_is K n total (length p) (length w) (length c) A.room
 
@@ -176,3 +171,15 @@ module _ {number : ℕ} {gates xs : List ℕ} {K n total : ℕ} {p w c : List �
               let il = is_height_lem K (word_limit K) h el in
               rw (ep, ew, ec, is_rooms, is_size, il);
         }
+
+-- the second walk, whatever it says
+pub record Again (number : ℕ) (gates xs p w c p' w' c' : List ℕ) : Type 0 where
+  pub at : ℕ
+  pub height : ℕ
+  pub stages : ℕ
+  pub total : ℕ
+  pub is : Walked number gates xs p w c p' w' c' at height stages total
+
+pub again : (number : ℕ) (gates xs p w c p' w' c' : List ℕ) (r : Option Extent) → WalkedAs (Walked number gates xs p w c p' w' c') xs r → Again number gates xs p w c p' w' c'
+again number gates xs p w c p' w' c' None W = record { at = _; height = _; stages = _; total = _; is = W }
+again number gates xs p w c p' w' c' (Some e) W = record { at = _; height = _; stages = _; total = _; is = W.0 }

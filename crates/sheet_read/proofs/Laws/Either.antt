@@ -11,7 +11,7 @@ use Rattle.rules.specs.Coded.{coded}
 use Rattle.rules.specs.Job.{Read, cut, got, next, field, is_padding}
 use Rattle.rules.proofs.Lists.Members.{split}
 use Rattle.sheet_form.specs.Forms.{form, sheet_one, sheet_two}
-use Rattle.sheet_form.specs.Sheets.{Sheet, read_cells, read_words, read_stage, read_stages, read_height, read_body, sheet, accept}
+use Rattle.sheet_form.specs.Sheets.{Sheet, read_cells, read_words, read_stage, read_stages, read_height, read_body, accept}
 use Rattle.sheet_form.specs.Lifting.{stage_lifts, stages_lift, lift}
 use Rattle.sheet_form.proofs.Lifting.{lift_sheet}
 use Rattle.sheet_plan.specs.Plans.{plan_read, turned, plan_with}

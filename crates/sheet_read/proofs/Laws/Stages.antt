@@ -19,7 +19,9 @@ use Rattle.job.specs.Steps.{Took}
 use Rattle.sheet_form.specs.Sheets.{read_words}
 use Rattle.sheet_form.proofs.Stages.{tall}
 use Rattle.sheet_plan.specs.Plans.{plan_with, PlanAt, CellsTook}
-use Rattle.sheet_read.specs.Steps.{words_read, WordsAt}
+use Rattle.sheet_read.specs.Steps.{words_read, WordsAt, TookAs}
+use Rattle.std.specs.Prelude.{Option, Some, None}
+use Rattle.sheet_read.specs.declared.steps.Step.{Step}
 use Rattle.sheet_read.specs.Stages.{stage_with, stages_with, CountedAt, CountedTook, StageAt, Kept, StageTook, StagesAt, StagesTook}
 use Rattle.sheet_read.proofs.Laws.Steps.{words_length}
 
@@ -31,7 +33,7 @@ kept_all = record { plan = refl; words = refl; counts = refl }
 
 module _ {K at total : ℕ} {xs : List ℕ} (A : CountedAt K at total xs) (i : ℕ) (w c : List ℕ) where
   -- too few bits left for a word count: cut
-  pub count_lost : 8 * length xs - at < 16 → CountedTook K i xs at total w c w c (8 * length xs + 1) total
+  pub count_lost : 8 * length xs - at < 16 → CountedTook K i xs at total w c w c (8 * length xs + 1) 0
   unfolding read_words next
   count_lost h = record { words = refl; counts = refl; lost = λ _. rw (field_lost at 16 xs h); read = λ k. absurd (omega arith) }
 
@@ -58,6 +60,11 @@ module _ {K at total : ℕ} {xs : List ℕ} (A : CountedAt K at total xs) (i : �
               let e : words_read K n (drop (at + 16) (bits_in xs)) ≡ got D.these (drop at₁ (bits_in xs)) = D.is in
               record { ws = D.these; is = rw (there, next, e); words = D.area; counts = rw l ec; sum = D.count; few = omega (arith, D.few) };
         }
+
+    -- so where they are, or are not
+    pub counted_as : {c' : List ℕ} → c' ≡ set c i n → (w' : List ℕ) (r : Option Step) → TookAs (Took (words_read K m) xs (at + 16) total w w') xs r → TookAs (CountedTook K i xs at total w c w' c') xs r
+    counted_as ec w' None W = counted_took ec W
+    counted_as ec w' (Some s) W = (counted_took ec W.0, W.1)
 
 -- ---- cells laid into an area
 
@@ -114,6 +121,11 @@ module _ {K i at total : ℕ} {xs cells : List ℕ} (A : StageAt K i at total xs
             let b : 2 ^ (K + 1) ≤ 16384 = pow_mono {i = K + 1} {j = 14} (omega (arith, (tall K A.height).1)) in
             let m : i * stage_size K ≤ 65535 * stage_size K = mul-le-mul_right (stage_size K) A.few in
             rw size (omega (arith, m), omega (arith, m))
+
+        -- cells that are refused refuse the stage
+        pub cells_lost : 8 * length xs < at₂ → StageTook number K gates i xs at total cells p w c cells₁ p w' c' at₂ 0
+        unfolding stage_with next
+        cells_lost o = let D = W.read k in record { kept = record { plan = refl; words = W.words; counts = W.counts }; area = C.len; lost = λ _. rw (D.is, next, C.lost o); read = λ l. absurd (omega arith) }
 
         -- words and cells are a stage
         pub stage_took : {p' : List ℕ} → p' ≡ sets p (i * length cells₁) cells₁ → StageTook number K gates i xs at total cells p w c cells₁ p' w' c' at₂ t₁

@@ -2,7 +2,7 @@
 use mathlib.Core.Path.{◌≡◌, refl, sym, ap, ◌∙◌}
 use mathlib.Core.Bool.{Bool, true, false}
 use mathlib.Core.List.{List, [], ◌∷◌, ◌++◌}
-use Prim.Native.Nat.{ℕ, zero, suc, ◌+◌, ◌-◌, ◌*◌, ◌^◌, ◌<◌, ◌≤◌}
+use Prim.Native.Nat.{ℕ, zero, suc, ◌+◌, ◌-◌, ◌*◌, ◌<◌, ◌≤◌}
 use native.Mathlib.Omega.{arith}
 use lib.ListN.{length, set, drop, length-set, length-append}
 use borrow.Author.Tests.{le-ltb, lt-ltb}
@@ -22,7 +22,7 @@ use Rattle.sheet_read.specs.Steps.{one_word, words_read, WordsAt}
 
 module _ {K at s : ℕ} {xs : List ℕ} (A : WordsAt K at s xs) where
   -- too few bits left for a word: cut
-  pub word_lost : 8 * length xs - at < 8 → {a : List ℕ} → Took (one_word K) xs at s a a (8 * length xs + 1) s
+  pub word_lost : 8 * length xs - at < 8 → {a : List ℕ} → Took (one_word K) xs at s a a (8 * length xs + 1) 0
   unfolding one_word next
   word_lost h = took_lost refl (rw (field_lost at 8 xs h))
 
@@ -35,7 +35,7 @@ module _ {K at s : ℕ} {xs : List ℕ} (A : WordsAt K at s xs) where
     word_there = let i = A.inside in field_there at 8 xs n F (omega arith)
 
     -- a word at W or above is refused as a cut is
-    pub word_great : limit ≤ w → {a : List ℕ} → Took (one_word K) xs at s a a (8 * length xs + 1) s
+    pub word_great : limit ≤ w → {a : List ℕ} → Took (one_word K) xs at s a a (8 * length xs + 1) 0
     unfolding one_word next word_fits
     word_great k = took_lost refl (rw (word_there, next, le-ltb n (word_limit K) (omega (arith, is_limit))))
 

@@ -1,8 +1,8 @@
 -- The walk through a whole sheet. Assumes nothing.
 use mathlib.Core.Path.{◌≡◌, refl, sym, ap, ◌∙◌}
 use mathlib.Core.Logic.{◌⊎◌, inl, inr}
-use mathlib.Core.Bool.{Bool, true, false, ◌&&◌}
-use mathlib.Core.List.{List, [], ◌∷◌, ◌++◌}
+use mathlib.Core.Bool.{true, false, ◌&&◌}
+use mathlib.Core.List.{List, [], ◌∷◌}
 use Prim.Native.Nat.{ℕ, ◌+◌, ◌-◌, ◌*◌, ◌^◌, ◌<◌, ◌≤◌}
 use native.Mathlib.Omega.{arith}
 use lib.Dec.{leb, ltb, eqb}
@@ -14,20 +14,22 @@ use Rattle.rules.specs.Lists.{gather}
 use Rattle.rules.specs.Cells.{is_height, stage_size}
 use Rattle.rules.specs.Graph.{Node, graph_of}
 use Rattle.rules.specs.Job.{bits_of, number_of, Read, cut, got, next, field, is_padding}
-use Rattle.rules.proofs.Lists.Members.{split, and_true, true_false}
+use Rattle.rules.proofs.Lists.Members.{split, and_true}
 use Rattle.rules.proofs.Job.Bits.{width, Bytes}
 use Rattle.cells.specs.Answers.{or_zero}
 use Rattle.cells.proofs.Heights.{or_zero_true}
 use Rattle.bits.specs.Fields.{bits_in, FieldIs}
 use Rattle.bits.proofs.Laws.Fields.{field_there, bits_length}
-use Rattle.bits.proofs.Laws.Putting.{none_back}
 use Rattle.sheet_form.specs.Forms.{form}
 use Rattle.sheet_form.specs.Sheets.{Sheet, read_height, read_body, refused, sheet, accept, read_sheet}
 use Rattle.sheet_form.specs.Lifting.{lift, read_either}
 use Rattle.sheet_form.proofs.Stages.{tall}
 use Rattle.sheet_form.proofs.Either.{as_two, as_one, either_most}
-use Rattle.sheet_read.specs.Stages.{StagesAt, StagesTook}
-use Rattle.sheet_read.specs.Walk.{body_with, known_number, WalkAt, WalkTook, SheetAt, Measured, Walked, Judgement, Begins, Known, JudgedAs}
+use Rattle.sheet_read.specs.Stages.{StagesAt, StagesTook, Kept}
+use Rattle.sheet_read.specs.Walk.{body_with, known_number, WalkAt, WalkTook, SheetAt, Measured, Walked, Begins, Known}
+use Rattle.std.specs.Prelude.{Option, Some, None}
+use Rattle.sheet_read.specs.declared.steps.Step.{Step}
+use Rattle.sheet_read.specs.Steps.{TookAs}
 use Rattle.sheet_read.proofs.Laws.Stages.{kept_all}
 use Rattle.sheet_read.proofs.Laws.Either.{body_one, body_two}
 
@@ -80,6 +82,15 @@ module _ {xs : List ℕ} (h : 28 ≤ 8 * length xs) {K : ℕ} (F : FieldIs 8 4 x
     pub stages_asks : length xs ≤ 2 ^ 40 → WalkAt K n xs
     stages_asks s = record { height = t; few = omega (arith, G.below); small = s; inside = h }
 
+    -- stages that are refused refuse the sheet
+    pub stages_lost : {p w c p' w' c' : List ℕ} {at total : ℕ} → 8 * length xs < at → WalkTook number K gates n xs p w c p' w' c' at total → {K' n' total' : ℕ} → Walked number gates xs p w c p' w' c' at K' n' total'
+    unfolding body_with read_height next
+    stages_lost k T = record {
+      kept = T.kept;
+      measured = record { lost = λ _. rw (first, next, t, second, next, T.lost k); read = λ l. absurd (omega arith) };
+      stored = λ l. absurd (omega arith);
+    }
+
     -- the stages behind the head are the sheet
     pub walked : {p w c p' w' c' : List ℕ} {at total : ℕ} → WalkTook number K gates n xs p w c p' w' c' at total → Walked number gates xs p w c p' w' c' at K n total
     unfolding body_with read_height next
@@ -91,10 +102,6 @@ module _ {xs : List ℕ} (h : 28 ≤ 8 * length xs) {K : ℕ} (F : FieldIs 8 4 x
       };
       stored = λ k. let R = T.read k in record { plan = R.plan; words = R.words; counts = R.counts };
     }
-
--- a walk over empty parts changes no area
-pub judged : {number : ℕ} {gates xs : List ℕ} (p w c : List ℕ) {p' w' c' : List ℕ} {at K n total : ℕ} → Walked number gates xs [] [] [] p' w' c' at K n total → Judgement number gates xs p w c (p' ++ p) (w' ++ w) (c' ++ c) at K n total
-judged p w c {p'} {w'} {c'} W = record { measured = W.measured; plan = none_back p' p W.kept.plan; words = none_back w' w W.kept.words; counts = none_back c' c W.kept.counts }
 
 -- ---- the stages, by way of an area of 16,384
 
@@ -112,9 +119,16 @@ module _ {K n : ℕ} {xs : List ℕ} (A : WalkAt K n xs) {size : ℕ} (e : size 
       let z : size - 0 ≡ size = omega arith in
       record { height = A.height; few = A.few; small = A.small; inside = A.inside; size = rw z (length-take-le size cells (omega (arith, size_most)) ∙ is_size) }
 
--- what is left of the area does not matter
-pub area_took : {number K : ℕ} {gates : List ℕ} {n : ℕ} {xs cells p w c cells' p' w' c' : List ℕ} {at total : ℕ} → StagesTook number K gates n xs cells p w c cells' p' w' c' at total → WalkTook number K gates n xs p w c p' w' c' at total
-area_took T = record { kept = T.kept; lost = T.lost; read = T.read }
+module _ (number K : ℕ) (gates : List ℕ) (n : ℕ) (xs p w c p' w' c' : List ℕ) where
+  -- what is left of the area does not matter
+  pub area_took : (cells cells' : List ℕ) (r : Option Step) → TookAs (StagesTook number K gates n xs cells p w c cells' p' w' c') xs r → TookAs (WalkTook number K gates n xs p w c p' w' c') xs r
+  area_took cells cells' None T = record { kept = T.kept; lost = T.lost; read = T.read }
+  area_took cells cells' (Some s) T = (record { kept = T.0.kept; lost = T.0.lost; read = T.0.read }, T.1)
+
+  -- the areas keep their lengths
+  pub area_kept : (cells cells' : List ℕ) (r : Option Step) → TookAs (StagesTook number K gates n xs cells p w c cells' p' w' c') xs r → Kept p w c p' w' c'
+  area_kept cells cells' None T = T.kept
+  area_kept cells cells' (Some s) T = T.0.kept
 
 -- ---- which sheet
 
@@ -186,11 +200,3 @@ module _ {number : ℕ} {gates xs : List ℕ} (A : Begins number gates xs) where
       size = R.size;
       count = R.count;
     }
-
--- refused, the areas as they were
-pub judged_no : {number : ℕ} {gates xs p w c p' w' c' : List ℕ} {is : Bool} {K n total : ℕ} → p' ≡ p → w' ≡ w → c' ≡ c → is ≡ false → read_either gates xs ≡ refused 15 → JudgedAs number gates xs p w c p' w' c' is K n total
-judged_no a b d z e = record { plan = a; words = b; counts = d; no = λ _. e; yes = λ t. true_false t z }
-
--- read, the areas as they were
-pub judged_yes : {number : ℕ} {gates xs p w c p' w' c' : List ℕ} {K n total : ℕ} → p' ≡ p → w' ≡ w → c' ≡ c → Known number gates xs K n total → JudgedAs number gates xs p w c p' w' c' true K n total
-judged_yes a b d k = record { plan = a; words = b; counts = d; no = λ t. true_false refl t; yes = λ _. k }

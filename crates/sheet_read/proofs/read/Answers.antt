@@ -1,30 +1,23 @@
 -- `sheet_read::read` meets its contract. Assumes nothing.
-use mathlib.Core.Path.{refl, ◌∙◌}
 use native.Mathlib.Omega.{arith}
-use Rattle.rules.proofs.Bools.{no, yes}
-use Rattle.sheet_read.proofs.Laws.Answers.{refuses, none_read, other_read, no_read, short_read, is_read}
+use mathlib.Core.Path.{sym, ◌∙◌}
+use Rattle.sheet_read.proofs.Laws.Answers.{kind_some, none_read, other_read, no_read, short_read, is_read}
 use Rattle.sheet_read.proofs.read.Goals as goal
 
 pub returns-then-bytes-eq0 : goal.returns-then-bytes-eq0
-returns-then-bytes-eq0 c = refuses c.refuse.ensures _ ∙ none_read _ _ (omega (arith, c.if-bytes-eq0.true)) _
+returns-then-bytes-eq0 c = none_read _ _ (omega (arith, c.if-bytes-eq0.true)) _
 
-pub returns-then-number-eq0 : goal.returns-then-number-eq0
-returns-then-number-eq0 c = refuses c.refuse-then-number-eq0.ensures _ ∙ other_read _ _ (λ z. omega (arith, c.if-bytes-eq0.false)) _ c.number_of-number.ensures c.if-number-eq0.true _
+pub returns-in_default : goal.returns-in_default
+returns-in_default c = other_read _ _ (λ z. omega (arith, c.if-bytes-eq0.false)) c.in_default.ensures _
 
-pub judge-m-requires : goal.judge-m-requires
-judge-m-requires c = record { some = omega (arith, c.if-bytes-eq0.false); is = c.number_of-number.ensures; known = c.if-number-eq0.false }
+pub judge-requires : goal.judge-requires
+judge-requires c = record { some = omega (arith, c.if-bytes-eq0.false); is = sym c.in-Some.ensures; known = kind_some _ }
 
-pub returns-then-not-m : goal.returns-then-not-m
-returns-then-not-m c = refuses c.refuse-then-not-m.ensures _ ∙ no_read c.judge-m.ensures (no refl c.if-not-m.true)
-
-pub has_room-requires : goal.has_room-requires
-has_room-requires c = (c.judge-m.ensures.yes (yes refl c.if-not-m.false)).height
+pub returns-in_default-judge : goal.returns-in_default-judge
+returns-in_default-judge c = no_read _ _ c.in_default-judge.ensures _
 
 pub returns-then-not-has_room : goal.returns-then-not-has_room
-returns-then-not-has_room c = refuses c.refuse-then-not-has_room.ensures _ ∙ short_read (c.judge-m.ensures.yes (yes refl c.if-not-m.false)) c.judge-m.ensures.plan c.judge-m.ensures.words c.judge-m.ensures.counts (no c.has_room.ensures c.if-not-has_room.true-raw)
-
-pub fill-requires : goal.fill-requires
-fill-requires c = record { known = c.judge-m.ensures.yes (yes refl c.if-not-m.false); room = yes c.has_room.ensures c.if-not-has_room.false-raw }
+returns-then-not-has_room c = let a = c.args in short_read c.in-Some-judge.ensures a.plan.now a.words.now a.counts.now (sym c.has_room.ensures ∙ c.if-not-has_room.true)
 
 pub returns : goal.returns
-returns c = is_read (c.judge-m.ensures.yes (yes refl c.if-not-m.false)) c.judge-m.ensures.plan c.judge-m.ensures.words c.judge-m.ensures.counts (yes c.has_room.ensures c.if-not-has_room.false-raw) c.fill.ensures
+returns c = let a = c.args in is_read c.in-Some-judge.ensures a.plan.now a.words.now a.counts.now (sym c.has_room.ensures ∙ c.if-not-has_room.false) c.fill.ensures

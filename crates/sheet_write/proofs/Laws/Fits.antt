@@ -1,9 +1,8 @@
 -- Which stages a sheet can hold: cells, words, stages one by one. Assumes nothing.
 use mathlib.Core.Path.{◌≡◌, refl, sym, ap, ◌∙◌}
-use mathlib.Core.Logic.{◌≢◌}
-use mathlib.Core.Bool.{Bool, true, false, not, ◌&&◌}
+use mathlib.Core.Bool.{true, false, not, ◌&&◌}
 use mathlib.Core.List.{List, [], ◌∷◌, ◌++◌}
-use Prim.Native.Nat.{ℕ, zero, suc, ◌+◌, ◌-◌, ◌*◌, ◌^◌, ◌<◌, ◌≤◌}
+use Prim.Native.Nat.{ℕ, suc, ◌+◌, ◌-◌, ◌*◌, ◌^◌, ◌<◌, ◌≤◌}
 use native.Mathlib.Nat.{mul-le-mul_right}
 use native.Mathlib.Numerals.{add-one}
 use native.Mathlib.Omega.{arith}
@@ -11,35 +10,23 @@ use lib.Dec.{leb, ltb, eqb}
 use lib.ListN.{length, get_or, take, drop, length-append, length-drop, drop_of_length-le}
 use lib.Pow.{pow_mono, pow_pos}
 use lib.Seq.{drop-cons, drop-drop, get_or-drop, length-take-le}
-use borrow.Author.Tests.{le-leb, lt-leb, leb-true, lt-ltb, le-ltb, eqb-true, eqb-false, eq-eqb, ne_eqb}
+use borrow.Author.Tests.{le-leb, lt-leb, leb-true, eq-eqb, ne_eqb}
+use Rattle.std.specs.Prelude.{Option, Some, None}
 use Rattle.rules.specs.Lists.{every, sum, gather}
 use Rattle.rules.specs.Cells.{empty, filled, is_height, stage_size, word_limit, word_fits}
 use Rattle.rules.specs.Build.{Stage}
 use Rattle.rules.specs.Job.{bits_of, no_file}
 use Rattle.rules.specs.Coded.{cell_pin}
 use Rattle.rules.proofs.Lists.Members.{split, and_true, true_false}
-use Rattle.rules.proofs.Bools.{and_none, and_right}
+use Rattle.rules.proofs.Bools.{and_none}
 use Rattle.rules.proofs.Job.Bits.{width, gather_width}
 use Rattle.cells.specs.Answers.{or_zero}
-use Rattle.records.proofs.Reading.{every_step, every_end}
 use Rattle.sheet_form.specs.Forms.{does, behind_pin, form_fits, sheet_two}
 use Rattle.sheet_form.specs.Sheets.{cell_bits, cells_bits, stage_bits, stages_bits, cell_fits, cells_fit, stage_fits, stages_fit, holdable, write_sheet}
 use Rattle.sheet_form.specs.Calls.{Areas, areas, stages_in, stand, sheet_in}
-use Rattle.sheet_form.proofs.Stages.{tall, StageFits, fits_stage, stage_fits_lem}
+use Rattle.sheet_form.proofs.Stages.{tall, fits_stage, stage_fits_lem}
 use Rattle.sheet_form.proofs.Back.{Stand, stand_is, held_in}
-use Rattle.sheet_write.specs.Fits.{Ends, CellEnds, CellsAt, CellsEnd, StageAt, stage_with, StageEnds, Sized, StagesAt, StagesEnd, Fitting, Measured}
-
--- what does not fit ends at 0
-pub ends_none : {f : Bool} {bs : List ℕ} {at : ℕ} → f ≡ false → Ends f bs at 0
-ends_none e = record { none = λ _. e; some = λ h. absurd (omega arith); behind = λ h. absurd (omega arith) }
-
--- what fits ends behind its bits
-pub ends_some : {f : Bool} {bs : List ℕ} {at r : ℕ} → 0 < r → f ≡ true → r ≡ at + length bs → Ends f bs at r
-ends_some h e d = record { none = λ z. absurd (omega arith); some = λ _. e; behind = λ _. d }
-
--- a number that is not 0 is above it
-pub above_zero : {r : ℕ} → (r ≡ 0 → ⊥) → 0 < r
-above_zero {r} z = split (eqb r 0) (λ t. absurd (z (eqb-true r 0 t))) (λ t. let k = eqb-false r 0 t in omega arith)
+use Rattle.sheet_write.specs.Fits.{CellEnds, CellsEnd, StageAt, stage_with, StageEnds, Sized, StagesAt, StagesEnd, Fitting, Measured}
 
 -- ---- a cell
 
@@ -50,22 +37,23 @@ marked c e = rw (ne_eqb c 4294967295 e)
 
 module _ (K p c : ℕ) where
   -- an empty cell is one bit
-  pub cell_empty : filled c ≡ false → CellEnds K p c 1
+  pub cell_empty : filled c ≡ false → CellEnds K p c (Some 1)
   unfolding cell_fits cell_bits
-  cell_empty f = record { ends = ends_some (omega arith) (rw (f, cell_fits)) (rw (f, cell_bits)); short = omega arith }
+  cell_empty f = (rw (f, cell_fits), rw (f, cell_bits), omega arith)
 
   -- a cell that sheet 2 does not hold
-  pub cell_lost : filled c ≡ true → form_fits 2 K p c ≡ false → CellEnds K p c 0
+  pub cell_lost : filled c ≡ true → form_fits 2 K p c ≡ false → CellEnds K p c None
   unfolding cell_fits
-  cell_lost f e = record { ends = ends_none (rw (f, cell_fits) e); short = omega arith }
+  cell_lost f e = rw (f, cell_fits) e
 
   -- one that it holds is a one, 16 bits and 3
-  pub cell_held : filled c ≡ true → form_fits 2 K p c ≡ true → CellEnds K p c 20
+  pub cell_held : filled c ≡ true → form_fits 2 K p c ≡ true → CellEnds K p c (Some 20)
   unfolding cell_fits cell_bits behind_pin
-  cell_held f e = record {
-    ends = ends_some (omega arith) (rw (f, cell_fits) e) (rw (f, cell_bits) (omega (arith, length-append (bits_of 16 (cell_pin c)) (bits_of 3 (does c)), width 16 (cell_pin c), width 3 (does c))));
-    short = omega arith;
-  }
+  cell_held f e = (
+    rw (f, cell_fits) e,
+    rw (f, cell_bits) (omega (arith, length-append (bits_of 16 (cell_pin c)) (bits_of 3 (does c)), width 16 (cell_pin c), width 3 (does c))),
+    omega arith,
+  )
 
 -- ---- the cells of a stage
 
@@ -101,44 +89,24 @@ pub cells_none : {K : ℕ} {cells : List ℕ} {from : ℕ} → 1 ≤ from → Ce
 cells_none h = record { upto = omega arith; near = omega arith; some = h; fits = refl; bits = refl }
 
 module _ {K : ℕ} {cells : List ℕ} {from i at : ℕ} (C : Cells K cells from i at) where
-  module _ (h : i < length cells) {b : ℕ} (E : CellEnds K i (get_or cells i 0) b) where
+  module _ (h : i < length cells) where
     -- a cell that does not fit decides
-    pub cells_lost : b ≡ 0 → CellsEnd K cells from 0
-    cells_lost z = record { ends = ends_none (C.fits ∙ fit_step K cells i h ∙ rw (E.ends.none z)); near = omega arith }
+    pub cells_lost : CellEnds K i (get_or cells i 0) None → CellsEnd K cells from None
+    cells_lost e = C.fits ∙ fit_step K cells i h ∙ rw e
 
     -- one that fits takes its bits
-    pub cells_more : (b ≡ 0 → ⊥) → Cells K cells from (i + 1) (at + b)
-    cells_more z =
-        let p : 0 < b = above_zero z in
-        record {
-          upto = omega arith;
-          near = omega (arith, C.near, E.short);
-          some = omega (arith, C.some);
-          fits = C.fits ∙ fit_step K cells i h ∙ rw (E.ends.some p);
-          bits = omega (arith, C.bits, ap length (bits_step K cells i h), length-append (cell_bits sheet_two K i (get_or cells i 0)) (cells_bits sheet_two K (i + 1) (drop (i + 1) cells)), E.ends.behind p);
-        }
+    pub cells_more : (b : ℕ) → CellEnds K i (get_or cells i 0) (Some b) → Cells K cells from (i + 1) (at + b)
+    cells_more b E = record {
+      upto = omega arith;
+      near = omega (arith, C.near, E.2);
+      some = omega (arith, C.some);
+      fits = C.fits ∙ fit_step K cells i h ∙ rw E.0;
+      bits = omega (arith, C.bits, ap length (bits_step K cells i h), length-append (cell_bits sheet_two K i (get_or cells i 0)) (cells_bits sheet_two K (i + 1) (drop (i + 1) cells)), E.1);
+    }
 
   -- no cell left: all fit
-  pub cells_done : length cells ≤ i → CellsEnd K cells from at
-  cells_done h = record {
-    ends = ends_some (omega (arith, C.some)) (C.fits ∙ fit_end K cells i h) (omega (arith, C.bits, ap length (bits_end K cells i h)));
-    near = omega (arith, C.near, C.upto);
-  }
-
--- ---- words below a limit
-
-module _ (limit : ℕ) (xs : List ℕ) (i : ℕ) (inv : every (λ x. ltb x limit) xs ≡ every (λ x. ltb x limit) (drop i xs)) where
-  -- a word at the limit or above decides
-  pub word_above : i < length xs → limit ≤ get_or xs i 0 → false ≡ every (λ x. ltb x limit) xs
-  word_above h k = sym (inv ∙ every_step (λ x. ltb x limit) xs i h ∙ rw (le-ltb (get_or xs i 0) limit k))
-
-  -- one below it: those behind it decide
-  pub word_below : i < length xs → get_or xs i 0 < limit → every (λ x. ltb x limit) xs ≡ every (λ x. ltb x limit) (drop (i + 1) xs)
-  word_below h k = inv ∙ every_step (λ x. ltb x limit) xs i h ∙ rw (lt-ltb (get_or xs i 0) limit k)
-
-  -- no word left: all are below
-  pub words_below : length xs ≤ i → true ≡ every (λ x. ltb x limit) xs
-  words_below h = sym (inv ∙ every_end (λ x. ltb x limit) xs i h)
+  pub cells_done : length cells ≤ i → CellsEnd K cells from (Some at)
+  cells_done h = (C.fits ∙ fit_end K cells i h, omega (arith, C.bits, ap length (bits_end K cells i h)), omega (arith, C.near, C.upto))
 
 -- ---- a stage
 
@@ -154,56 +122,54 @@ height_is K x h e = e ∙ rw h
 
 module _ {K at : ℕ} {cells : List ℕ} (A : StageAt K at cells) (words : List ℕ) where
   -- a filled position 0 does not fit
-  pub stage_first : (get_or cells 0 0 ≡ 4294967295 → ⊥) → StageEnds K cells words at 0
+  pub stage_first : (get_or cells 0 0 ≡ 4294967295 → ⊥) → StageEnds K cells words at None
   unfolding stage_fits filled empty
-  stage_first n = record { ends = ends_none (by cells A.first n); near = omega arith }
+  stage_first n = by cells A.first n
     where
       by : (cs : List ℕ) → 1 ≤ length cs → (get_or cs 0 0 ≡ 4294967295 → ⊥) → stage_fits sheet_two K (stage_with cs words) ≡ false
       by [] h m = absurd (omega arith)
       by (c ∷ cs) h m = rw (ne_eqb c 4294967295 m, and_none (eqb (suc (length cs)) (stage_size K)))
 
   -- more than 65,535 words do not fit
-  pub stage_many : 65535 < length words → StageEnds K cells words at 0
+  pub stage_many : 65535 < length words → StageEnds K cells words at None
   unfolding stage_fits
-  stage_many h = record { ends = ends_none (rw (lt-leb (length words) 65535 h, and_none (eqb (length cells) (stage_size K) && not (filled (get_or cells 0 empty))))); near = omega arith }
+  stage_many h = rw (lt-leb (length words) 65535 h, and_none (eqb (length cells) (stage_size K) && not (filled (get_or cells 0 empty))))
 
   -- nor does a word at W or above
-  pub stage_word : {limit : ℕ} → limit ≡ or_zero (is_height K) (word_limit K) → every (λ w. ltb w limit) words ≡ false → StageEnds K cells words at 0
+  pub stage_word : {limit : ℕ} → limit ≡ or_zero (is_height K) (word_limit K) → every (λ w. ltb w limit) words ≡ false → StageEnds K cells words at None
   unfolding stage_fits word_fits
   stage_word l e =
       let q = height_is K (word_limit K) A.height l in
       let f : every (word_fits K) words ≡ false = rw q at e in
-      record { ends = ends_none (rw (f, and_none (eqb (length cells) (stage_size K) && not (filled (get_or cells 0 empty)) && leb (length words) 65535))); near = omega arith }
+      rw (f, and_none (eqb (length cells) (stage_size K) && not (filled (get_or cells 0 empty)) && leb (length words) 65535))
+
+  first : (cs : List ℕ) → 1 ≤ length cs → get_or cs 0 0 ≡ 4294967295 → filled (get_or cs 0 empty) ≡ false
+  unfolding filled empty
+  first [] h e = absurd (omega arith)
+  first (c ∷ cs) h e = empty_mark c e
+
+  without : cells_fit sheet_two K 1 (drop 1 cells) ≡ false → stage_fits sheet_two K (stage_with cells words) ≡ false
+  without e = split (stage_fits sheet_two K (stage_with cells words)) (λ t. true_false (stage_fits_lem sheet_two K (stage_with cells words) t).cells e) (λ t. t)
 
   -- else the cells decide
   pub stage_cells : get_or cells 0 0 ≡ 4294967295 → length words ≤ 65535 → {limit : ℕ} → limit ≡ or_zero (is_height K) (word_limit K) → every (λ w. ltb w limit) words ≡ true →
-      {r : ℕ} → CellsEnd K cells (at + 16 + 8 * length words) r → StageEnds K cells words at r
+      (r : Option ℕ) → CellsEnd K cells (at + 16 + 8 * length words) r → StageEnds K cells words at r
   unfolding stage_bits word_fits
-  stage_cells z few l e {r} C =
+  stage_cells z few l e None C = without C
+  stage_cells z few l e (Some r) C =
       let q = height_is K (word_limit K) A.height l in
-      let w : every (word_fits K) words ≡ true = rw q at e in
-      record {
-        ends = record {
-          none = λ y. without (C.ends.none y);
-          some = λ y. fits_stage sheet_two K (stage_with cells words) (record { size = A.size; zeroth = first cells A.first z; few = le-leb (length words) 65535 few; words = w; cells = C.ends.some y });
-          behind = λ y. omega (
-            arith,
-            C.ends.behind y,
-            length-append (bits_of 16 (length words) ++ gather (bits_of 8) words) (cells_bits sheet_two K 1 (drop 1 cells)),
-            length-append (bits_of 16 (length words)) (gather (bits_of 8) words),
-            width 16 (length words),
-            gather_width 8 words,
-          );
-        };
-        near = omega (arith, C.near, A.few);
-      }
-    where
-      first : (cs : List ℕ) → 1 ≤ length cs → get_or cs 0 0 ≡ 4294967295 → filled (get_or cs 0 empty) ≡ false
-      first [] h e = absurd (omega arith)
-      first (c ∷ cs) h e = empty_mark c e
-
-      without : cells_fit sheet_two K 1 (drop 1 cells) ≡ false → stage_fits sheet_two K (stage_with cells words) ≡ false
-      without e = split (stage_fits sheet_two K (stage_with cells words)) (λ t. true_false (stage_fits_lem sheet_two K (stage_with cells words) t).cells e) (λ t. t)
+      let w : every (word_fits K) words ≡ true = rw q at e in (
+        fits_stage sheet_two K (stage_with cells words) (record { size = A.size; zeroth = first cells A.first z; few = le-leb (length words) 65535 few; words = w; cells = C.0 }),
+        omega (
+          arith,
+          C.1,
+          length-append (bits_of 16 (length words) ++ gather (bits_of 8) words) (cells_bits sheet_two K 1 (drop 1 cells)),
+          length-append (bits_of 16 (length words)) (gather (bits_of 8) words),
+          width 16 (length words),
+          gather_width 8 words,
+        ),
+        omega (arith, C.2, A.few),
+      )
 
 -- a stage has at most 16,384 cells, and one at least
 pub size_most : (K : ℕ) → is_height K ≡ true → (stage_size K ≤ 16384) × (1 ≤ stage_size K)
@@ -300,14 +266,11 @@ module _ {K n : ℕ} {p w c : List ℕ} (A : StagesAt K n p w c) where
 
   module _ {i from at : ℕ} (F : Fits K n p w c i from at) where
     -- no stage left: all fit
-    pub fits_done : n ≤ i → StagesEnd K n p w c at
+    pub fits_done : n ≤ i → StagesEnd K n p w c (Some at)
     unfolding stages_fit stages_bits
     fits_done h =
         let z = rest_none stands F.places h in
-        record {
-          ends = ends_some (omega (arith, F.places.some)) (F.fits ∙ rw z) (omega (arith, F.bits, ap (λ (ss : List Stage). length (stages_bits sheet_two K ss)) z));
-          near = omega (arith, F.places.near, F.places.upto, A.few);
-        }
+        (F.fits ∙ rw z, omega (arith, F.bits, ap (λ (ss : List Stage). length (stages_bits sheet_two K ss)) z), omega (arith, F.places.near, F.places.upto, A.few))
 
     module _ (h : i < n) (size : ℕ) (e : size ≡ or_zero (is_height K) (stage_size K)) (count : ℕ) (q : count ≡ get_or c i 0) where
       is_size : size ≡ stage_size K
@@ -331,23 +294,21 @@ module _ {K n : ℕ} {p w c : List ℕ} (A : StagesAt K n p w c) where
           let m = size_most K A.height in
           record { height = A.height; size = l; few = rw l m.0; first = rw l m.1; some = F.places.some; near = omega (arith, F.places.near, A.few) }
 
-      module _ {r : ℕ} (E : StageEnds K one.plan one.words at r) where
-        -- a stage that does not fit decides
-        pub fits_lost : r ≡ 0 → StagesEnd K n p w c 0
-        unfolding stages_fit
-        fits_lost z = record { ends = ends_none (F.fits ∙ rw (next, E.ends.none z)); near = omega arith }
+      -- a stage that does not fit decides
+      pub fits_lost : StageEnds K one.plan one.words at None → StagesEnd K n p w c None
+      unfolding stages_fit
+      fits_lost z = F.fits ∙ rw (next, z)
 
-        -- one that fits takes its bits
-        pub fits_more : (r ≡ 0 → ⊥) → Fits K n p w c (i + 1) (from + count) r
-        unfolding stages_fit stages_bits
-        fits_more z =
-            let y : 0 < r = above_zero z in
-            let rs = rest K n p w c (i + 1) (from + count) in
-            record {
-              places = places_more stands F.places h count q y E.near;
-              fits = F.fits ∙ rw (next, E.ends.some y);
-              bits = omega (arith, F.bits, ap (λ (ss : List Stage). length (stages_bits sheet_two K ss)) next, length-append (stage_bits sheet_two K one) (stages_bits sheet_two K rs), E.ends.behind y);
-            }
+      -- one that fits takes its bits
+      pub fits_more : (r : ℕ) → StageEnds K one.plan one.words at (Some r) → Fits K n p w c (i + 1) (from + count) r
+      unfolding stages_fit stages_bits
+      fits_more r E =
+          let rs = rest K n p w c (i + 1) (from + count) in
+          record {
+            places = places_more stands F.places h count q (omega (arith, E.1, F.places.some)) E.2;
+            fits = F.fits ∙ rw (next, E.0);
+            bits = omega (arith, F.bits, ap (λ (ss : List Stage). length (stages_bits sheet_two K ss)) next, length-append (stage_bits sheet_two K one) (stages_bits sheet_two K rs), E.1);
+          }
 
 -- ---- the sum of counts
 
@@ -405,9 +366,6 @@ module _ {K n : ℕ} (A : Sized K n) (p w c : List ℕ) where
 
 -- ---- the measure
 
-no_sheet : {K n : ℕ} {a : Areas} → sheet_in sheet_two K n a ≡ no_file → Measured K n a 0
-no_sheet e = record { none = λ _. e; some = λ h. absurd (omega arith); bits = λ h. absurd (omega arith); near = omega arith }
-
 -- the sheet of areas by whether it can be held
 unheld : (K n : ℕ) (a : Areas) → (Fitting K n a → ⊥) → sheet_in sheet_two K n a ≡ no_file
 unfolding sheet_in write_sheet holdable
@@ -426,22 +384,18 @@ unheld K n a f = split (stand K n a)
 
 module _ (K n : ℕ) (a : Areas) where
   -- a height outside 6..13
-  pub bad_height : is_height K ≡ false → Measured K n a 0
-  bad_height e = no_sheet (unheld K n a (λ F. true_false F.height e))
+  pub bad_height : is_height K ≡ false → Measured K n a None
+  bad_height e = unheld K n a (λ F. true_false F.height e)
 
   -- more than 65,535 stages
-  pub many_stages : 65535 < n → Measured K n a 0
-  many_stages h = no_sheet (unheld K n a (λ F. omega (arith, F.few)))
+  pub many_stages : 65535 < n → Measured K n a None
+  many_stages h = unheld K n a (λ F. omega (arith, F.few))
 
   -- stages that the areas do not hold
-  pub not_held : stand K n a ≡ false → Measured K n a 0
-  not_held e = no_sheet (unheld K n a (λ F. true_false F.held e))
+  pub not_held : stand K n a ≡ false → Measured K n a None
+  not_held e = unheld K n a (λ F. true_false F.held e)
 
   -- else the stages decide
-  pub measured : is_height K ≡ true → n ≤ 65535 → stand K n a ≡ true → {r : ℕ} → StagesEnd K n a.plan a.words a.counts r → Measured K n a r
-  measured h k s E = record {
-    none = λ z. unheld K n a (λ F. true_false F.fits (E.ends.none z));
-    some = λ y. record { height = h; few = k; held = s; fits = E.ends.some y };
-    bits = λ y. E.ends.behind y;
-    near = E.near;
-  }
+  pub measured : is_height K ≡ true → n ≤ 65535 → stand K n a ≡ true → (r : Option ℕ) → StagesEnd K n a.plan a.words a.counts r → Measured K n a r
+  measured h k s None E = unheld K n a (λ F. true_false F.fits E)
+  measured h k s (Some r) E = record { fitting = record { height = h; few = k; held = s; fits = E.0 }; bits = E.1; near = omega (arith, E.2) }

@@ -1,15 +1,15 @@
 -- The parts of a sheet, put one behind the other. Assumes nothing.
-use mathlib.Core.Path.{◌≡◌, refl, sym, ap, ◌∙◌}
+use mathlib.Core.Path.{◌≡◌, refl, ◌∙◌}
 use mathlib.Core.Bool.{true, false}
 use mathlib.Core.List.{List, [], ◌∷◌, ◌++◌, append_assoc}
-use Prim.Native.Nat.{ℕ, suc, ◌+◌, ◌-◌, ◌*◌, ◌%◌, ◌^◌, ◌<◌, ◌≤◌}
+use Prim.Native.Nat.{ℕ, ◌+◌, ◌-◌, ◌*◌, ◌%◌, ◌<◌, ◌≤◌}
 use native.Mathlib.Numerals.{add-one}
 use native.Mathlib.Omega.{arith}
-use lib.ListN.{length, get_or, drop, length-append, drop_of_length-le}
+use lib.ListN.{length, get_or, drop, drop_of_length-le}
 use lib.Seq.{drop-cons}
 use borrow.Author.Tests.{leb-true}
 use Rattle.rules.specs.Lists.{gather}
-use Rattle.rules.specs.Cells.{empty, filled, is_height, stage_size}
+use Rattle.rules.specs.Cells.{filled, is_height, stage_size}
 use Rattle.rules.specs.Build.{Stage}
 use Rattle.rules.specs.Job.{bits_of}
 use Rattle.rules.specs.Coded.{cell_pin}
@@ -21,10 +21,10 @@ use Rattle.bits.proofs.Laws.Putting.{Left, left_all, left_step, left_none, put_t
 use Rattle.bits.proofs.Laws.Files.{put_padded}
 use Rattle.sheet_form.specs.Forms.{does, behind_pin, sheet_two}
 use Rattle.sheet_form.specs.Sheets.{cell_bits, cells_bits, stage_bits, stages_bits, sheet_bits, stage_fits, stages_fit}
-use Rattle.sheet_form.specs.Calls.{Areas, areas, stages_in, sheet_of}
+use Rattle.sheet_form.specs.Calls.{Areas, stages_in}
 use Rattle.sheet_form.proofs.Stages.{stage_fits_lem}
 use Rattle.sheet_form.proofs.Back.{Stand, stand_is, held_in}
-use Rattle.sheet_write.specs.Fits.{stage_with, Fitting}
+use Rattle.sheet_write.specs.Fits.{Fitting}
 use Rattle.sheet_write.specs.Sections.{file_bits, CellPut, CellsPut, StageTo, StagePut, StagesPut}
 use Rattle.sheet_write.proofs.Laws.Fits.{bits_step, bits_end, height_is, size_most, rest, here, Places, places_none, rest_all, rest_none, places_more, cells_there, words_there, cells_size, rest_next}
 

@@ -1,4 +1,5 @@
 -- Rule 11 after the others: the stage. Assumes nothing.
+use Rattle.std.specs.Prelude.{Ok}
 use mathlib.Core.Path.{◌≡◌, refl, ◌∙◌}
 use mathlib.Core.Bool.{Bool, true, false, ◌&&◌}
 use mathlib.Core.List.{List, [], ◌++◌}
@@ -25,7 +26,8 @@ use Rattle.stage_ending.proofs.Laws.Closed.{within_frame}
 use Rattle.stage.specs.Finish.{Changed, touched, Midway, LastingAt, Lasting, Ends}
 use Rattle.stage.proofs.Laws.Midway.{within_marks, tree_listed, waiting_order, counts, cells_within, need_waits}
 
-module _ {C : Context} {pl : List ℕ} {m K half o n at room : ℕ} {s : Spent} {pl2 w words : List ℕ} (A : LastingAt C pl m K half o n at room s pl2 w words) {k : Kept} {w1 words1 : List ℕ} (L : Lasting C pl m at room s pl2 w words k w1 words1) where
+module _ {C : Context} {pl : List ℕ} {m K half o n at room : ℕ} {s : Spent} {pl2 w words : List ℕ}
+    (A : LastingAt C pl m K half o n at room s pl2 w words) {k : Kept} {w1 words1 : List ℕ} (L : Lasting C pl m at room s pl2 w words k w1 words1) where
   abbrev M : Midway C pl m K half o n at room s pl2 w words
   M = A.mid
 
@@ -76,13 +78,13 @@ module _ {C : Context} {pl : List ℕ} {m K half o n at room : ℕ} {s : Spent} 
     }
 
     -- closed, it is the stage that the rules give
-    pub ended : (t : ℕ) → t ≡ get_or w1 (16 * m + FILLED) 0 → Ends C pl m at room s pl2 w words (record { number = 0; words = k.words; waiting = e; cells = t }) pl2 w2 words1
+    pub ended : (t : ℕ) → t ≡ get_or w1 (16 * m + FILLED) 0 → Ends C pl m at room s pl2 w words (Ok (record { words = k.words; waiting = e; cells = t })) pl2 w2 words1
     unfolding close
     ended t r = record {
       finished = record {
         changed = changed;
-        refuses = λ h. absurd (omega arith);
-        whole = λ h. record {
+        refuses = tt;
+        whole = record {
           ws = L.ws;
           left = swap_out_all L.real C.X.waiting;
           is = L.is;
@@ -97,7 +99,7 @@ module _ {C : Context} {pl : List ℕ} {m K half o n at room : ℕ} {s : Spent} 
           spare = D.spare;
           tail = D.tail;
         };
-        gone = λ h. rw order_is at (gone_frame L.frame D.gone (frame_none {fs = []}) refl refl refl refl refl refl);
+        gone = rw order_is at (gone_frame L.frame D.gone (frame_none {fs = []}) refl refl refl refl refl refl);
       };
-      longer = λ h. L.longer;
+      longer = L.longer;
     }

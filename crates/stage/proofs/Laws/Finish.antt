@@ -1,4 +1,5 @@
 -- Rules 8 and 9 with the tests, then the rest. Assumes nothing.
+use Rattle.std.specs.Prelude.{Result, Ok, Err}
 use mathlib.Core.Path.{◌≡◌, refl, sym, ap, ◌∙◌}
 use mathlib.Core.Logic.{inl, inr}
 use mathlib.Core.Bool.{Bool, true, false}
@@ -12,7 +13,7 @@ use lib.Seq.{take_all}
 use Rattle.stage_walk.proofs.Contexts.{work, low_mark}
 use Rattle.rules.specs.Cells.{is_height, level_one_size, filled, row, row_at}
 use Rattle.rules.specs.Placing.{needed_of}
-use Rattle.rules.specs.Ending.{put_rest, written, rest, finish}
+use Rattle.rules.specs.Ending.{put_rest, written, rest}
 use Rattle.rules.specs.Capacity.{crowd, ones_then, needs_left}
 use Rattle.rules.specs.Lists.{In, laid_at}
 use Rattle.rules.proofs.Needed.Needs.{need_listed}
@@ -37,11 +38,14 @@ use Rattle.stage_runs.proofs.Laws.Laid.{laid_length, laid_below, laid_past, laid
 use Rattle.stage_ending.specs.Rest.{RestAt, Filled}
 use Rattle.stage_ending.proofs.Laws.Close.{gone_frame}
 use Rattle.stage.specs.declared.finish.Outcome.{Outcome}
+use Rattle.stage.specs.declared.finish.Stopped.{Stopped}
+use Rattle.stage.specs.declared.finish.Stopped.TheVariants.{OverWords, NoCell}
 use Rattle.stage.specs.Finish.{FinishAt, Changed, touched, Finished, Midway, RestingAt, LastingAt, Ends}
 use Rattle.rules.specs.Traversal.{level_at}
 
 -- two changes that a stage may make are one
-pub changed_then : {fs : List ℕ} {to m at room : ℕ} {pl w words pl1 w1 words1 pl2 w2 words2 : List ℕ} → Changed fs to m at room pl w words pl1 w1 words1 → Changed fs to m at room pl1 w1 words1 pl2 w2 words2 → Changed fs to m at room pl w words pl2 w2 words2
+pub changed_then : {fs : List ℕ} {to m at room : ℕ} {pl w words pl1 w1 words1 pl2 w2 words2 : List ℕ} → Changed fs to m at room pl w words pl1 w1 words1 →
+    Changed fs to m at room pl1 w1 words1 pl2 w2 words2 → Changed fs to m at room pl w words pl2 w2 words2
 changed_then a b = record {
   frame = frame_then a.frame b.frame;
   past = λ j h. b.past j h ∙ a.past j h;
@@ -59,7 +63,12 @@ module _ {C : Context} {pl : List ℕ} {m K half o n q many at room : ℕ} {s : 
 
   -- after rule 8 the remaining needed pins may be placed
   pub rest_at : {r : ℕ} → r ≡ or_zero (is_height K) (level_one_size K) → RestAt C m r q gates pl1 w
-  rest_at e = record { stands = A.stands; row = half_is (omega (arith, M.height, C.low)) (omega (arith, M.height, C.high)) e ∙ rw M.height refl; needed = holds_self A.list; pins = rw A.list.is A.pins }
+  rest_at e = record {
+    stands = A.stands;
+    row = half_is (omega (arith, M.height, C.low)) (omega (arith, M.height, C.high)) e ∙ rw M.height refl;
+    needed = holds_self A.list;
+    pins = rw A.list.is A.pins;
+  }
 
   -- where rule 9 starts
   ones_then_lem : {ones : ℕ} → ones ≡ get_or w (16 * m + ONES) 0 → ones ≡ ones_then C.X pl
@@ -92,25 +101,21 @@ module _ {C : Context} {pl : List ℕ} {m K half o n q many at room : ℕ} {s : 
     fits = false_ltb room (length (written C.X pl).words) (omega (arith, M.fit, M.count))
 
     -- where test 8 fails the stage is refused with 8
-    pub ends_eight : {ones : ℕ} → ones ≡ get_or w (16 * m + ONES) 0 → b ≡ false → Ends C pl m at room s pl1 w words (record { number = 8; words = 0; waiting = many - ones; cells = ones }) pl2 w1 words
+    pub ends_eight : {ones : ℕ} → ones ≡ get_or w (16 * m + ONES) 0 → b ≡ false → Ends C pl m at room s pl1 w words (Err (NoCell ones (many - ones))) pl2 w1 words
     ends_eight d e = record {
       finished = record {
         changed = filling;
-        refuses = λ h. record {
+        refuses = record {
           is = elim (F.no e (written C.X pl).real M.realised.marks) [
             | inl d ↦ finish_full C.X room pl fits (sym rest_is ∙ d)
             | inr d ↦ finish_none C.X room pl fits pl2 (sym rest_is ∙ d.0) d.1
           ];
-          seven = λ z. absurd (omega arith);
-          ones = λ z. ones_then_lem d;
-          needs = λ z. omega (arith, ones_then_lem d, left_then, A.crowded);
-          few = omega arith;
-          small = omega (arith, A.few, ones_within d);
+          tells = (ones_then_lem d, omega (arith, ones_then_lem d, left_then, A.crowded), omega (arith, A.few, ones_within d));
         };
-        whole = λ h. absurd (omega arith);
-        gone = λ h. absurd (omega arith);
+        whole = tt;
+        gone = tt;
       };
-      longer = λ h. absurd (omega arith);
+      longer = tt;
     }
 
     -- where it passes rule 10 may follow
@@ -144,8 +149,20 @@ module _ {C : Context} {pl : List ℕ} {m K half o n q many at room : ℕ} {s : 
         }
 
     -- what follows rule 9 ends what began before it
-    pub ends_rest : {e : Outcome} {pl3 w2 words1 : List ℕ} → Ends C pl m at room s pl2 w1 words e pl3 w2 words1 → Ends C pl m at room s pl1 w words e pl3 w2 words1
-    ends_rest E = record { finished = record { changed = changed_then filling E.finished.changed; refuses = E.finished.refuses; whole = E.finished.whole; gone = λ z. gone_frame F.kept.frame (E.finished.gone z) (frame_none {fs = []}) refl refl refl refl refl refl }; longer = E.longer }
+    pub ends_rest : {e : Result Outcome Stopped} {pl3 w2 words1 : List ℕ} → Ends C pl m at room s pl2 w1 words e pl3 w2 words1 → Ends C pl m at room s pl1 w words e pl3 w2 words1
+    ends_rest {e = Ok o} E = record {
+      finished = record {
+        changed = changed_then filling E.finished.changed;
+        refuses = tt;
+        whole = E.finished.whole;
+        gone = gone_frame F.kept.frame E.finished.gone (frame_none {fs = []}) refl refl refl refl refl refl;
+      };
+      longer = E.longer;
+    }
+    ends_rest {e = Err z} E = record {
+      finished = record { changed = changed_then filling E.finished.changed; refuses = E.finished.refuses; whole = tt; gone = tt };
+      longer = tt;
+    }
 
 -- ---- rule 8 and test 7
 
@@ -191,12 +208,12 @@ module _ {C : Context} {m K half o n q : ℕ} {at room : ℕ} {gates pl w words 
     }
 
     -- more words than may be written: the stage is refused with 7
-    pub finished_seven : room < s.words → Finished C m at room pl pl w words (record { number = 7; words = s.words; waiting = 0; cells = 0 }) pl1 w1 words1
+    pub finished_seven : room < s.words → Finished C m at room pl pl w words (Err (OverWords s.words)) pl1 w1 words1
     finished_seven h = record {
       changed = running;
-      refuses = λ d. record { is = finish_seven C.X room pl (true_ltb room (length early) (omega (arith, R.count))); seven = λ z. R.count; ones = λ z. absurd (omega arith); needs = λ z. absurd (omega arith); few = R.few; small = omega arith };
-      whole = λ d. absurd (omega arith);
-      gone = λ d. absurd (omega arith);
+      refuses = record { is = finish_seven C.X room pl (true_ltb room (length early) (omega (arith, R.count))); tells = (R.count, R.few) };
+      whole = tt;
+      gone = tt;
     }
 
     module _ (h : s.words ≤ room) where
@@ -243,11 +260,11 @@ module _ {C : Context} {m K half o n q : ℕ} {at room : ℕ} {gates pl w words 
           }
 
       -- what follows rule 8 ends the stage
-      pub finished : {e : Outcome} {pl2 w2 words2 : List ℕ} → Ends C pl m at room s pl1 w1 words1 e pl2 w2 words2 → Finished C m at room pl pl w words e pl2 w2 words2
-      finished E = record {
+      pub finished : {e : Result Outcome Stopped} {pl2 w2 words2 : List ℕ} → Ends C pl m at room s pl1 w1 words1 e pl2 w2 words2 → Finished C m at room pl pl w words e pl2 w2 words2
+      finished {e = Ok o} E = record {
         changed = changed_then running E.finished.changed;
-        refuses = E.finished.refuses;
-        whole = λ z. let W = E.finished.whole z in
+        refuses = tt;
+        whole = let W = E.finished.whole in
             record {
               ws = W.ws;
               left = W.left;
@@ -255,7 +272,7 @@ module _ {C : Context} {m K half o n q : ℕ} {at room : ℕ} {gates pl w words 
               count = W.count;
               total = W.total;
               fit = W.fit;
-              wrote = W.wrote ∙ rw all_are (laid_over_lem at words W.ws early (omega (arith, W.fit, A.fits)) (omega (arith, E.longer z, W.count, R.count)));
+              wrote = W.wrote ∙ rw all_are (laid_over_lem at words W.ws early (omega (arith, W.fit, A.fits)) (omega (arith, E.longer, W.count, R.count)));
               done = W.done;
               waiting = W.waiting;
               cells = W.cells;
@@ -263,11 +280,13 @@ module _ {C : Context} {m K half o n q : ℕ} {at room : ℕ} {gates pl w words 
               spare = W.spare;
               tail = W.tail;
             };
-        gone = λ z. gone_frame R.touched.frame (E.finished.gone z) (frame_none {fs = []}) refl refl refl refl refl refl;
+        gone = gone_frame R.touched.frame E.finished.gone (frame_none {fs = []}) refl refl refl refl refl refl;
       }
+      finished {e = Err z} E = record { changed = changed_then running E.finished.changed; refuses = E.finished.refuses; whole = tt; gone = tt }
 
 -- the stage is the same where the room has another name
-pub finished_as : {C : Context} {m at room r : ℕ} {pl w words : List ℕ} {e : Outcome} {pl' w' words' : List ℕ} → r ≡ room → Finished C m at r pl pl w words e pl' w' words' → Finished C m at room pl pl w words e pl' w' words'
+pub finished_as : {C : Context} {m at room r : ℕ} {pl w words : List ℕ} {e : Result Outcome Stopped} {pl' w' words' : List ℕ} → r ≡ room →
+    Finished C m at r pl pl w words e pl' w' words' → Finished C m at room pl pl w words e pl' w' words'
 finished_as e F = rw (sym e) F
 
 -- what fits the room fits it by its other name

@@ -43,7 +43,15 @@ module _ {C : Context} {pl : List ℕ} {m K half o n at room : ℕ} {s : Spent} 
   -- where nothing is untouched rule 10 may be tried
   pub last_at : LastAt m K half n at room (record { real = s.real; words = s.words }) pl2 w words
   last_at = record {
-    up = record { area = M.area; pins = cells_pins C M.fair M.graph; clear = M.tail; size = rw M.height M.fair.len; low = omega (arith, M.height, C.low); high = omega (arith, M.height, C.high); row = M.row };
+    up = record {
+      area = M.area;
+      pins = cells_pins C M.fair M.graph;
+      clear = M.tail;
+      size = rw M.height M.fair.len;
+      low = omega (arith, M.height, C.low);
+      high = omega (arith, M.height, C.high);
+      row = M.row;
+    };
     waiting = holds_self M.waiting.held;
     real = marked_self M.realised;
     spent = M.fit;

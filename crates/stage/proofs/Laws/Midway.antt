@@ -138,7 +138,13 @@ module _ {C : Context} {pl : List ℕ} {m K half o n at room : ℕ} {s : Spent} 
 
     test : (c : ℕ) → c < m → is_end m w c ≡ mem c ends
     unfolding is_end in_tree
-    test c b = rw (placed_test A.waiting c b, unmarked A.realised.marks c b, unmarked A.needed c b, mem_keep (λ p. not (mem p (written C.X pl).real)) c (in_tree C.X pl), mem_keep (λ p. mem p (tree_of C.X pl)) c C.X.waiting)
+    test c b = rw (
+      placed_test A.waiting c b,
+      unmarked A.realised.marks c b,
+      unmarked A.needed c b,
+      mem_keep (λ p. not (mem p (written C.X pl).real)) c (in_tree C.X pl),
+      mem_keep (λ p. mem p (tree_of C.X pl)) c C.X.waiting,
+    )
         (split (mem c C.X.waiting)
         (λ i. rw (last_tree C.X pl last c i) (swapped (mem c C.X.waiting) (not (mem c (written C.X pl).real)) (mem c (tree_of C.X pl))))
         (λ e. rw e refl))

@@ -1,4 +1,8 @@
 -- Rules 1 to 11 in order: what each part leaves is what the next one finds. Assumes nothing.
+use Rattle.std.specs.Prelude.{Result, Ok, Err, IfOk}
+use Rattle.std.proofs.lemmas.Result.{IfOk-weaker, IfErr-weaker}
+use Rattle.stage_walk.specs.Stands.{Fresh}
+use Rattle.stage_ending.specs.Close.{Gone}
 use Prim.Native.Nat.{ℕ, ◌+◌, ◌*◌}
 use mathlib.Core.List.{List}
 use mathlib.Core.Path.{◌≡◌, refl, sym, ap, ◌∙◌}
@@ -19,6 +23,7 @@ use Rattle.stage_ending.proofs.Laws.Closed.{within_frame}
 use Rattle.stage_notes.specs.Notes.{stage_notes}
 use Rattle.stage_notes.proofs.Noting.{notes_same}
 use Rattle.stage.specs.declared.finish.Outcome.{Outcome}
+use Rattle.stage.specs.declared.finish.Stopped.{Stopped}
 use Rattle.stage_loop.specs.Filling.{FillAt, FilledTree}
 use Rattle.stage.specs.Finish.{FinishAt, Changed, Whole, Finished}
 use Rattle.stage.specs.Stage.{StageAt, columns, built, Staged}
@@ -69,7 +74,7 @@ module _ {C : Context} {m K half n : ℕ} {at room : ℕ} {gates pl w words : Li
         small = A.small;
       }
 
-      module _ {e : Outcome} {pl₂ w₃ words₁ : List ℕ} (E : Finished C m at room pl₁ pl₁ w₂ words e pl₂ w₃ words₁) where
+      module _ {e : Result Outcome Stopped} {pl₂ w₃ words₁ : List ℕ} (E : Finished C m at room pl₁ pl₁ w₂ words e pl₂ w₃ words₁) where
         -- behind these the lists may be forgotten
         pub stage_forget : ForgetAt m levels w₃
         stage_forget = forget_frame (forget_frame (forget_at P) F.kept.frame refl refl) E.changed.frame refl refl
@@ -88,9 +93,8 @@ module _ {C : Context} {m K half n : ℕ} {at room : ℕ} {gates pl w words : Li
             behind = E.changed.behind;
           }
 
-          stands : e.number ≡ 0 → Whole C m at room (built C room) words e pl₂ w₄ words₁
-          stands z =
-              let W = E.whole z in
+          stands : (o : Outcome) → Whole C m at room (finish C.X room pl₁) words o pl₂ w₃ words₁ → Whole C m at room (built C room) words o pl₂ w₄ words₁
+          stands o W =
               record {
                 ws = W.ws;
                 left = W.left;
@@ -107,19 +111,27 @@ module _ {C : Context} {m K half n : ℕ} {at room : ℕ} {gates pl w words : Li
                 tail = λ j h. G.frame.past refl (16 * m + j) (omega arith) ∙ W.tail j h;
               }
 
+          fresh_now : (o : Outcome) → Whole C m at room (finish C.X room pl₁) words o pl₂ w₃ words₁ → Gone m C.X.order w₂ w₃ → Fresh m w₄
+          fresh_now o W G₀ = record {
+            listed = clear_frame (zeroed_clear (within_frame F.kept.frame refl (omega arith) (record { zero = listed_outside P })) G₀.listed) G.frame refl (omega arith);
+            levels = clear_frame (zeroed_clear (within_frame F.kept.frame refl (omega arith) (record { zero = level_outside P })) G₀.levels) G.frame refl (omega arith);
+            reverse = clear_frame (zeroed_clear (within_frame F.kept.frame refl (omega arith) (record { zero = reverse_outside P })) G₀.reverse) G.frame refl (omega arith);
+            starts = G.starts;
+            ends = G.ends;
+            spare = clear_frame W.spare G.frame refl (omega arith);
+          }
+
+          fresh_then : (r : Result Outcome Stopped) → IfOk r (λ o. Whole C m at room (finish C.X room pl₁) words o pl₂ w₃ words₁) → IfOk r (λ o. Gone m C.X.order w₂ w₃) → IfOk r (λ o. Fresh m w₄)
+          fresh_then (Ok o) W G₀ = fresh_now o W G₀
+          fresh_then (Err z) W G₀ = tt
+
           -- together they are one stage, and the next one finds what this one found
           pub staged : Staged C m at room pl w words e pl₂ w₄ words₁
           staged = record {
             changed = changes;
-            told = notes_same m w₂ w₄ (λ j a b. G.frame.past refl (16 * m + j) (omega arith) ∙ E.changed.past j (omega arith)) ∙ F.told ∙ ap (stage_notes C.X) (notes_same m w w₁ (λ j a b. tail_prepared j));
-            refuses = λ h. let R = rw F.is at (E.refuses h) in record { is = sym (built_is C room) ∙ R.is; seven = R.seven; ones = R.ones; needs = R.needs; few = R.few; small = R.small };
-            whole = stands;
-            fresh = λ z. record {
-              listed = clear_frame (zeroed_clear (within_frame F.kept.frame refl (omega arith) (record { zero = listed_outside P })) (E.gone z).listed) G.frame refl (omega arith);
-              levels = clear_frame (zeroed_clear (within_frame F.kept.frame refl (omega arith) (record { zero = level_outside P })) (E.gone z).levels) G.frame refl (omega arith);
-              reverse = clear_frame (zeroed_clear (within_frame F.kept.frame refl (omega arith) (record { zero = reverse_outside P })) (E.gone z).reverse) G.frame refl (omega arith);
-              starts = G.starts;
-              ends = G.ends;
-              spare = clear_frame (E.whole z).spare G.frame refl (omega arith);
-            };
+            told = notes_same m w₂ w₄ (λ j a b. G.frame.past refl (16 * m + j) (omega arith) ∙ E.changed.past j (omega arith)) ∙ F.told ∙
+                ap (stage_notes C.X) (notes_same m w w₁ (λ j a b. tail_prepared j));
+            refuses = IfErr-weaker e _ _ (λ s d. let R = rw F.is at d in record { is = sym (built_is C room) ∙ R.is; tells = R.tells }) E.refuses;
+            whole = IfOk-weaker e _ _ stands E.whole;
+            fresh = fresh_then e E.whole E.gone;
           }

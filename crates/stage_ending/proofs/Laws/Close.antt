@@ -8,7 +8,7 @@ use native.Mathlib.Decide.{ℕ_discrete}
 use native.Mathlib.Numerals.{add-one}
 use lib.Dec.{eqb}
 use lib.ListN.{length, get_or, set, take, drop, length-take, take-append-drop}
-use lib.Seq.{take-suc, take_all, get_or-take}
+use lib.Seq.{take-suc, get_or-take}
 use borrow.Author.Tests.{eq-eqb, ne_eqb}
 use Rattle.rules.specs.Lists.{mem, keep, insert_all, swap_out, swap_out_all, In, Out, Once, nobody, one}
 use Rattle.rules.proofs.Lists.Members.{split, in_get_or, get_or_in, true_false, in_append_left, keep_append, insert_all-append}
@@ -22,7 +22,7 @@ use Rattle.columns.proofs.Lists.Entries.{holds_at}
 use Rattle.columns.proofs.Lists.Marks.{enlist_at}
 use Rattle.columns.proofs.Lists.Places.{swap_out_at, swapped}
 use Rattle.columns.proofs.Lists.Swap.{once_place}
-use Rattle.stage_ending.specs.Close.{either, PinAt, Within, Zeroed, Wiped, Retired, Gone, Unlisted, Swept, RetireAt, LeaveAt, Leaving, Left, is_tree, OneAt, One, RealiseAt, Realising, Realised}
+use Rattle.stage_ending.specs.Close.{either, PinAt, Within, Zeroed, Wiped, Retired, Gone, Unlisted, Swept, RetireAt, LeaveAt, Leaving, is_tree, OneAt, One, RealiseAt, Realising}
 
 -- ---- lists
 
@@ -91,8 +91,13 @@ pub zeroed_clear : {f m : ℕ} {xs w w' : List ℕ} → Within f m xs w → Zero
 zeroed_clear {f} {m} {xs} {w} A Z = record { zero = λ p h. Z.field p h ∙ split (mem p xs) (λ e. rw e refl) (λ e. rw e (A.zero p h e)) }
 
 -- what the walks wrote goes, whatever happens to other columns before and after
-pub gone_frame : {m : ℕ} {fs gs xs t u v w : List ℕ} → Frame fs m t u → Gone m xs u v → Frame gs m v w → among fs LISTED ≡ false → among fs LEVEL ≡ false → among fs REVERSE ≡ false → among gs LISTED ≡ false → among gs LEVEL ≡ false → among gs REVERSE ≡ false → Gone m xs t w
-gone_frame F Z G a b c d e f = record { listed = zeroed_frame F Z.listed G a d (omega arith); levels = zeroed_frame F Z.levels G b e (omega arith); reverse = zeroed_frame F Z.reverse G c f (omega arith) }
+pub gone_frame : {m : ℕ} {fs gs xs t u v w : List ℕ} → Frame fs m t u → Gone m xs u v → Frame gs m v w → among fs LISTED ≡ false → among fs LEVEL ≡ false → among fs REVERSE ≡ false →
+    among gs LISTED ≡ false → among gs LEVEL ≡ false → among gs REVERSE ≡ false → Gone m xs t w
+gone_frame F Z G a b c d e f = record {
+  listed = zeroed_frame F Z.listed G a d (omega arith);
+  levels = zeroed_frame F Z.levels G b e (omega arith);
+  reverse = zeroed_frame F Z.reverse G c f (omega arith);
+}
 
 gone_then : {m : ℕ} {xs ys u v w : List ℕ} → Gone m xs u v → Gone m ys v w → Gone m (xs ++ ys) u w
 gone_then a b = record { listed = zeroed_then a.listed b.listed; levels = zeroed_then a.levels b.levels; reverse = zeroed_then a.reverse b.reverse }
@@ -102,7 +107,14 @@ gone_then a b = record { listed = zeroed_then a.listed b.listed; levels = zeroed
 -- no pin swept changes nothing
 pub swept_none : {m : ℕ} {w : List ℕ} → Swept m [] w w
 unfolding mem
-swept_none = record { frame = frame_none; done = λ p h. refl; cells = zeroed_none; marks = zeroed_none; spare = zeroed_none; gone = record { listed = zeroed_none; levels = zeroed_none; reverse = zeroed_none } }
+swept_none = record {
+  frame = frame_none;
+  done = λ p h. refl;
+  cells = zeroed_none;
+  marks = zeroed_none;
+  spare = zeroed_none;
+  gone = record { listed = zeroed_none; levels = zeroed_none; reverse = zeroed_none };
+}
 
 mixed : (d c : ℕ) (x y : Bool) → either (y && not (eqb (either x 0 c) 0)) 1 (either (x && not (eqb c 0)) 1 d) ≡ either ((x || y) && not (eqb c 0)) 1 d
 mixed d c true true = refl
@@ -140,9 +152,17 @@ module _ {m p : ℕ} {w : List ℕ} (a : PinAt m p w) where
       let F₃ : Frame (SPARE ∷ []) m w₂ w₃ = rw e₃ (frame_set SPARE p 0 a.pin (omega arith) refl) in
       record {
         frame = frame_then (frame_more refl F₁) (frame_then (frame_more refl F₂) (frame_more refl F₃));
-        cells = zeroed_frame {fs = []} frame_none (rw e₁ (zeroed_set CELLS p a.pin (omega (arith, a.area.room)))) (frame_then (frame_more {gs = MARK ∷ SPARE ∷ []} refl F₂) (frame_more refl F₃)) refl refl (omega arith);
+        cells = zeroed_frame {fs = []} frame_none (rw e₁ (zeroed_set CELLS p a.pin (omega (
+          arith,
+          a.area.room,
+        )))) (frame_then (frame_more {gs = MARK ∷ SPARE ∷ []} refl F₂) (frame_more refl F₃)) refl refl (omega arith);
         marks = zeroed_frame F₁ (rw e₂ (zeroed_set MARK p a.pin (omega (arith, a.area.room, F₁.len)))) F₃ refl refl (omega arith);
-        spare = zeroed_frame (frame_then (frame_more {gs = CELLS ∷ MARK ∷ []} refl F₁) (frame_more refl F₂)) (rw e₃ (zeroed_set SPARE p a.pin (omega (arith, a.area.room, F₁.len, F₂.len)))) (frame_none {fs = []}) refl refl (omega arith);
+        spare = zeroed_frame (frame_then (frame_more {gs = CELLS ∷ MARK ∷ []} refl F₁) (frame_more refl F₂)) (rw e₃ (zeroed_set SPARE p a.pin (omega (
+          arith,
+          a.area.room,
+          F₁.len,
+          F₂.len,
+        )))) (frame_none {fs = []}) refl refl (omega arith);
       }
 
   -- three more take its listing and its levels
@@ -154,9 +174,17 @@ module _ {m p : ℕ} {w : List ℕ} (a : PinAt m p w) where
       record {
         frame = frame_then (frame_more refl F₁) (frame_then (frame_more refl F₂) (frame_more refl F₃));
         gone = record {
-          listed = zeroed_frame {fs = []} frame_none (rw e₁ (zeroed_set LISTED p a.pin (omega (arith, a.area.room)))) (frame_then (frame_more {gs = LEVEL ∷ REVERSE ∷ []} refl F₂) (frame_more refl F₃)) refl refl (omega arith);
+          listed = zeroed_frame {fs = []} frame_none (rw e₁ (zeroed_set LISTED p a.pin (omega (
+            arith,
+            a.area.room,
+          )))) (frame_then (frame_more {gs = LEVEL ∷ REVERSE ∷ []} refl F₂) (frame_more refl F₃)) refl refl (omega arith);
           levels = zeroed_frame F₁ (rw e₂ (zeroed_set LEVEL p a.pin (omega (arith, a.area.room, F₁.len)))) F₃ refl refl (omega arith);
-          reverse = zeroed_frame (frame_then (frame_more {gs = LISTED ∷ LEVEL ∷ []} refl F₁) (frame_more refl F₂)) (rw e₃ (zeroed_set REVERSE p a.pin (omega (arith, a.area.room, F₁.len, F₂.len)))) (frame_none {fs = []}) refl refl (omega arith);
+          reverse = zeroed_frame (frame_then (frame_more {gs = LISTED ∷ LEVEL ∷ []} refl F₁) (frame_more refl F₂)) (rw e₃ (zeroed_set REVERSE p a.pin (omega (
+            arith,
+            a.area.room,
+            F₁.len,
+            F₂.len,
+          )))) (frame_none {fs = []}) refl refl (omega arith);
         };
       }
 
@@ -207,10 +235,6 @@ module _ {m k i : ℕ} {w w₁ : List ℕ} (a : RetireAt m k w) (R : Swept m (ta
   pub swept_more : (p : ℕ) → p ≡ get_or w₁ (ORDER * m + i) 0 → {w₂ w₃ : List ℕ} → Retired m (p ∷ []) w₁ w₂ → Unlisted m (p ∷ []) w₂ w₃ → Swept m (take (i + 1) (list ORDER m k w)) w w₃
   swept_more p e S T = rw (next (list ORDER m k w) i k a.order.count h, ← order_is, ← e) (swept_then R (swept_both S T))
 
--- all pins of the order are swept
-pub swept_done : {m k i : ℕ} {w w₁ : List ℕ} → RetireAt m k w → Swept m (take i (list ORDER m k w)) w w₁ → i ≤ k → k ≤ i → Swept m (list ORDER m k w) w w₁
-swept_done {m} {k} {i} {w} {w₁} a R b c = let t : take i (list ORDER m k w) ≡ list ORDER m k w = take_all i (list ORDER m k w) (omega (arith, a.order.count)) in rw t at R
-
 -- ---- realised endpoints leave
 
 -- at the first realised endpoint none has left
@@ -239,7 +263,10 @@ module _ {m n r i : ℕ} {w w₁ : List ℕ} {e : ℕ} (a : LeaveAt m n r w) (L 
   leave_at p d =
       let q : p ≡ get_or rs i 0 = d ∙ real_is in
       swap_out_at L.now (frame_room L.frame a.area)
-      (rw q (left_out (once_take i a.real.once) (list WAITING m n w) (λ x j. a.waits x (take_in i rs x j)) (get_or rs i 0) (a.waits (get_or rs i 0) (in_get_or rs i 0 (omega (arith, a.real.held.count)))) fresh))
+      (rw q (left_out (once_take i a.real.once) (list WAITING m n w) (λ x j. a.waits x (take_in i rs x j)) (get_or rs i 0) (a.waits (get_or rs i 0) (in_get_or rs i 0 (omega (
+        arith,
+        a.real.held.count,
+      )))) fresh))
 
   -- one more realised endpoint has left the waiting list
   pub leaving_more : (p : ℕ) → p ≡ get_or w₁ (STACK * m + i) 0 → {w₂ : List ℕ} {e₂ : ℕ} → Swapped m e p w₁ w₂ e₂ → Leaving m n r (i + 1) w w₂ e₂
@@ -248,10 +275,6 @@ module _ {m n r i : ℕ} {w w₁ : List ℕ} {e : ℕ} (a : LeaveAt m n r w) (L 
     frame = frame_then L.frame S.frame;
     now = rw (next rs i r a.real.held.count h, swap_out_all-append, swap_one, ← real_is, ← d) (swapped L.now S);
   }
-
--- all realised endpoints have left it
-pub leaving_done : {m n r i : ℕ} {w w₁ : List ℕ} {e : ℕ} → LeaveAt m n r w → Leaving m n r i w w₁ e → r ≤ i → Left m n r w w₁ e
-leaving_done {m} {n} {r} {i} {w} a L h = let t : take i (list STACK m r w) ≡ list STACK m r w = take_all i (list STACK m r w) (omega (arith, a.real.held.count)) in record { frame = L.frame; now = rw t at L.now }
 
 -- ---- tree endpoints are realised
 
@@ -291,13 +314,12 @@ module _ {m n r i : ℕ} {w w₁ : List ℕ} {e : ℕ} (a : RealiseAt m n r w) (
   unfolding keep is_tree
   realising_more p d O =
       let q : p ≡ get_or ws i 0 = d ∙ waiting_is in
-      let k : keep (is_tree m w₁) (p ∷ []) ≡ keep (is_tree m w) (get_or ws i 0 ∷ []) = rw (keep, R.frame.cell SPARE refl (omega arith) p (rw (d, waiting_is) (a.waiting.pins i h))) (ap (λ (x : ℕ). keep (is_tree m w) (x ∷ [])) q) in
+      let k : keep (is_tree m w₁) (p ∷ []) ≡ keep (is_tree m w) (get_or ws i 0 ∷ []) = rw (
+        keep,
+        R.frame.cell SPARE refl (omega arith) p (rw (d, waiting_is) (a.waiting.pins i h)),
+      ) (ap (λ (x : ℕ). keep (is_tree m w) (x ∷ [])) q) in
       record {
         upto = omega arith;
         frame = frame_then R.frame O.frame;
         real = rw (next ws i n a.waiting.count h, keep_append, insert_all-append, ← k, ← R.real.held.is) O.real;
       }
-
--- all tree endpoints are realised
-pub realising_done : {m n r i : ℕ} {w w₁ : List ℕ} {e : ℕ} → RealiseAt m n r w → Realising m n r i w w₁ e → n ≤ i → Realised m n r w w₁ e
-realising_done {m} {n} {r} {i} {w} a R h = let t : take i (list WAITING m n w) ≡ list WAITING m n w = take_all i (list WAITING m n w) (omega (arith, a.waiting.count)) in record { frame = R.frame; real = rw t at R.real }

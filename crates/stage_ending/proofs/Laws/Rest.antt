@@ -1,7 +1,7 @@
 -- Rule 9 pin by pin. Assumes nothing.
 use mathlib.Core.Path.{◌≡◌, refl, sym, ap, ◌∙◌}
 use mathlib.Core.Bool.{Bool, true, false, not, ◌||◌}
-use mathlib.Core.List.{List, [], ◌∷◌}
+use mathlib.Core.List.{List, ◌∷◌}
 use Prim.Native.Nat.{ℕ, ◌+◌, ◌*◌, ◌<◌, ◌≤◌}
 use native.Mathlib.Omega.{arith}
 use native.Mathlib.Numerals.{add-one}
@@ -10,7 +10,7 @@ use lib.ListN.{length, get_or}
 use Rattle.rules.specs.Lists.{found, mem}
 use Rattle.rules.specs.Cells.{row_at, row, first_empty}
 use Rattle.rules.specs.Placing.{tree, cell_at, placed}
-use Rattle.rules.specs.Ending.{plan, put_rest}
+use Rattle.rules.specs.Ending.{put_rest}
 use Rattle.rules.proofs.Stage.Staged.{two_step, half_height}
 use Rattle.rules.proofs.Stage.Branches.{rest_skip, rest_full, rest_put}
 use Rattle.rules.specs.Inside.Plans.{Placeable}

@@ -104,10 +104,6 @@ module _ {m n p : ℕ} {ws pl w : List ℕ} (a : CellAt m n p ws pl w) where
     unfolding filled empty
     full = rw (same, ne_eqb (get_or pl p 0) 4294967295 ne) refl
 
-    -- what stands in a filled cell is a pin of the area
-    pub cell_pin_lem : get_or pl p 0 < m
-    cell_pin_lem = a.pins.pin p a.cell ne
-
     -- a cell of another pin adds no word
     pub cell_not : is_end m w (get_or pl p 0) ≡ false → Celled m p ws pl w w n
     unfolding words_at

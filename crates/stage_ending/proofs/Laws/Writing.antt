@@ -17,10 +17,6 @@ use Rattle.stage_ending.proofs.Laws.Words.{kept_none, kept_then, kept_set}
 -- ---- one word
 
 module _ {m at j : ℕ} {words w : List ℕ} (a : OneAt m at j words w) where
-  -- a word that was not collected is not written
-  pub one_none : get_or w (16 * m + j) 0 ≡ 0 → One m at j words w words w
-  one_none z = record { kept = kept_none; gone = z; other = λ i d. refl; len = refl; here = λ h. absurd (omega arith); there = λ i h. refl }
-
   -- a word that was collected is written at its place, and its number goes
   pub one_some : (k : ℕ) → k ≡ get_or w (16 * m + j) 0 → (k ≡ 0 → ⊥) → (words' w' : List ℕ) → words' ≡ set words (at + k - 1) j → w' ≡ set w (16 * m + j) 0 → One m at j words w words' w'
   one_some k e ne words' w' f g =

@@ -23,7 +23,7 @@ use Rattle.columns.proofs.Lists.Entries.{holds_frame, holds_self, holds_at, hold
 use Rattle.columns.proofs.Lists.Clears.{clear_col}
 use Rattle.stage_walk.specs.Stands.{Context}
 use Rattle.stage_levels.specs.Levels.{Along, Becomes, WaitsAt, LiftAt, LowerAt, Lowered, ReverseAt}
-use Rattle.stage_walk.proofs.Gates.{none_of, both_of}
+use Rattle.stage_walk.proofs.Gates.{both_of}
 use Rattle.stage_walk.proofs.traversal.Loops.{begun_reads}
 use Rattle.stage_levels.proofs.Laws.Order.{before, before_next, before_all_lem}
 use Rattle.stage_levels.proofs.Laws.Rising.{along_frame}
@@ -83,26 +83,27 @@ module _ {C : Context} {m p : ℕ} {gates w : List ℕ} (A : LiftAt C m p gates 
   pub lifted_none : r ≡ 0 → Becomes REVERSE m w w (lift C.X.g C.X.done p rl)
   lifted_none z = stays (lift_none C.X.g C.X.done p rl (here ∙ z))
 
-  module _ (ne : r ≡ 0 → ⊥) (a : ℕ) (ea : a ≡ get_or (below C.X.g C.X.done p) 0 m) where
+  module _ (ne : r ≡ 0 → ⊥) where
     -- a pin from which nothing is followed hands nothing down either
-    pub lifted_leaf : a ≡ m → Becomes REVERSE m w w (lift C.X.g C.X.done p rl)
+    pub lifted_leaf : below C.X.g C.X.done p ≡ [] → Becomes REVERSE m w w (lift C.X.g C.X.done p rl)
     unfolding raise
-    lifted_leaf z = stays (lift_some C.X.g C.X.done p rl r here ne ∙ rw (none_of C A.reads p a ea z))
+    lifted_leaf z = stays (lift_some C.X.g C.X.done p rl r here ne ∙ rw z)
 
-    module _ (na : a ≡ m → ⊥) (b : ℕ) (eb : b ≡ get_or (below C.X.g C.X.done p) 1 m) where
+    module _ (a b : ℕ) (e : below C.X.g C.X.done p ≡ a ∷ b ∷ []) where
       -- the two pins followed are pins of the area
       pub lift_pins : (a < m) × (b < m)
-      lift_pins = let t = both_of C A.reads p a b ea na eb in (t.in_first, t.in_second)
+      lift_pins = let t = both_of C A.reads p a b e in (t.in_first, t.in_second)
 
       -- two stores hand a reverse level down to both
-      pub lifted_both : (w₁ w₂ : List ℕ) → w₁ ≡ set w (REVERSE * m + a) (max (r + 1) (get_or w (REVERSE * m + a) 0)) → w₂ ≡ set w₁ (REVERSE * m + b) (max (r + 1) (get_or w₁ (REVERSE * m + b) 0)) → Becomes REVERSE m w w₂ (lift C.X.g C.X.done p rl)
+      pub lifted_both : (w₁ w₂ : List ℕ) → w₁ ≡ set w (REVERSE * m + a) (max (r + 1) (get_or w (REVERSE * m + a) 0)) →
+          w₂ ≡ set w₁ (REVERSE * m + b) (max (r + 1) (get_or w₁ (REVERSE * m + b) 0)) → Becomes REVERSE m w w₂ (lift C.X.g C.X.done p rl)
       unfolding raise
       lifted_both w₁ w₂ e₁ e₂ =
           let B₁ = raised (r + 1) A.reads.base.area lift_pins.0 w₁ e₁ in
           let B₂ = raised (r + 1) (frame_room B₁.frame A.reads.base.area) lift_pins.1 w₂ e₂ in
           record {
             frame = frame_then B₁.frame B₂.frame;
-            is = B₂.is ∙ rw (B₁.is, lift_some C.X.g C.X.done p rl r here ne, (both_of C A.reads p a b ea na eb).is);
+            is = B₂.is ∙ rw (B₁.is, lift_some C.X.g C.X.done p rl r here ne, e);
           }
 
 -- ---- the waiting pins
@@ -113,10 +114,6 @@ pub record Raised (m n i : ℕ) (w₀ w : List ℕ) : Type 0 where
   pub same : raise 1 (drop i (list WAITING m n w₀)) (col REVERSE m w) ≡ raise 1 (list WAITING m n w₀) (col REVERSE m w₀)
 
 module _ {m n : ℕ} {w₀ : List ℕ} (A : WaitsAt m n w₀) where
-  -- at the start no waiting pin is raised
-  pub raised_none : Raised m n 0 w₀ w₀
-  raised_none = record { frame = frame_none; same = refl }
-
   module _ {i : ℕ} {w : List ℕ} (U : Raised m n i w₀ w) where
     -- at the end all waiting pins are raised
     pub raised_end : n ≤ i → Becomes REVERSE m w₀ w (raise 1 (list WAITING m n w₀) (col REVERSE m w₀))

@@ -24,7 +24,8 @@ pub topo_next : (g : List Node) (done : List ℕ) {p : ℕ} {s : List ℕ} → T
 topo_next g done (more o h t) = h
 
 -- levels are below the number of pins
-pub levels_few : (g : List Node) (done : List ℕ) (r : ℕ → ℕ) → Ranked g done r → {s : List ℕ} → Topo g done s → ((p : ℕ) → In p s → p < length g) → (q : ℕ) → In q s → get_or (levels g done s) q 0 < length s
+pub levels_few : (g : List Node) (done : List ℕ) (r : ℕ → ℕ) → Ranked g done r → {s : List ℕ} → Topo g done s → ((p : ℕ) → In p s → p < length g) → (q : ℕ) → In q s →
+    get_or (levels g done s) q 0 < length s
 unfolding levels
 levels_few g done r k none b q e = in_nil q e
 levels_few g done r k (more {p = p} {s = s} o c t) b q e =

@@ -20,11 +20,12 @@ use Rattle.columns.proofs.Lists.Entries.{holds_frame, holds_at, holds_pin}
 use Rattle.columns.proofs.Lists.Clears.{clear_col}
 use Rattle.stage_walk.specs.Stands.{Context}
 use Rattle.stage_levels.specs.Levels.{Along, LevelAt, LevelsAt, Risen, Levels}
-use Rattle.stage_walk.proofs.Gates.{follow_pin, reads_frame, none_of, both_of}
+use Rattle.stage_walk.proofs.Gates.{follow_pin, reads_frame, both_of}
 use Rattle.stage_levels.proofs.Laws.Order.{topo_next, levels_few, before, before_next, before_all_lem, before_topo, before_seen, before_pin, before_length, lv_is}
 
 -- order and marks stay where their columns are not named
-pub along_frame : {C : Context} {m k : ℕ} {gates w : List ℕ} → Along C m k gates w → {fs : List ℕ} {w' : List ℕ} → Frame fs m w w' → among fs DONE ≡ false → among fs ORDER ≡ false → Along C m k gates w'
+pub along_frame : {C : Context} {m k : ℕ} {gates w : List ℕ} → Along C m k gates w → {fs : List ℕ} {w' : List ℕ} → Frame fs m w w' → among fs DONE ≡ false → among fs ORDER ≡ false →
+    Along C m k gates w'
 along_frame {C} A fr d e = record { reads = reads_frame C A.reads fr d; ordered = record { order = holds_frame A.ordered.order fr e (omega arith) } }
 
 greatest_last : (xs : List ℕ) (x n : ℕ) → greatest (xs ++ (x ∷ [])) n ≡ max x (greatest xs n)
@@ -34,24 +35,24 @@ greatest_last (y ∷ xs) x n = greatest_last xs x (max y n)
 
 -- ---- one pin
 
-module _ {C : Context} {m p : ℕ} {gates w : List ℕ} (A : LevelAt C m p gates w) (a : ℕ) (ea : a ≡ get_or (below C.X.g C.X.done p) 0 m) where
+module _ {C : Context} {m p : ℕ} {gates w : List ℕ} (A : LevelAt C m p gates w) where
   abbrev level : ℕ → ℕ
   level q = get_or w (LEVEL * m + q) 0
 
   -- a pin from which nothing is followed has level 0
-  pub level_none : a ≡ m → 0 ≡ over level (below C.X.g C.X.done p)
+  pub level_none : below C.X.g C.X.done p ≡ [] → 0 ≡ over level (below C.X.g C.X.done p)
   unfolding over
-  level_none e = rw (none_of C A.reads p a ea e)
+  level_none e = rw e
 
-  module _ (ne : a ≡ m → ⊥) (b : ℕ) (eb : b ≡ get_or (below C.X.g C.X.done p) 1 m) where
+  module _ (a b : ℕ) (e : below C.X.g C.X.done p ≡ a ∷ b ∷ []) where
     -- the two pins followed and their levels are within the area's numbers
     pub level_low : (a < m) × (b < m) × (level a < m) × (level b < m)
-    level_low = let t = both_of C A.reads p a b ea ne eb in (t.in_first, t.in_second, A.low a t.first, A.low b t.second)
+    level_low = let t = both_of C A.reads p a b e in (t.in_first, t.in_second, A.low a t.first, A.low b t.second)
 
     -- with two, the level is one more than the greater
     pub level_both : (v : ℕ) → v ≡ max (level a) (level b) → v + 1 ≡ over level (below C.X.g C.X.done p)
     unfolding over
-    level_both v e = rw (both_of C A.reads p a b ea ne eb).is (omega arith)
+    level_both v ev = rw e (omega arith)
 
 -- ---- all
 
@@ -113,8 +114,10 @@ module _ {C : Context} {m k : ℕ} {gates w₀ : List ℕ} (A : LevelsAt C m k g
 
       final : v ≡ level_at C.X p
       final =
-          let t : get_or (levels C.X.g C.X.done (p ∷ before C i)) p 0 ≡ v = rw stored (get_or-set_same (levels C.X.g C.X.done (before C i)) p v 0 (rw (length_levels C.X.g C.X.done C.r C.S.ranked (before C i)) (rw along.reads.base.size pin))) in
-          sym t ∙ levels_good C.X.g C.X.done C.r C.S.ranked (rw next at (before_topo C (suc i))) (λ x d. before_pin C (suc i) x (rw next d)) (length C.X.g) p (in_here p (before C i)) (C.S.fuel p listed)
+          let t : get_or (levels C.X.g C.X.done (p ∷ before C i)) p 0 ≡ v = rw stored
+          (get_or-set_same (levels C.X.g C.X.done (before C i)) p v 0 (rw (length_levels C.X.g C.X.done C.r C.S.ranked (before C i)) (rw along.reads.base.size pin))) in
+          sym t ∙ levels_good C.X.g C.X.done C.r C.S.ranked (rw next at (before_topo C (suc i))) (λ x d. before_pin C (suc i) x (rw next d)) (length C.X.g) p (in_here p (before C i))
+          (C.S.fuel p listed)
           ∙ sym (C.S.level p listed)
 
       -- one store gives the next pin its level

@@ -8,6 +8,3 @@ use Rattle.stage_levels.proofs.lower.Given as goal
 
 abbrev pub invariant-loop-i : goal.invariant-loop-i
 invariant-loop-i l = Every (λ C. LowerAt C l.m l.k l.gates l.initial.work) (λ C. Lowered C l.m l.k l.i l.initial.work l.work) × (l.i ≤ l.k) × (length l.work ≡ length l.initial.work)
-
-abbrev pub decreases-loop-i : goal.decreases-loop-i
-decreases-loop-i l = l.i

@@ -1,9 +1,6 @@
 -- `stage_levels::reverse_levels` meets its contract: no pin has a reverse level at first. Assumes nothing.
-use Rattle.stage_levels.proofs.Laws.Lifting.{start_at, lower_at, reversed}
+use Rattle.stage_levels.proofs.Laws.Lifting.{lower_at, reversed}
 use Rattle.stage_levels.proofs.reverse_levels.Goals as goal
-
-pub start-requires : goal.start-requires
-start-requires c = start_at c.requires.at
 
 pub lower-requires : goal.lower-requires
 lower-requires c = let s = c.requires in record { it = s.it; at = lower_at s.at _ c.start.ensures }

@@ -174,7 +174,10 @@ module _ {C : Context} {m n k top K : ℕ} {gates pl w : List ℕ} (A : FillAt C
   -- below level 2 nothing is placed
   pub filled_none : {h q : ℕ} {w2 : List ℕ} → h ≡ min top K → h < 2 → Needed C pl m w w2 q → FilledTree C m gates pl w q pl w2
   unfolding lean_plan stage_notes
-  filled_none {h} e l = listed (rw (← level_is e, ← A.first) (sym (lean_low C.X h (length (wanted C.X pl)) pl l))) (rw (← level_is e, ← A.first) (sym (notes_low C.X h (length (wanted C.X pl)) pl (notes m w) l))) (moved_changed (moved_none m w)) (stands 1).tally
+  filled_none {h} e l = listed (rw (← level_is e, ← A.first) (sym (lean_low C.X h (length (wanted C.X pl)) pl l))) (rw (
+    ← level_is e,
+    ← A.first,
+  ) (sym (notes_low C.X h (length (wanted C.X pl)) pl (notes m w) l))) (moved_changed (moved_none m w)) (stands 1).tally
 
   module _ {s : ℕ} {pl1 w1 : List ℕ} (G : Grown C m w s pl1 w1) where
     -- the needed pins of the plan may be listed by the noted pins

@@ -19,7 +19,7 @@ use Rattle.stage_walk.proofs.Contexts.{work}
 use Rattle.stage_notes.specs.Notes.{notes}
 use Rattle.stage_notes.proofs.Turns.{notes_level, notes_low}
 use Rattle.stage_loop.specs.Loop.{At, Ended, LeanAt, Leaned, Leaning}
-use Rattle.stage_loop.proofs.Laws.Tries.{moved_none, moved_then, noted_kept, clear_kept}
+use Rattle.stage_loop.proofs.Laws.Tries.{moved_then, noted_kept, clear_kept}
 
 -- ---- the loop over levels
 lean_one : (X : Setting) (b : ℕ) (pl : List ℕ) (l : ℕ) → l ≡ 0 → lean X (suc l) b pl ≡ pl
@@ -35,10 +35,6 @@ unfolding row_at
 row_up K l a b = let z : K - suc (l - 1) ≡ suc (K - suc l) = omega arith in rw (z, pow-succ' 2 (K - suc l)) refl
 
 module _ {C : Context} {m n k l wd half : ℕ} {gates pl w : List ℕ} {b : ℕ} (A : LeanAt C m n k l wd half gates pl w b) where
-  -- before the first level the loop stands at its start
-  pub leaning_none : Leaning C m n k l wd half gates pl w b l pl w b
-  leaning_none = record { same = refl; told = refl; kept = moved_none m w; at = A }
-
   -- the level's row stands in the stage
   pub lean_width : wd + wd ≤ length pl
   lean_width = omega (arith, A.wide.row, rows C.X.K (suc l) A.wide.high, two_step C.X.K, A.plan.fair.len, wide (row_at C.X.K (suc l)) (suc l))
@@ -88,7 +84,8 @@ pub leaning_then : {C : Context} {m n k top wd half : ℕ} {gates pl w : List �
 leaning_then a c = record { same = a.same ∙ c.same; told = a.told ∙ c.told; kept = moved_then a.kept c.kept; at = c.at }
 
 -- below level 2 the loop has ended
-pub leaned : {C : Context} {m n k top wd half : ℕ} {gates pl w : List ℕ} {most l : ℕ} {pl' w' : List ℕ} {b : ℕ} → Leaning C m n k top wd half gates pl w most l pl' w' b → l ≡ 0 → Leaned C m top pl w most pl' w'
+pub leaned : {C : Context} {m n k top wd half : ℕ} {gates pl w : List ℕ} {most l : ℕ} {pl' w' : List ℕ} {b : ℕ} → Leaning C m n k top wd half gates pl w most l pl' w' b → l ≡ 0 →
+    Leaned C m top pl w most pl' w'
 leaned {C} {m} {l = l} {pl' = pl'} {w' = w'} {b = b} L z = record {
   same = sym (L.same ∙ lean_one C.X b pl' l z);
   told = sym (L.told ∙ notes_low C.X (suc l) b pl' (notes m w') (omega arith));

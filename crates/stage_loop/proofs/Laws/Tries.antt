@@ -32,7 +32,8 @@ use Rattle.stage_tree.proofs.Counts.Kept.{tally_frame, counts as counts_of_lem}
 use Rattle.stage_notes.specs.Taken.{Taken}
 use Rattle.stage_notes.specs.Notes.{notes, weighed, NoteAt, Noted, telling}
 use Rattle.stage_notes.proofs.Noting.{notes_same}
-use Rattle.stage_loop.specs.declared.lean.Bound.TheVariants.{AtMost, NoRoom}
+use Rattle.std.specs.Prelude.{Ok, Err}
+use Rattle.stage_loop.specs.declared.lean.NoRoom.{NoRoom}
 use Rattle.stage_loop.specs.Loop.{Kept, Moved, Changed, NotedSet, Counted, SettleAt, Settled, TryAt, Tried}
 
 -- ---- the frame
@@ -53,7 +54,8 @@ kept_counts k = record { frame = frame_more refl k.frame; rest = k.rest }
 ranked_frame : {fs : List ℕ} {m : ℕ} {w w' : List ℕ} → Frame fs m w w' → among fs RANKED ≡ false → (i e : ℕ) → i ≤ e → e ≤ m → ranked m w' i e ≡ ranked m w i e
 unfolding ranked
 ranked_frame {m = m} {w = w} {w' = w'} f n i e a b = part_same (e - i) (RANKED * m + i) w' w f.len
-    (λ j c d. let z : j ≡ RANKED * m + (j - RANKED * m) = omega arith in ap (λ (x : ℕ). get_or w' x 0) z ∙ f.cell RANKED n (omega arith) (j - RANKED * m) (omega arith) ∙ sym (ap (λ (x : ℕ). get_or w x 0) z))
+    (λ j c d. let z : j ≡ RANKED * m + (j - RANKED * m) = omega arith in
+    ap (λ (x : ℕ). get_or w' x 0) z ∙ f.cell RANKED n (omega arith) (j - RANKED * m) (omega arith) ∙ sym (ap (λ (x : ℕ). get_or w x 0) z))
 
 -- a change of counts, needed pins and notes leaves the ranked lists
 pub ranked_kept : {m : ℕ} {w w' : List ℕ} → Moved m w w' → (i e : ℕ) → i ≤ e → e ≤ m → ranked m w' i e ≡ ranked m w i e
@@ -157,40 +159,28 @@ pub room_is : (C : Context) (m half b : ℕ) (pl w : List ℕ) → Tally C m pl 
 unfolding room_for room_in
 room_is C m half b pl w t e = rw (t.ones, t.pins, e)
 
--- a bound found is that bound
-pub found_is : {a b : ℕ} → found a ≡ found b → a ≡ b
-found_is e = cc
-
--- a bound found is not none
-pub not_found : {a : ℕ} {P : Type 0} → found a ≡ nothing → P
-not_found e = absurd (let z : ◌≡◌ {A = ℕ} 0 1 = cc in omega arith)
-
--- a bound is not none
-not_room : {a b : ℕ} {P : Type 0} → AtMost a ≡ NoRoom b → P
-not_room e = absurd (let z : ◌≡◌ {A = ℕ} 0 1 = cc in omega arith)
-
 module _ {C : Context} {m n k half most : ℕ} {gates pl w : List ℕ} (A : SettleAt C m n k half most gates pl w) where
   -- room for the bound: it serves again
-  pub settled_bound : room_in m half most w ≡ true → Settled C m most pl w w (AtMost most)
+  pub settled_bound : room_in m half most w ≡ true → Settled C m most pl w w (Ok most)
   settled_bound t =
       let e : recount C.X most pl ≡ found most = recount_bound C.X most pl (sym (room_is C m half most pl w A.tally A.cap) ∙ t) in
-      record { is = sym e; count = λ d e. not_room e; few = λ b d. omega (arith, found_is d, A.few); kept = kept_none m w; tally = A.tally }
+      record { is = sym e; count = tt; few = A.few; kept = kept_none m w; tally = A.tally }
 
   module _ {w' : List ℕ} {c : ℕ} (t : room_in m half most w ≡ false) (N₀ : Counted C m pl w w' c) where
     no_bound : room_for C.X most pl ≡ false
     no_bound = sym (room_is C m half most pl w A.tally A.cap) ∙ t
 
     -- no room for the bound, but for the count: the count is the new bound
-    pub settled_count : room_in m half c w' ≡ true → Settled C m most pl w w' (AtMost c)
+    pub settled_count : room_in m half c w' ≡ true → Settled C m most pl w w' (Ok c)
     settled_count s =
         let e : recount C.X most pl ≡ found (length (wanted C.X pl)) = recount_count C.X most pl no_bound (rw N₀.count at (sym (room_is C m half c pl w' N₀.tally A.cap) ∙ s)) in
-        record { is = rw N₀.count (sym e); count = λ d e. not_room e; few = λ b d. omega (arith, found_is d, N₀.few); kept = N₀.kept; tally = N₀.tally }
+        record { is = rw N₀.count (sym e); count = tt; few = N₀.few; kept = N₀.kept; tally = N₀.tally }
 
     -- no room for the count either: the pin must go
-    pub settled_full : room_in m half c w' ≡ false → Settled C m most pl w w' (NoRoom c)
+    pub settled_full : room_in m half c w' ≡ false → Settled C m most pl w w' (Err (record { 0 = c }))
     settled_full s =
         let e : recount C.X most pl ≡ nothing = recount_full C.X most pl no_bound (rw N₀.count at (sym (room_is C m half c pl w' N₀.tally A.cap) ∙ s)) in
-        record { is = sym e; count = λ d e. let z : c ≡ d = cc in (sym z ∙ N₀.count, omega (arith, N₀.few)); few = λ b d. not_found (sym d); kept = N₀.kept; tally = N₀.tally }
+        record { is = sym e; count = (N₀.count, N₀.few); few = tt; kept = N₀.kept; tally = N₀.tally }
 
 -- ---- one try
 
@@ -233,27 +223,25 @@ module _ {C : Context} {m n k h wd half p q most : ℕ} {gates pl w : List ℕ} 
     after_place = record { set = noted_kept (kept_moved (kept_counts P.kept)) A.plan.set; clear = clear_kept (kept_moved (kept_counts P.kept)) A.plan.clear; tally = P.tally; cap = A.cap; few = A.few }
 
     -- where the needed pins have room the pin stays
-    pub tried_some : {w2 : List ℕ} {b : ℕ} → Settled C m most pl1 w1 w2 (AtMost b) → Tried C m h p q most pl w pl1 w2 (found b)
+    pub tried_some : {w2 : List ℕ} {b : ℕ} → Settled C m most pl1 w1 w2 (Ok b) → Tried C m h p q most pl w pl1 w2 (Ok b)
     tried_some T = record {
       is = rw plan_is at T.is;
       few = T.few;
-      none = λ e. not_found e;
-      some = λ d e. plan_is;
-      noted = λ e. not_found e;
-      unnoted = λ d e. notes_kept (kept_then (kept_counts P.kept) T.kept);
+      plan = plan_is;
+      told = notes_kept (kept_then (kept_counts P.kept) T.kept);
       kept = kept_moved (kept_then (kept_counts P.kept) T.kept);
       tally = T.tally;
     }
 
-    module _ {w2 : List ℕ} {c : ℕ} (T : Settled C m most pl1 w1 w2 (NoRoom c)) where
+    module _ {w2 : List ℕ} {c : NoRoom} (T : Settled C m most pl1 w1 w2 (Err c)) where
       there : Room m w2
       there = (noted_kept (kept_moved T.kept) (noted_kept (kept_moved (kept_counts P.kept)) A.plan.set)).begun.base.area
 
       -- where they have none the pin may be noted
-      pub note_at_lem : NoteAt m h c w2
-      note_at_lem = record { area = there; level = omega (arith, A.wide.high, C.high); few = omega (arith, (T.count c refl).1, there.small) }
+      pub note_at_lem : NoteAt m h c.0 w2
+      note_at_lem = record { area = there; level = omega (arith, A.wide.high, C.high); few = omega (arith, T.count.1, there.small) }
 
-      module _ {w3 : List ℕ} (N : Noted m h (telling m q c w2 ∷ []) w2 w3) where
+      module _ {w3 : List ℕ} (N : Noted m h (telling m q c.0 w2 ∷ []) w2 w3) where
         tally_noted : Tally C m pl1 w3
         tally_noted = record {
           cells = λ x b. N.frame.cell CELLS refl (omega arith) x b ∙ T.tally.cells x b;
@@ -282,19 +270,17 @@ module _ {C : Context} {m n k h wd half p q most : ℕ} {gates pl w : List ℕ} 
         }
 
         -- the note tells what the rules count
-        note_is : telling m q c w2 ≡ weighed C.X q (placed C.X h p q pl)
+        note_is : telling m q c.0 w2 ≡ weighed C.X q (placed C.X h p q pl)
         unfolding telling weighed
-        note_is = rw (T.tally.ones, T.tally.pins, (T.count c refl).0, plan_is)
+        note_is = rw (T.tally.ones, T.tally.pins, T.count.0, plan_is)
 
         -- the pin taken back, the plan is as before
-        pub tried_none : {pl3 w4 : List ℕ} → bits.Purged C m h wd p pl1 w3 pl3 w4 → Tried C m h p q most pl w pl3 w4 nothing
+        pub tried_none : {pl3 w4 : List ℕ} → bits.Purged C m h wd p pl1 w3 pl3 w4 → Tried C m h p q most pl w pl3 w4 (Err c)
         tried_none B = record {
           is = rw plan_is at T.is;
           few = T.few;
-          none = λ e. B.plan ∙ rw (plan_is, A.wide.row) (taken_back (work C) h p q A.plan.fair A.able);
-          some = λ d e. not_found (sym e);
-          noted = λ e. notes_kept (kept_counts B.kept) ∙ N.is ∙ rw (note_is, notes_kept (kept_then (kept_counts P.kept) T.kept)) refl;
-          unnoted = λ d e. not_found (sym e);
+          plan = B.plan ∙ rw (plan_is, A.wide.row) (taken_back (work C) h p q A.plan.fair A.able);
+          told = notes_kept (kept_counts B.kept) ∙ N.is ∙ rw (note_is, notes_kept (kept_then (kept_counts P.kept) T.kept)) refl;
           kept = moved_then (kept_moved (kept_then (kept_counts P.kept) T.kept)) (moved_then (noted_moved N) (kept_moved (kept_counts B.kept)));
           tally = B.tally;
         }

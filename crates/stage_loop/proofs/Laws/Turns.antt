@@ -8,7 +8,7 @@ use native.Mathlib.Numerals.{add-one}
 use lib.Dec.{ltb, eqb}
 use lib.ListN.{length, get_or}
 use borrow.Author.Tests.{lt-ltb, le-ltb, ne_eqb}
-use Rattle.rules.specs.Lists.{nothing, found, mem, In, Out}
+use Rattle.rules.specs.Lists.{found, mem, In, Out}
 use Rattle.rules.specs.Cells.{row_at}
 use Rattle.rules.specs.Traversal.{level_at}
 use Rattle.rules.specs.Placing.{tree_of, cell_at, placed}
@@ -33,16 +33,9 @@ use Rattle.stage_tree.proofs.Search.{cell_found, cell_none, cursor_first, cursor
 use Rattle.stage_notes.specs.Notes.{notes, lean_notes}
 use Rattle.stage_notes.proofs.Turns.{notes_end, notes_skip, notes_no_cell, notes_no_room, notes_placed}
 use Rattle.stage_loop.specs.Loop.{NotedSet, TryAt, Tried, At, Next, Ended, Gone, Turned}
-use Rattle.stage_loop.specs.declared.lean.Step.TheVariants.{On, Stop}
+use Rattle.std.specs.Prelude.{Some, None, Ok, Err}
+use Rattle.stage_loop.specs.declared.lean.NoRoom.{NoRoom}
 use Rattle.stage_loop.proofs.Laws.Tries.{moved_none, moved_then, ranked_kept, noted_kept, clear_kept}
-
--- a step on is that step
-on_is : {a b f g : ℕ} → On a f ≡ On b g → (a ≡ b) × (f ≡ g)
-on_is e = (cc, cc)
-
--- a step on does not end the level
-not_on : {a f : ℕ} {P : Type 0} → Stop ≡ On a f → P
-not_on e = absurd (let z : ◌≡◌ {A = ℕ} 0 1 = cc in omega arith)
 
 -- ---- one turn
 module _ {C : Context} {m n k l wd half : ℕ} {gates pl w : List ℕ} {i e b from : ℕ} (N : Next C m n k l wd half gates pl w i e b from) (q : ℕ) (pin : q ≡ get_or w (RANKED * m + i) 0) where
@@ -67,28 +60,25 @@ module _ {C : Context} {m n k l wd half : ℕ} {gates pl w : List ℕ} {i e b fr
   in_tree = rw (N.at.tally.cells q pin_small) (tree_cells C.X.K pl q (listed_filled (work C) q head_in.0))
 
   -- a candidate that is in the tree already is passed over
-  pub turned_skip : 0 < get_or w (CELLS * m + q) 0 → Turned C m n k l wd half gates pl w i e b pl w (On b from)
+  pub turned_skip : 0 < get_or w (CELLS * m + q) 0 → Turned C m n k l wd half gates pl w i e b pl w (Some (b, from))
   turned_skip pos =
       let t : In q (tree_of C.X pl) = in_tree ∙ lt-ltb 0 (get_or w (CELLS * m + q) 0) pos in
       record {
-        stop = λ x. not_on (sym x);
-        on = λ d f x. record {
-          same = rw (now_list, ← (on_is x).0) (onward_skip C.X l b pl q (ranked m w (i + 1) e) t);
-          told = rw (now_list, ← (on_is x).0) (notes_skip C.X l b pl (notes m w) q (ranked m w (i + 1) e) t);
-          kept = moved_none m w;
-          at = record {
-            set = R;
-            clear = N.at.clear;
-            tally = N.at.tally;
-            going = rw (← (on_is x).0) (going_skip (work C) G t);
-            wide = N.at.wide;
-            cap = N.at.cap;
-            before = omega (arith, N.more);
-            inside = N.at.inside;
-            few = omega (arith, (on_is x).0, N.at.few);
-          };
-          cursor = rw (← (on_is x).1) N.cursor;
+        same = rw now_list (onward_skip C.X l b pl q (ranked m w (i + 1) e) t);
+        told = rw now_list (notes_skip C.X l b pl (notes m w) q (ranked m w (i + 1) e) t);
+        kept = moved_none m w;
+        at = record {
+          set = R;
+          clear = N.at.clear;
+          tally = N.at.tally;
+          going = going_skip (work C) G t;
+          wide = N.at.wide;
+          cap = N.at.cap;
+          before = omega (arith, N.more);
+          inside = N.at.inside;
+          few = N.at.few;
         };
+        cursor = N.cursor;
       }
 
   module _ (out : get_or w (CELLS * m + q) 0 ≡ 0) (p : ℕ) (F₀ : First pl from (2 * wd) p) where
@@ -99,18 +89,15 @@ module _ {C : Context} {m n k l wd half : ℕ} {gates pl w : List ℕ} {i e b fr
     not_in = in_tree ∙ le-ltb 0 (get_or w (CELLS * m + q) 0) (omega arith)
 
     -- no empty cell: the level ends
-    pub turned_no_cell : 2 * wd ≤ p → Turned C m n k l wd half gates pl w i e b pl w Stop
+    pub turned_no_cell : 2 * wd ≤ p → Turned C m n k l wd half gates pl w i e b pl w None
     turned_no_cell none = record {
-      stop = λ x. record {
-        same = rw now_list (onward_no_cell C.X l b pl q (ranked m w (i + 1) e) not_in (cell_none C.X (suc l) wd N.at.wide.row pl p F none));
-        told = rw now_list (notes_no_cell C.X l b pl (notes m w) q (ranked m w (i + 1) e) not_in (cell_none C.X (suc l) wd N.at.wide.row pl p F none));
-        fair = fair_down (work C) l N.at.going.fair;
-        enough = N.at.going.enough;
-        few = N.at.few;
-        kept = moved_none m w;
-        tally = N.at.tally;
-      };
-      on = λ d f x. not_on x;
+      same = rw now_list (onward_no_cell C.X l b pl q (ranked m w (i + 1) e) not_in (cell_none C.X (suc l) wd N.at.wide.row pl p F none));
+      told = rw now_list (notes_no_cell C.X l b pl (notes m w) q (ranked m w (i + 1) e) not_in (cell_none C.X (suc l) wd N.at.wide.row pl p F none));
+      fair = fair_down (work C) l N.at.going.fair;
+      enough = N.at.going.enough;
+      few = N.at.few;
+      kept = moved_none m w;
+      tally = N.at.tally;
     }
 
     module _ (some : p < 2 * wd) where
@@ -130,29 +117,27 @@ module _ {C : Context} {m n k l wd half : ℕ} {gates pl w : List ℕ} {i e b fr
 
       module _ {pl' w' : List ℕ} where
         -- a candidate that is taken back ends the level
-        pub turned_full : Tried C m (l + 1) p q b pl w pl' w' nothing → Turned C m n k l wd half gates pl w i e b pl' w' Stop
+        pub turned_full : {c : NoRoom} → Tried C m (l + 1) p q b pl w pl' w' (Err c) → Turned C m n k l wd half gates pl w i e b pl' w' None
         turned_full T = record {
-          stop = λ x. record {
-            same = rw (now_list, T.none refl) (onward_no_room C.X l b pl q (ranked m w (i + 1) e) p not_in at_cell (rw (add-one l) at (sym T.is)));
-            told = rw (now_list, T.none refl) (notes_no_room C.X l b pl (notes m w) q (ranked m w (i + 1) e) p not_in at_cell (rw (add-one l) at (sym T.is)) ∙ ap (lean_notes C.X l b pl) (sym (rw (add-one l) at (T.noted refl))));
-            fair = rw (T.none refl) (fair_down (work C) l N.at.going.fair);
-            enough = rw (T.none refl) N.at.going.enough;
-            few = N.at.few;
-            kept = T.kept;
-            tally = T.tally;
-          };
-          on = λ d f x. not_on x;
+          same = rw (now_list, T.plan) (onward_no_room C.X l b pl q (ranked m w (i + 1) e) p not_in at_cell (rw (add-one l) at (sym T.is)));
+          told = rw (now_list, T.plan) (notes_no_room C.X l b pl (notes m w) q (ranked m w (i + 1) e) p not_in at_cell (rw (add-one l) at (sym T.is)) ∙
+              ap (lean_notes C.X l b pl) (sym (rw (add-one l) at T.told)));
+          fair = rw (T.plan) (fair_down (work C) l N.at.going.fair);
+          enough = rw (T.plan) N.at.going.enough;
+          few = N.at.few;
+          kept = T.kept;
+          tally = T.tally;
         }
 
         -- one that stays moves the cursor past its cell
-        pub turned_on : {d : ℕ} → Tried C m (l + 1) p q b pl w pl' w' (found d) → Turned C m n k l wd half gates pl w i e b pl' w' (On d (p + 1))
-        turned_on {d} T = record { stop = λ x. not_on (sym x); on = λ d₂ f x. rw (← (on_is x).0, ← (on_is x).1) gone }
+        pub turned_on : {d : ℕ} → Tried C m (l + 1) p q b pl w pl' w' (Ok d) → Turned C m n k l wd half gates pl w i e b pl' w' (Some (d, p + 1))
+        turned_on {d} T = gone
           where
             pl1 : List ℕ
             pl1 = placed C.X (suc l) p q pl
 
             plan : pl' ≡ pl1
-            plan = rw (add-one l) at (T.some d refl)
+            plan = rw (add-one l) at (T.plan)
 
             bound : recount C.X b pl1 ≡ found d
             bound = rw (add-one l) at (sym T.is)
@@ -168,7 +153,7 @@ module _ {C : Context} {m n k l wd half : ℕ} {gates pl w : List ℕ} {i e b fr
                 let enough = recount_found (work C) (fair_kept (work C) (suc l) p q N.at.going.fair able) b d few_one bound in
                 record {
                   same = rw (now_list, same_list_lem, plan) (onward_placed C.X l b pl q (ranked m w (i + 1) e) p d not_in at_cell bound);
-                  told = rw (now_list, same_list_lem, plan, T.unnoted d refl) (notes_placed C.X l b pl (notes m w) q (ranked m w (i + 1) e) p d not_in at_cell bound);
+                  told = rw (now_list, same_list_lem, plan, T.told) (notes_placed C.X l b pl (notes m w) q (ranked m w (i + 1) e) p d not_in at_cell bound);
                   kept = T.kept;
                   at = record {
                     set = noted_kept T.kept R;
@@ -179,7 +164,7 @@ module _ {C : Context} {m n k l wd half : ℕ} {gates pl w : List ℕ} {i e b fr
                     cap = N.at.cap;
                     before = omega (arith, N.more);
                     inside = N.at.inside;
-                    few = T.few d refl;
+                    few = T.few;
                   };
                   cursor = record {
                     row = N.at.wide.row;
@@ -216,10 +201,6 @@ module _ {C : Context} {m n k l wd half : ℕ} {gates pl w : List ℕ} {i e b : 
     -- some turns and some more
     pub gone_then : {pl2 w2 : List ℕ} {d b2 f2 : ℕ} → Gone C m n k l wd half gates pl' w' j e b' pl2 w2 d b2 f2 → Gone C m n k l wd half gates pl w i e b pl2 w2 d b2 f2
     gone_then B = record { same = A.same ∙ B.same; told = A.told ∙ B.told; kept = moved_then A.kept B.kept; at = B.at; cursor = B.cursor }
-
-    -- a turn that ends the level ends the sweep
-    pub gone_stop : {pl2 w2 : List ℕ} → Ended C m l pl' w' j e b' pl2 w2 b' → Ended C m l pl w i e b pl2 w2 b'
-    gone_stop E = record { same = A.same ∙ E.same; told = A.told ∙ E.told; fair = E.fair; enough = E.enough; few = E.few; kept = moved_then A.kept E.kept; tally = E.tally }
 
     -- a sweep ends with the last candidate too
     pub gone_end : e ≤ j → Ended C m l pl w i e b pl' w' b'

@@ -18,13 +18,13 @@ use Rattle.rules.proofs.Walk.Levels.{depth_at}
 use Rattle.rules.proofs.Tree.Tally.{tree_cells}
 use Rattle.columns.specs.Area.{among, Frame}
 use Rattle.columns.specs.Fields.{LEVEL, CELLS, NEEDED, PLACE, MARK}
-use Rattle.columns.specs.Lists.{list, Marked, EnlistAt, Enlisted}
+use Rattle.columns.specs.Lists.{list, Marked, Enlisted}
 use Rattle.columns.proofs.Area.Columns.{get_or_col}
 use Rattle.columns.proofs.Area.Frames.{frame_none, frame_then, frame_col, frame_room}
-use Rattle.columns.proofs.Lists.Marks.{marked_self, enlist_at}
+use Rattle.columns.proofs.Lists.Marks.{marked_self}
 use Rattle.stage_walk.specs.Stands.{Context, Levelled}
 use Rattle.stage_needed.specs.Needed.{Tells, Needing, Needs, missing, AskAt, ItselfAt, NeedAt}
-use Rattle.stage_walk.proofs.Gates.{Both, none_of, both_of}
+use Rattle.stage_walk.proofs.Gates.{Both, both_of}
 
 pos_test : (n : ℕ) → ltb 0 n ≡ not (eqb n 0)
 pos_test zero = refl
@@ -71,10 +71,6 @@ module _ {C : Context} {pl : List ℕ} {m : ℕ} {w : List ℕ} {n : ℕ} (N : N
   pub needs_none : {ys : List ℕ} → ys ≡ [] → Needs m w n w n ys
   unfolding insert_all
   needs_none e = rw e (record { frame = frame_none; now = N.now })
-
-  -- a pin may go behind the list
-  pub needs_at : (p : ℕ) → p < m → EnlistAt NEEDED MARK m n p w
-  needs_at p h = enlist_at N.now N.tells.area h (omega arith) (omega arith) (λ e. omega arith)
 
   -- one pin asked for goes behind it, unless it is there
   pub needs_one : {p : ℕ} {ys : List ℕ} {w' : List ℕ} {n' : ℕ} → ys ≡ p ∷ [] → Enlisted NEEDED MARK m n p w w' n' → Needs m w n w' n' ys
@@ -174,18 +170,17 @@ module _ {C : Context} {pl : List ℕ} {m : ℕ} {gates w : List ℕ} {n p : ℕ
       pub need_itself : {w' : List ℕ} {n' : ℕ} → Needs m w n w' n' (asked C.X (tree_of C.X pl) p l) → Needs m w n w' n' (lacks C.X (tree_of C.X pl) p)
       need_itself s = rw opened s
 
-      module _ (h : 2 ≤ l) (a b₂ : ℕ) (ea : a ≡ get_or (below C.X.g C.X.done p) 0 m) (e₂ : b₂ ≡ get_or (below C.X.g C.X.done p) 1 m) where
-        -- a leaf's level is 0
-        is_gate_lem : a ≡ m → ⊥
-        unfolding over
-        is_gate_lem z =
-            let n : level_at C.X p ≡ 0 =
-            C.S.level p A.listed ∙ depth_at C.X.g C.X.done C.r C.S.ranked (length C.X.g) p (C.S.fuel p A.listed) ∙ rw (none_of C A.reads p a ea z) in
-            omega (arith, level)
+      -- a pin of level 2 or more is followed to some
+      pub need_some : 2 ≤ l → below C.X.g C.X.done p ≡ [] → ⊥
+      unfolding over
+      need_some h z =
+          let n : level_at C.X p ≡ 0 =
+          C.S.level p A.listed ∙ depth_at C.X.g C.X.done C.r C.S.ranked (length C.X.g) p (C.S.fuel p A.listed) ∙ rw z in
+          omega (arith, level)
 
-        -- a pin of level 2 or more is followed to two pins
-        pub both : Both C m p a b₂
-        both = both_of C A.reads p a b₂ ea is_gate_lem e₂
+      module _ (h : 2 ≤ l) (a b₂ : ℕ) (e : below C.X.g C.X.done p ≡ a ∷ b₂ ∷ []) where
+        both : Both C m p a b₂
+        both = both_of C A.reads p a b₂ e
 
         -- a pin of level 2 or more asks for its first operand
         pub ask_first : AskAt C pl m w n a

@@ -6,7 +6,7 @@ use Prim.Native.Nat.{ℕ, zero, suc, ◌+◌, ◌*◌, ◌<◌, ◌≤◌}
 use native.Mathlib.Omega.{arith}
 use native.Mathlib.Numerals.{add-one}
 use native.Mathlib.Decide.{ℕ_discrete}
-use lib.ListN.{length, get_or, set, drop, drop_of_length-le}
+use lib.ListN.{get_or, set, drop}
 use lib.Seq.{drop-cons, drop-nil}
 use Rattle.rules.specs.Lists.{mem, insert_all, distinct, gather, Out, Once, nobody, one}
 use Rattle.rules.specs.Placing.{tree_of}
@@ -16,7 +16,7 @@ use Rattle.rules.proofs.Walk.Bounds.{wanted_next}
 use Rattle.columns.specs.Area.{Frame, among}
 use Rattle.columns.specs.Fields.{ORDER, NEEDED, MARK, CELLS}
 use Rattle.columns.specs.Lists.{list, span, bit, Holds, Marks}
-use Rattle.columns.proofs.Area.Columns.{inside, at_set, at_set_past}
+use Rattle.columns.proofs.Area.Columns.{at_set, at_set_past}
 use Rattle.columns.proofs.Area.Frames.{frame_none, frame_then, frame_set, frame_more, frame_less, frame_room}
 use Rattle.columns.proofs.Lists.Entries.{span_none, span_next, frame_list, holds_self, holds_none, holds_frame, holds_at, holds_pin, holds_in_lem}
 use Rattle.columns.proofs.Lists.Marks.{marked_self}
@@ -66,10 +66,6 @@ module _ {C : Context} {pl : List ℕ} {m n f k : ℕ} {gates w₀ : List ℕ} (
     levelled = A.levelled;
     cells = A.cells;
   }
-
-  -- the list stands in the area
-  pub collect_room : {i : ℕ} → i < k → f * m + i < length w₀
-  collect_room h = omega (arith, inside f m A.asking.column, A.asking.held.few, A.begun.base.area.room)
 
   -- at the start no pin has asked
   pub collecting_none : Collecting C pl m f k 0 w₀ w₀ 0
@@ -122,15 +118,7 @@ module _ {m r : ℕ} {w₀ : List ℕ} (A : UnmarkAt m r w₀) where
   abbrev xs : List ℕ
   xs = list NEEDED m r w₀
 
-  -- at the start all listed pins have their marks
-  pub unmarked_none : Unmarked m (drop 0 xs) w₀ w₀
-  unmarked_none = record { frame = frame_none; marks = A.now.marks }
-
   module _ {i : ℕ} {w : List ℕ} (U : Unmarked m (drop i xs) w₀ w) where
-    -- at the end no needed pin has a mark
-    pub unmarked_end : r ≤ i → Unmarked m [] w₀ w
-    unmarked_end h = rw (drop_of_length-le xs {i = i} (omega (arith, A.now.held.count))) at U
-
     module _ (h : i < r) (p : ℕ) (ep : p ≡ get_or w (NEEDED * m + i) 0) where
       held : Holds NEEDED m r xs w
       held = holds_frame A.now.held U.frame refl (omega arith)
@@ -156,10 +144,6 @@ module _ {m r : ℕ} {w₀ : List ℕ} (A : UnmarkAt m r w₀) where
 -- ---- the whole
 
 module _ {C : Context} {pl : List ℕ} {m n f k : ℕ} {gates w : List ℕ} (A : CountAt C pl m n f k gates w) {v : List ℕ} {r : ℕ} (L : Collected C pl m w v r) where
-  -- the marks of the needed pins may go
-  pub unmark_at : UnmarkAt m r v
-  unmark_at = record { area = frame_room L.frame A.begun.base.area; now = marked_self L.now }
-
   -- with the marks gone the needed pins are listed, and all else is as it was
   pub needed_all : {w' : List ℕ} → Unmarked m [] v w' → Needed C pl m w w' r
   needed_all U = record {
@@ -170,5 +154,6 @@ module _ {C : Context} {pl : List ℕ} {m n f k : ℕ} {gates w : List ℕ} (A :
 -- ---- where the walks end
 
 -- needed pins, once the counts of a plan stand and no pin is marked
-pub step_needed : {C : Context} {m n k : ℕ} {gates w : List ℕ} → Set C m n k gates w → (pl : List ℕ) → ((x : ℕ) → x < m → get_or w (CELLS * m + x) 0 ≡ cells_holding C.X.K pl x) → Marks MARK m [] w → NeededAt C pl m n k gates w
+pub step_needed : {C : Context} {m n k : ℕ} {gates w : List ℕ} → Set C m n k gates w → (pl : List ℕ) → ((x : ℕ) → x < m → get_or w (CELLS * m + x) 0 ≡ cells_holding C.X.K pl x) →
+    Marks MARK m [] w → NeededAt C pl m n k gates w
 step_needed S pl c u = record { begun = S.begun; ordered = S.ordered; levelled = S.levelled; cells = c; unmarked = u }

@@ -5,7 +5,6 @@ use mathlib.Core.List.{List, [], ◌∷◌, append-nil}
 use Prim.Native.Nat.{ℕ, zero, suc, ◌+◌, ◌*◌, ◌<◌, ◌≤◌}
 use native.Mathlib.Omega.{arith}
 use native.Mathlib.Numerals.{add-one}
-use borrow.Author.Tests.{eq-eqb, ne_eqb}
 use lib.Dec.{eqb}
 use lib.ListN.{get_or, set, take, drop, drop_of_length-le}
 use lib.Seq.{take-suc, take_all, drop-cons}
@@ -19,14 +18,14 @@ use Rattle.rules.proofs.Needed.Lacks.{noted_wanted}
 use Rattle.columns.specs.Area.{Frame}
 use Rattle.columns.specs.Fields.{ORDER, LEVEL, NEEDED, STACK, PLACE, MARK}
 use Rattle.columns.specs.Lists.{list, Holds}
-use Rattle.columns.proofs.Area.Frames.{frame_none, frame_then, frame_set, frame_more, frame_less, frame_room}
+use Rattle.columns.proofs.Area.Frames.{frame_none, frame_then, frame_set, frame_more, frame_less}
 use Rattle.columns.proofs.Lists.Entries.{holds_self, holds_none, holds_frame, holds_at, holds_in_lem, holds_push}
 use Rattle.columns.proofs.Lists.Marks.{marked_self, marked_frame}
 use Rattle.stage_walk.specs.Stands.{Context}
-use Rattle.stage_walk.proofs.Gates.{Both, none_of, both_of, reads_frame}
+use Rattle.stage_walk.proofs.Gates.{Both, both_of, reads_frame}
 use Rattle.stage_walk.proofs.traversal.Loops.{begun_reads}
 use Rattle.stage_needed.specs.declared.Counts.{Counts}
-use Rattle.stage_needed.specs.Needed.{Needs, LackAt, NotePinAt, NotedPin, Noting, NeededAt, Surveyed, UnmarkAt, Unmarked, Noted}
+use Rattle.stage_needed.specs.Needed.{Needs, LackAt, NotePinAt, NotedPin, Noting, NeededAt, Surveyed, Unmarked, Noted}
 use Rattle.stage_needed.proofs.Laws.Asking.{level_told, tells_frame}
 use Rattle.stage_needed.proofs.Laws.Collecting.{asking_frame, count_order, count_tells}
 
@@ -79,35 +78,23 @@ module _ {C : Context} {m : ℕ} {gates w : List ℕ} {p : ℕ} (A : LackAt C m 
           by (suc (suc l)) h = refl
 
       -- any other lacks nothing if none is followed from it
-      pub lack_none : m ≡ get_or (below C.X.g C.X.done p) 0 m → false ≡ lacking C.X p
+      pub lack_none : below C.X.g C.X.done p ≡ [] → false ≡ lacking C.X p
       unfolding keep is_nil
-      lack_none e = sym (below_asked ∙ rw (none_of C A.reads p m e refl) refl)
+      lack_none e = sym (below_asked ∙ rw e refl)
 
-      module _ (a : ℕ) (ea : (a ≡ get_or (below C.X.g C.X.done p) 0 m) × (a ≡ m → ⊥)) where
-        -- where one is followed, another is
-        pub lack_both : (b : ℕ) → b ≡ get_or (below C.X.g C.X.done p) 1 m → Both C m p a b
-        lack_both b eb = both_of C A.reads p a b ea.0 ea.1 eb
+      module _ (a b : ℕ) (e : below C.X.g C.X.done p ≡ a ∷ b ∷ []) where
+        pub lack_both : Both C m p a b
+        lack_both = both_of C A.reads p a b e
 
-        pub lack_first_pin : a < m
-        lack_first_pin = (lack_both (get_or (below C.X.g C.X.done p) 1 m) refl).in_first
-
-        module _ (la : ℕ) (ela : la ≡ get_or w (LEVEL * m + a) 0) where
-          level_first : la ≡ level_at C.X a
-          level_first = ela ∙ level_told A.levelled a lack_first_pin
-
-          -- it lacks a first operand of level 0
-          pub lack_first : la ≡ 0 → true ≡ lacking C.X p
-          unfolding low mem
-          lack_first z =
-              let b : ℕ = get_or (below C.X.g C.X.done p) 1 m in
-              sym (below_asked ∙ rw (lack_both b refl).is (two_kept low a b ∙ rw (eq-eqb (level_at C.X a) 0 (sym level_first ∙ z)) refl))
-
-          -- else it is the second that decides
-          pub lack_second : (la ≡ 0 → ⊥) → (b lb : ℕ) → b ≡ get_or (below C.X.g C.X.done p) 1 m → lb ≡ get_or w (LEVEL * m + b) 0 → eqb lb 0 ≡ lacking C.X p
-          unfolding low mem
-          lack_second ne b lb eb elb =
-              let B = lack_both b eb in
-              sym (below_asked ∙ rw B.is (two_kept low a b ∙ rw (ne_eqb (level_at C.X a) 0 (λ e. ne (level_first ∙ e)), elb ∙ level_told A.levelled b B.in_second) (and_same (eqb (level_at C.X b) 0))))
+        -- else it lacks an operand of level 0
+        pub lack_two : (la lb : ℕ) → la ≡ get_or w (LEVEL * m + a) 0 → lb ≡ get_or w (LEVEL * m + b) 0 → (eqb la 0 || eqb lb 0) ≡ lacking C.X p
+        unfolding low mem
+        lack_two la lb ea eb =
+            let B = lack_both in
+            rw (
+              ea ∙ level_told A.levelled a B.in_first,
+              eb ∙ level_told A.levelled b B.in_second,
+            ) (sym (below_asked ∙ rw e (two_kept low a b ∙ rw (and_same (eqb (level_at C.X a) 0), and_same (eqb (level_at C.X b) 0)) refl)))
 
 -- ---- one pin more
 
@@ -124,7 +111,8 @@ module _ {C : Context} {pl : List ℕ} {m : ℕ} {gates w : List ℕ} {c : Count
       record { reads = N.reads; levelled = N.needing.tells.levelled; waits = N.needing.tells.waits; listed = N.listed }
 
   -- a pin that lacks something makes pins needed, and goes behind the noted ones
-  pub note_more : true ≡ lacking C.X p → {w₁ : List ℕ} {r : ℕ} → Needs m w c.needed w₁ r (lacks C.X (tree_of C.X pl) p) → NotedPin C pl m w c p (set w₁ (STACK * m + c.noted) p) (record { noted = c.noted + 1; needed = r })
+  pub note_more : true ≡ lacking C.X p → {w₁ : List ℕ} {r : ℕ} → Needs m w c.needed w₁ r (lacks C.X (tree_of C.X pl) p) →
+      NotedPin C pl m w c p (set w₁ (STACK * m + c.noted) p) (record { noted = c.noted + 1; needed = r })
   unfolding keep gather
   note_more t {w₁} {r} N =
       let own : Frame (STACK ∷ []) m w₁ (set w₁ (STACK * m + c.noted) p) = frame_set STACK c.noted p A.few (omega arith) refl in
@@ -203,16 +191,21 @@ module _ {C : Context} {pl : List ℕ} {m n k : ℕ} {gates w₀ : List ℕ} (A 
         few = omega (arith, U.few, N.more);
         held = rw (add-one i, take-suc C.X.order i 0 (omega (arith, order.count)), sym first, keep_append) (N.held (keep (lacking C.X) (take i C.X.order)) U.held);
         now = marked_self N.now;
-        same = rw (add-one i, N.now.held.is) (sym (note_next (lacking C.X) (lacks C.X (tree_of C.X pl)) p (drop (suc i) C.X.order) (list NEEDED m c.needed w)) ∙ (rw (drop-cons C.X.order i 0 (omega (arith, order.count)), sym first) at U.same));
+        same = rw (
+          add-one i,
+          N.now.held.is,
+        ) (sym (note_next (lacking C.X) (lacks C.X (tree_of C.X pl)) p (drop (suc i) C.X.order) (list NEEDED m c.needed w)) ∙ (rw (
+          drop-cons C.X.order i 0 (omega (
+            arith,
+            order.count,
+          )),
+          sym first,
+        ) at U.same));
       }
 
 -- ---- the marks go
 
 module _ {C : Context} {pl : List ℕ} {m n k : ℕ} {gates w : List ℕ} (A : NeededAt C pl m n k gates w) {v : List ℕ} {c : Counts} (L : Surveyed C pl m w v c) where
-  -- the marks of the needed pins may go
-  pub note_unmark : UnmarkAt m c.needed v
-  note_unmark = record { area = frame_room L.frame A.begun.base.area; now = marked_self L.now }
-
   -- with the marks gone the needed pins are listed and the noted ones stand, and all else is as it was
   pub note_all : {w' : List ℕ} → Unmarked m [] v w' → Noted C pl m w w' c
   note_all U = record {

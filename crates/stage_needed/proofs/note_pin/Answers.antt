@@ -1,20 +1,10 @@
 -- `stage_needed::note_pin` meets its contract: a pin that lacks something asks, and is noted. Assumes nothing.
 use mathlib.Core.Path.{sym, ◌∙◌}
-use native.Mathlib.Omega.{arith}
 use Rattle.stage_needed.proofs.Laws.Noting.{note_lack, note_more, note_none}
 use Rattle.stage_needed.proofs.note_pin.Goals as goal
 
 pub lacking-requires : goal.lacking-requires
 lacking-requires c = let s = c.requires in record { it = s.it.C; at = note_lack s.at }
-
-pub need-needed-requires : goal.need-needed-requires
-need-needed-requires c = let s = c.requires in record { it = s.it; at = s.at.need }
-
-pub push-requires : goal.push-requires
-push-requires c = let s = c.requires.at in omega (arith, s.few, s.need.reads.base.area.room)
-
-pub overflow_add-noted : goal.overflow_add-noted
-overflow_add-noted c = let s = c.requires.at in omega (arith, s.few, s.need.reads.base.area.small)
 
 pub returns-then-lacking : goal.returns-then-lacking
 returns-then-lacking c = record { all = λ x A. rw c.push.ensures (note_more A (sym c.if-lacking.true ∙ c.lacking.ensures.all x.C (note_lack A)) (c.need-needed.ensures.all x A.need)) }

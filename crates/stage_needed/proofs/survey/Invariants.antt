@@ -7,15 +7,16 @@ use Rattle.stage_walk.specs.Stands.{EveryPlan}
 use Rattle.stage_needed.specs.Needed.{NeededAt, Noting}
 use Rattle.stage_needed.proofs.survey.Given as goal
 
-abbrev pub invariant-loop-i-2 : goal.invariant-loop-i-2
-invariant-loop-i-2 l =
-    ((w : List ℕ) → EveryPlan (λ C pl. NeededAt C pl l.m l.n l.k l.gates w) (λ C pl. Noting C pl l.m l.initial.i w l.initial.work l.initial.c) → EveryPlan (λ C pl. NeededAt C pl l.m l.n l.k l.gates w) (λ C pl. Noting C pl l.m l.i w l.work l.c)) × (l.i ≤ l.e) × (length l.work ≡ length l.initial.work)
-
-abbrev pub decreases-loop-i-2 : goal.decreases-loop-i-2
-decreases-loop-i-2 l = l.e - l.i
-
 abbrev pub invariant-loop-i : goal.invariant-loop-i
-invariant-loop-i l = EveryPlan (λ C pl. NeededAt C pl l.m l.n l.k l.gates l.initial.work) (λ C pl. Noting C pl l.m l.i l.initial.work l.work l.c) × (l.i ≤ l.k) × (length l.work ≡ length l.initial.work)
+invariant-loop-i l =
+    ((w : List ℕ) → EveryPlan (λ C pl. NeededAt C pl l.m l.n l.k l.gates w) (λ C pl. Noting C pl l.m l.from w l.initial.work l.initial.c)
+    → EveryPlan (λ C pl. NeededAt C pl l.m l.n l.k l.gates w) (λ C pl. Noting C pl l.m l.i w l.work l.c))
+    × (l.i ≤ l.to)
+    × (length l.work ≡ length l.initial.work)
 
-abbrev pub decreases-loop-i : goal.decreases-loop-i
-decreases-loop-i l = l.k - l.i
+abbrev pub invariant-loop-from : goal.invariant-loop-from
+invariant-loop-from l = EveryPlan (λ C pl. NeededAt C pl l.m l.n l.k l.gates l.initial.work) (λ C pl. Noting C pl l.m l.from l.initial.work l.work l.c) × (l.from ≤ l.k) ×
+    (length l.work ≡ length l.initial.work)
+
+abbrev pub decreases-loop-from : goal.decreases-loop-from
+decreases-loop-from l = l.k - l.from

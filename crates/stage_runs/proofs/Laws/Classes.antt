@@ -6,16 +6,16 @@ use Prim.Native.Nat.{ℕ, ◌+◌, ◌*◌, ◌<◌, ◌≤◌}
 use native.Mathlib.Omega.{arith}
 use native.Mathlib.Numerals.{add-one}
 use lib.ListN.{get_or, take}
-use lib.Seq.{take-suc, take_all}
+use lib.Seq.{take-suc}
 use borrow.Author.Tests.{eq-eqb, ne_eqb, lt-ltb, le-ltb}
 use Rattle.rules.specs.Lists.{keep, is_nil, insert_all}
 use Rattle.rules.proofs.Lists.Members.{split, keep_append, insert_all-append}
 use Rattle.columns.specs.Fields.{LEVEL, CELLS, PHASE, SPARE, WAITING}
-use Rattle.columns.specs.Lists.{list, EnlistAt, Enlisted}
+use Rattle.columns.specs.Lists.{list, Enlisted}
 use Rattle.columns.proofs.Area.Frames.{frame_none, frame_then, frame_room}
 use Rattle.columns.proofs.Lists.Entries.{holds_at}
-use Rattle.columns.proofs.Lists.Marks.{marked_none, enlist_at}
-use Rattle.stage_runs.specs.Classes.{is_needed, is_untouched, ClassAt, Classed, SplitAt, Splitting, Classes}
+use Rattle.columns.proofs.Lists.Marks.{marked_none}
+use Rattle.stage_runs.specs.Classes.{is_needed, is_untouched, ClassAt, Classed, SplitAt, Splitting}
 
 -- ---- lists
 
@@ -56,10 +56,6 @@ module _ {m n p : ℕ} {w : List ℕ} (a : ClassAt m n p w) (t : Bool) where
   pub class_untouched : cells ≡ 0 → 1 < level → Classed m n t p w w n true
   unfolding is_needed is_untouched
   class_untouched e h = let z = eq-eqb cells 0 e in let y = lt-ltb 1 level h in stays (rw (z, y)) true (rw (z, y) (sym (or_some t)))
-
-  -- a needed waiting pin may go behind the list
-  pub enlist_needed : EnlistAt PHASE SPARE m n p w
-  enlist_needed = enlist_at a.now a.area a.pin (omega arith) (omega arith) (λ e. omega arith)
 
   -- a waiting pin without a cell and of level 0 or 1 is needed
   pub class_needed : cells ≡ 0 → level ≤ 1 → {w' : List ℕ} {r : ℕ} → Enlisted PHASE SPARE m n p w w' r → Classed m n t p w w' r t
@@ -111,10 +107,3 @@ module _ {m n i : ℕ} {w w₁ : List ℕ} {r : ℕ} {u : Bool} (a : SplitAt m n
         now = rw (next, keep_append, insert_all-append, ← k, ← S.now.held.is) C.now;
         untouched = C.untouched ∙ rw (S.untouched, (test_same p b).1, q, next, any_append) refl;
       }
-
--- all waiting pins are classed
-pub splitting_done : {m n i : ℕ} {w w₁ : List ℕ} {r : ℕ} {u : Bool} → SplitAt m n w → Splitting m n i w w₁ r u → n ≤ i → Classes m n w w₁ r u
-splitting_done {m} {n} {i} {w} a S h =
-    let e : i ≡ n = omega (arith, S.upto) in
-    let t : take i (list WAITING m n w) ≡ list WAITING m n w = rw e (take_all n (list WAITING m n w) (omega (arith, a.waiting.count))) in
-    record { frame = S.frame; now = rw t at S.now; untouched = rw t at S.untouched }

@@ -23,13 +23,26 @@ module _ (at : ℕ) (words ws : List ℕ) where
       let n : length (ws ++ (x ∷ [])) ≡ suc (length ws) = length-append ws (x ∷ []) ∙ omega arith in
       let y : at + suc (length ws) ≡ suc (at + length ws) = omega arith in
       let l : length (take at words ++ ws) ≡ at + length ws = rw (length-append, length-take-le at words (omega arith)) refl in
-      rw (n, y, drop-cons words (at + length ws) 0 h, ← append_assoc (take at words) ws, set_at (take at words ++ ws) (get_or words (at + length ws) 0) (drop (suc (at + length ws)) words) x (at + length ws) l, append_assoc, append_assoc) refl
+      rw (
+        n,
+        y,
+        drop-cons words (at + length ws) 0 h,
+        ← append_assoc (take at words) ws,
+        set_at (take at words ++ ws) (get_or words (at + length ws) 0) (drop (suc (at + length ws)) words) x (at + length ws) l,
+        append_assoc,
+        append_assoc,
+      ) refl
 
   module _ (fits : at + length ws ≤ length words) where
     -- laying words keeps the area's length
     pub laid_length : length (laid_at at ws words) ≡ length words
     unfolding laid_at
-    laid_length = rw (length-append (take at words) (ws ++ drop (at + length ws) words), length-append ws (drop (at + length ws) words), length-drop, length-take-le at words (omega arith)) (omega arith)
+    laid_length = rw (
+      length-append (take at words) (ws ++ drop (at + length ws) words),
+      length-append ws (drop (at + length ws) words),
+      length-drop,
+      length-take-le at words (omega arith),
+    ) (omega arith)
 
     abbrev behind : List ℕ
     behind = ws ++ drop (at + length ws) words

@@ -54,7 +54,8 @@ moved_real f = record { frame = frame_more refl f; rest = λ j a b c d. f.past r
 
 module _ {C : Context} {m k : ℕ} {s : Puts} {gates pl w : List ℕ} (A : Putting C m k s gates pl w) where
   -- other numbers, another plan and other realised pins
-  pub putting_then : {s' : Puts} {pl' w' xs : List ℕ} → Moved m w w' → Standing C m 1 gates pl' w' → s'.next ≤ k → Marked STACK MARK m s'.real xs w' → ((x : ℕ) → In x xs → In x C.X.waiting) → Putting C m k s' gates pl' w'
+  pub putting_then : {s' : Puts} {pl' w' xs : List ℕ} → Moved m w w' → Standing C m 1 gates pl' w' → s'.next ≤ k → Marked STACK MARK m s'.real xs w' →
+      ((x : ℕ) → In x xs → In x C.X.waiting) → Putting C m k s' gates pl' w'
   putting_then {s'} {pl'} {w'} {xs} v st u real sub =
       let l : list PHASE m k w' ≡ list PHASE m k w = frame_list v.frame PHASE k refl (omega arith) in
       record {
@@ -219,7 +220,8 @@ pub put_none_yet : {C : Context} {m k : ℕ} {s : Puts} {gates pl w : List ℕ} 
 unfolding rules.put_cells
 put_none_yet a A = record { now = A; moved = moved_none; size = refl; is = λ ws. refl }
 
-module _ {C : Context} {m half k a : ℕ} {s : Puts} {gates pl w : List ℕ} (A : RunAt C m half k a s gates pl w) {i : ℕ} {t : Puts} {pl1 w1 : List ℕ} (B : Put C m k (rules.put_cells C.X i a) gates s pl w t pl1 w1) (h : i < 32) where
+module _ {C : Context} {m half k a : ℕ} {s : Puts} {gates pl w : List ℕ} (A : RunAt C m half k a s gates pl w) {i : ℕ} {t : Puts} {pl1 w1 : List ℕ}
+    (B : Put C m k (rules.put_cells C.X i a) gates s pl w t pl1 w1) (h : i < 32) where
   -- the next cell of the run may be gone to
   pub run_cell : CellAt C m half k (a + i) t gates pl1 w1
   run_cell = record { now = B.now; row = A.row; from = omega (arith, A.from); to = omega (arith, A.to) }
@@ -236,7 +238,3 @@ module _ {C : Context} {m half k a : ℕ} {s : Puts} {gates pl w : List ℕ} (A 
 -- a run ends by position 8,192
 pub run_end : {C : Context} {m half k a : ℕ} {s : Puts} {gates pl w : List ℕ} → RunAt C m half k a s gates pl w → a + 32 ≤ 8192
 run_end {C} A = omega (arith, A.to, A.row, row_high C.X.K 1 (omega arith) (omega (arith, C.low)) C.high)
-
--- after 32 cells the run is done
-pub run_done : {C : Context} {m half k i a : ℕ} {s t : Puts} {gates pl w pl1 w1 : List ℕ} → RunAt C m half k a s gates pl w → Put C m k (rules.put_cells C.X i a) gates s pl w t pl1 w1 → i ≤ 32 → 32 ≤ i → Put C m k (rules.put_cells C.X 32 a) gates s pl w t pl1 w1
-run_done {i = i} A B b d = let z : i ≡ 32 = omega arith in rw z at B

@@ -2,11 +2,11 @@
 use mathlib.Core.Path.{◌≡◌, refl, sym, ap, ◌∙◌}
 use mathlib.Core.Logic.{◌≢◌, inl, inr}
 use mathlib.Core.Bool.{Bool, false, not, ◌&&◌}
-use mathlib.Core.List.{List, [], ◌∷◌, ◌++◌, append-nil, append_assoc}
+use mathlib.Core.List.{List, [], ◌∷◌, ◌++◌, append-nil, append_assoc, map}
 use Prim.Native.Nat.{ℕ, ◌+◌, ◌*◌, ◌<◌, ◌≤◌}
 use native.Mathlib.Omega.{arith}
 use lib.Dec.{eqb, leb, ltb}
-use lib.ListN.{get_or, take, length-map}
+use lib.ListN.{get_or, take, length-map, length-take, length}
 use lib.Seq.{length-take-le}
 use borrow.Author.Tests.{ltb-true, ltb-false}
 use Rattle.rules.specs.Lists.{mem, keep, is_nil, insert, insert_all, In, Out, Once, nobody, one}
@@ -32,14 +32,12 @@ use Rattle.stage_walk.specs.Stands.{Context}
 use Rattle.stage_walk.proofs.Contexts.{work}
 use Rattle.stage_tree.specs.Bits.{Standing}
 use Rattle.stage_tree.proofs.Bits.Standing.{stands_frame}
-use Rattle.stage_runs.specs.declared.puts.Puts.{Puts}
 use Rattle.stage_runs.specs.declared.puts.Written.{Written}
-use Rattle.stage_sparse.specs.declared.Runs.{Runs}
+use Rattle.stage_sparse.specs.declared.Sparse.{Sparse}
 use Rattle.stage_runs.specs.Classes.{is_needed, is_untouched, SplitAt, Classes}
-use Rattle.stage_sparse.specs.Runs.{listed, RunsAt, Sorted}
+use Rattle.stage_sparse.specs.Runs.{known, runs, listed, RunsAt, Sorted}
 use Rattle.stage_runs.specs.Puts.{put_of, words_of, WriteAt, Wrote}
 use Rattle.stage_runs.specs.Ran.{EndAt, Ran}
-use Rattle.stage_sparse.proofs.Laws.Places.{listed_length}
 use Rattle.stage_runs.proofs.Laws.Plain.{not_not, not_zero}
 
 -- ---- lists
@@ -131,7 +129,17 @@ module _ {C : Context} {m K half n : ℕ} {at room : ℕ} {gates pl w words : Li
     pub runs_at : RunsAt K half pl
     runs_at = record { low = omega (arith, A.height, C.low); high = omega (arith, A.height, C.high); row = A.row; size = rw A.height A.stands.fair.len }
 
-    module _ {R : Runs} (Q : Sorted K pl R) where
+    module _ {records : List Sparse} {count : ℕ} (Q : Sorted K pl (runs records count)) where
+      abbrev R : List Sparse
+      R = take count records
+
+      R_few : length R ≤ 128
+      R_few = omega (arith, Q.few, length-take count records)
+
+      runs_now : map known R ≡ rules.sparse_runs K pl
+      unfolding listed
+      runs_now = Q.now
+
       none_real : list STACK m 0 w1 ≡ []
       unfolding list
       none_real = refl
@@ -155,32 +163,28 @@ module _ {C : Context} {m K half n : ℕ} {at room : ℕ} {gates pl w words : Li
           waits = λ x i. in_nil x (rw none_real at i);
         };
         row = A.row ∙ rw A.height refl;
-        size = Q.size;
-        few = Q.few;
-        inside = rw (Q.now, A.row) (runs_fit K pl);
+        few = R_few;
+        inside = rw (runs_now, A.row) (runs_fit K pl);
         ruled = A.ruled;
         fits = A.fits;
       }
 
       module _ {e : Written} {pl1 w2 words1 : List ℕ} (W : Wrote C m half k (not u) at room R gates pl w1 words e pl1 w2 words1) where
-        abbrev left : Puts
-        left = record { next = e.next; real = e.real }
-
         abbrev ws : List ℕ
-        ws = words_of half (take e.words (listed R))
+        ws = words_of half (take e.words (map known R))
 
         all_left : span PHASE m 0 k w1 ≡ rules.in_need C.X pl
         unfolding span
         all_left = now.held.is ∙ sym in_need_lem
 
-        runs_are : listed R ≡ rules.sparse_runs C.X.K pl
-        runs_are = Q.now ∙ ap (λ (K : ℕ). rules.sparse_runs K pl) A.height
+        runs_are : map known R ≡ rules.sparse_runs C.X.K pl
+        runs_are = runs_now ∙ ap (λ (K : ℕ). rules.sparse_runs K pl) A.height
 
         start_is : put_of m k (record { next = 0; real = 0 }) pl w1 [] ≡ record { plan = pl; left = rules.in_need C.X pl; real = []; words = [] }
         unfolding put_of
         start_is = rw (all_left, none_real) refl
 
-        written_is : rules.written C.X pl ≡ put_of m k left pl1 w2 ws
+        written_is : rules.written C.X pl ≡ put_of m k e.puts pl1 w2 ws
         unfolding rules.written
         written_is = rw runs_are (rw (last_is, runs_are, start_is) at W.is)
 
@@ -188,7 +192,7 @@ module _ {C : Context} {m K half n : ℕ} {at room : ℕ} {gates pl w words : Li
         unfolding put_of
         plan_is = ap (λ (s : rules.Put). s.plan) written_is
 
-        real_is : (rules.written C.X pl).real ≡ list STACK m e.real w2
+        real_is : (rules.written C.X pl).real ≡ list STACK m e.puts.real w2
         unfolding put_of
         real_is = ap (λ (s : rules.Put). s.real) written_is
 
@@ -197,7 +201,7 @@ module _ {C : Context} {m K half n : ℕ} {at room : ℕ} {gates pl w words : Li
         words_are = ap (λ (s : rules.Put). s.words) written_is
 
         -- classes, records and runs together are rule 8
-        pub ran : Ran C m at room gates pl w words (record { last = not u; real = e.real; words = e.words }) pl1 w2 words1
+        pub ran : Ran C m at room gates pl w words (record { last = not u; real = e.puts.real; words = e.words }) pl1 w2 words1
         unfolding words_of
         ran = record {
           touched = record {
@@ -211,7 +215,7 @@ module _ {C : Context} {m K half n : ℕ} {at room : ℕ} {gates pl w words : Li
           needed = rw in_need_lem (marks_frame now.marks W.moved.frame refl (omega arith));
           realised = rw real_is W.now.real;
           waits = rw real_is W.now.waits;
-          count = rw (words_are, length-map, length-take-le e.words (listed R) (rw (listed_length R (omega (arith, Q.size, Q.few))) W.upto)) refl;
-          few = omega (arith, W.upto, Q.few);
+          count = rw (words_are, length-map, length-take-le e.words (map known R) (rw length-map W.upto)) refl;
+          few = omega (arith, W.upto, R_few);
           wrote = rw words_are W.wrote;
         }

@@ -2,7 +2,7 @@
 use mathlib.Core.Path.{◌≡◌, refl, sym, ap, ◌∙◌}
 use mathlib.Core.Logic.{◌≢◌}
 use mathlib.Core.Bool.{Bool, true, false, ◌||◌}
-use mathlib.Core.List.{List, [], ◌∷◌, ◌++◌, map-append}
+use mathlib.Core.List.{List, [], ◌∷◌, ◌++◌, map, map-append}
 use Prim.Native.Nat.{ℕ, zero, suc, ◌+◌, ◌-◌, ◌/◌, ◌<◌, ◌≤◌}
 use native.Mathlib.Omega.{arith}
 use lib.Dec.{leb, ltb}
@@ -12,7 +12,6 @@ use borrow.Author.Tests.{ltb-true, ltb-false}
 use Rattle.rules.specs.Cells.{row_at}
 use Rattle.rules.specs.Ending as rules
 use Rattle.rules.proofs.Lists.Members.{split}
-use Rattle.rules.proofs.Needed.Lacks.{same_truth, leb_true, true_leb}
 use Rattle.rules.specs.Inside.Counts as counts
 use Rattle.rules.specs.Traversal.{needed_runs}
 use Rattle.rules.proofs.Stage.Branches.{runs_end, runs_go, runs_stop}
@@ -22,11 +21,10 @@ use Rattle.columns.proofs.Lists.Entries.{length_list}
 use Rattle.stage_walk.specs.Stands.{Context}
 use Rattle.stage_runs.specs.declared.puts.Puts.{Puts}
 use Rattle.stage_sparse.specs.declared.Sparse.{Sparse}
-use Rattle.stage_sparse.specs.declared.Runs.{Runs}
-use Rattle.stage_sparse.specs.Runs.{known, listed}
+use Rattle.stage_sparse.specs.Runs.{known}
 use Rattle.stage_runs.specs.Puts.{put_of, RunAt, Noted, RecordAt, PutRecord, words_of, WriteAt, Writing, Wrote}
 use Rattle.stage_runs.specs.Laid.{noted}
-use Rattle.stage_sparse.proofs.Laws.Places.{listed_length, listed_next, listed_take}
+use Rattle.stage_sparse.proofs.Laws.Places.{known_next, known_take}
 use Rattle.stage_runs.proofs.Laws.Plain.{row_high}
 use Rattle.stage_runs.proofs.Laws.Laid.{laid_none, laid_length, laid_more}
 use Rattle.stage_runs.proofs.Laws.Puts.{moved_none, moved_then}
@@ -44,10 +42,6 @@ unfolding rules.goes_on rules.allows
 goes_some last f zero n = absurd (n refl)
 goes_some last f (suc k) n = refl
 
--- enough pins: those left fill the run's empty cells
-pub enough_rest : (last : Bool) (f left w : ℕ) → last ≡ false → w ≡ f → leb 32 (left + w) ≡ (last || leb (32 - f) left)
-enough_rest last f left w e d = rw e (same_truth (leb 32 (left + w)) (leb (32 - f) left) (λ t. true_leb (32 - f) left (omega (arith, leb_true 32 (left + w) t))) (λ t. true_leb 32 (left + w) (omega (arith, leb_true (32 - f) left t))))
-
 -- ---- words laid one behind the other
 
 module _ (at : ℕ) (words : List ℕ) where
@@ -62,7 +56,8 @@ module _ (at : ℕ) (words : List ℕ) where
   noted_length room ws h = laid_length at words (take room ws) (omega (arith, length-take room ws))
 
   -- a word noted behind those before, as far as there is room
-  pub noted_more : (room j x : ℕ) (ws words1 words2 : List ℕ) → length ws ≡ j → at + room ≤ length words → words1 ≡ noted at room ws words → Noted at room j x words1 words2 → words2 ≡ noted at room (ws ++ (x ∷ [])) words
+  pub noted_more : (room j x : ℕ) (ws words1 words2 : List ℕ) → length ws ≡ j → at + room ≤ length words → words1 ≡ noted at room ws words → Noted at room j x words1 words2 →
+      words2 ≡ noted at room (ws ++ (x ∷ [])) words
   unfolding noted
   noted_more room j x ws words1 words2 l h e N = split (ltb j room)
       (λ t. let b = ltb-true j room t in
@@ -94,12 +89,9 @@ length_left : (m k next : ℕ) (w : List ℕ) → k ≤ m → length (span PHASE
 unfolding span
 length_left m k next w h = rw (length-drop, length_list PHASE m k w h) refl
 
-module _ {C : Context} {m half k : ℕ} {at room : ℕ} {R : Runs} {gates pl w words : List ℕ} (A : WriteAt C m half k at room R gates pl w words) (last : Bool) where
+module _ {C : Context} {m half k : ℕ} {at room : ℕ} {R : List Sparse} {gates pl w words : List ℕ} (A : WriteAt C m half k at room R gates pl w words) (last : Bool) where
   abbrev rs : List rules.Sparse
-  rs = listed R
-
-  inside_records : R.len ≤ length R.records
-  inside_records = omega (arith, A.size, A.few)
+  rs = map known R
 
   -- before the first record nothing is written
   pub writing_none : Writing C m half k last at room R gates pl w words (record { next = 0; real = 0 }) 0 pl w words
@@ -112,23 +104,27 @@ module _ {C : Context} {m half k : ℕ} {at room : ℕ} {R : Runs} {gates pl w w
     writing_length = rw B.wrote (noted_length at words room (words_of half (take j rs)) A.fits)
 
     -- past the last record all is written
-    pub writing_end : R.len ≤ j → Wrote C m half k last at room R gates pl w words (record { next = t.next; real = t.real; words = j }) pl1 w1 words1
+    pub writing_end : length R ≤ j → Wrote C m half k last at room R gates pl w words (record { puts = t; words = length R }) pl1 w1 words1
     writing_end h =
-        let z : drop j rs ≡ [] = drop_of_length-le rs {i = j} (rw (listed_length R inside_records) h) in
-        record { upto = B.upto; now = B.now; moved = B.moved; size = B.size; is = B.same ∙ rw z (runs_end C.X last (put_of m k t pl1 w1 (words_of half (take j rs)))); wrote = B.wrote }
+        let e : length R ≡ j = omega (arith, B.upto) in
+        let z : drop j rs ≡ [] = drop_of_length-le rs {i = j} (rw (length-map) h) in
+        rw e (record { upto = B.upto; now = B.now; moved = B.moved; size = B.size; is = B.same ∙ rw z (runs_end C.X last (put_of m k t pl1 w1 (words_of half (take j rs)))); wrote = B.wrote })
 
-    module _ (h : j < R.len) (d : Sparse) where
+    module _ (h : j < length R) (d : Sparse) where
       abbrev r : Sparse
-      r = get_or R.records j d
+      r = get_or R j d
 
       next_is : drop j rs ≡ known r ∷ drop (j + 1) rs
-      next_is = listed_next R inside_records j d h
+      next_is = known_next R j d h
 
       left_is : length (span PHASE m t.next k w1) ≡ k - t.next
       left_is = length_left m k t.next w1 B.now.needed.few
 
       -- a record that is not written ends it
-      pub writing_stop : {b : Bool} → b ≡ rules.goes_on needed_runs last r.filled (k - t.next) → b ≡ false → Wrote C m half k last at room R gates pl w words (record { next = t.next; real = t.real; words = j }) pl1 w1 words1
+      pub writing_stop : {b : Bool} → b ≡ rules.goes_on needed_runs last r.filled (k - t.next) → b ≡ false → Wrote C m half k last at room R gates pl w words (record {
+        puts = t;
+        words = j;
+      }) pl1 w1 words1
       unfolding put_of
       writing_stop e f = record {
         upto = B.upto;
@@ -153,17 +149,20 @@ module _ {C : Context} {m half k : ℕ} {at room : ℕ} {R : Runs} {gates pl w w
 
       words_more : words_of half (take (j + 1) rs) ≡ words_of half (take j rs) ++ (word ∷ [])
       unfolding words_of
-      words_more = rw (listed_take R inside_records j d h, map-append (λ (x : rules.Sparse). (x.start + half) / 32)) refl
+      words_more = rw (known_take R j d h, map-append (λ (x : rules.Sparse). (x.start + half) / 32)) refl
 
       words_count : length (words_of half (take j rs)) ≡ j
       unfolding words_of
-      words_count = rw (length-map, length-take-le j rs (rw (listed_length R inside_records) (omega arith))) refl
+      words_count = rw (length-map, length-take-le j rs (rw length-map (omega arith))) refl
 
       module _ {start : ℕ} (is-start : start ≡ r.start) {t2 : Puts} {pl2 w2 words2 : List ℕ} (D : PutRecord C m half k at room j start gates t pl1 w1 words1 t2 pl2 w2 words2) where
         run_is : rules.put_run C.X (known r) (put_of m k t pl1 w1 (words_of half (take j rs))) ≡ put_of m k t2 pl2 w2 (words_of half (take (j + 1) rs))
         unfolding rules.put_run put_of row_at
         run_is =
-            let e : rules.put_cells C.X 32 (row_at C.X.K 1 + r.start) (put_of m k t pl1 w1 (words_of half (take j rs))) ≡ put_of m k t2 pl2 w2 (words_of half (take j rs)) = rw (← A.row, ← is-start) (D.put.is (words_of half (take j rs))) in
+            let e : rules.put_cells C.X 32 (row_at C.X.K 1 + r.start) (put_of m k t pl1 w1 (words_of half (take j rs))) ≡ put_of m k t2 pl2 w2 (words_of half (take j rs)) = rw (
+              ← A.row,
+              ← is-start,
+            ) (D.put.is (words_of half (take j rs))) in
             rw (e, words_more, A.row) refl
 
         -- a record that is written is put, with its word
@@ -176,6 +175,9 @@ module _ {C : Context} {m half k : ℕ} {at room : ℕ} {R : Runs} {gates pl w w
               now = D.put.now;
               moved = moved_then B.moved D.put.moved;
               size = D.put.size ∙ B.size;
-              same = B.same ∙ rw next_is (runs_go C.X last (put_of m k t pl1 w1 (words_of half (take j rs))) (known r) (drop (j + 1) rs) (rw (left_is, A.ruled) (sym e ∙ f)) ∙ ap (rules.put_runs C.X last (drop (j + 1) rs)) run_is);
+              same = B.same ∙ rw next_is (runs_go C.X last (put_of m k t pl1 w1 (words_of half (take j rs))) (known r) (drop (j + 1) rs) (rw (
+                left_is,
+                A.ruled,
+              ) (sym e ∙ f)) ∙ ap (rules.put_runs C.X last (drop (j + 1) rs)) run_is);
               wrote = rw (words_more, ← z) (noted_more at words room j ((half + start) / 32) (words_of half (take j rs)) words1 words2 words_count A.fits B.wrote D.note);
             }

@@ -8,10 +8,6 @@ use Rattle.stage_tally.specs.declared.Tally.{Tally}
 use Rattle.stage_tally.specs.Spending.{spending, bound, room, Counted}
 
 module _ {t u : Tally} (A : Counted t) (n : ℕ) (e : u ≡ spending t n) where
-  -- adding words leaves what is reserved within the limit
-  pub within_still : u.reserved ≤ u.limit
-  within_still = rw e A.within
-
   -- n words more are over exactly where the room is less than n
   pub over_room : {b : Bool} → b ≡ ltb (bound u) u.spent → b ≡ true → room t < n
   over_room f g = let h = ltb→lt (bound t) (t.spent + n) (subst T (sym (rw e at (sym f ∙ g))) tt) in omega (arith, A.spent, h)

@@ -1,6 +1,7 @@
 use native.Mathlib.Omega.{arith}
 use Rattle.stage_tree.proofs.Counts.Pins.{above_zero}
-use Rattle.stage_tree.proofs.Bits.Places.{placed_few, place_fill, place_pin, place_low, placed_zero, level_read, pass_at, passed, split_at, parted, split_pin, split_low, split_pins, split_first, split_second, split_both}
+use Rattle.stage_tree.proofs.Bits.Places.{placed_few, place_fill, place_low, placed_zero, level_read, pass_at, passed, split_at, parted, split_low}
+use Rattle.stage_tree.proofs.Bits.Places.{split_pins, split_first, split_second, split_both}
 use Rattle.stage_tree.proofs.+place_bit_split_gate.Goals as goal
 
 pub place_bit-fill_cell-requires : goal.place_bit-fill_cell-requires
@@ -8,15 +9,6 @@ place_bit-fill_cell-requires t c = let s = c.requires in record { it = s.it; at 
 
 pub place_bit-returns-then-h-eq0 : goal.place_bit-returns-then-h-eq0
 place_bit-returns-then-h-eq0 t c = record { all = λ C A. placed_zero A (c.fill_cell.ensures.all C (place_fill A)) c.if-h-eq0.true }
-
-pub place_bit-get-requires : goal.place_bit-get-requires
-place_bit-get-requires t c =
-    let s = c.requires in
-    let M = c.fill_cell.ensures.all s.it (place_fill s.at) in
-    omega (arith, place_pin s.at, M.kept.frame.len, s.at.base.area.room)
-
-pub place_bit-overflow_sub-h : goal.place_bit-overflow_sub-h
-place_bit-overflow_sub-h t c = omega (arith, above_zero _ c.if-h-eq0.false)
 
 pub place_bit-overflow_mul-w : goal.place_bit-overflow_mul-w
 place_bit-overflow_mul-w t c = omega (arith, place_low c.requires.at (above_zero _ c.if-h-eq0.false))
@@ -66,15 +58,6 @@ place_bit-returns t c =
           let S = split_at A M (above_zero _ c.if-h-eq0.false) (omega (arith, c.if-get-h.false, level_read A M _ c.get.ensures)) in
           parted A M (c.split_gate.ensures.all C S);
     }
-
-pub split_gate-overflow_mul-at : goal.split_gate-overflow_mul-at
-split_gate-overflow_mul-at t c = let A = c.requires.at in omega (arith, split_pin A, A.base.area.small)
-
-pub split_gate-overflow_add-at : goal.split_gate-overflow_add-at
-split_gate-overflow_add-at t c = let A = c.requires.at in omega (arith, split_pin A, A.base.area.small)
-
-pub split_gate-overflow_sub-next : goal.split_gate-overflow_sub-next
-split_gate-overflow_sub-next t c = omega (arith, c.requires.at.above)
 
 pub split_gate-overflow_mul-low : goal.split_gate-overflow_mul-low
 split_gate-overflow_mul-low t c = omega (arith, split_low c.requires.at)

@@ -111,7 +111,12 @@ module _ {C : Context} {m h p n : ℕ} {pl u : List ℕ} (A : EmptyAt C m h p n 
         where
           go : Dec (get_or u1 (CELLS * m + n) 0 ≡ 0) → get_or u1 (16 * m + PINS) 0 ≡ length (tree K pl0)
           go (yes e) = omega (arith, O.new e, A.spot.tally.pins, grown_new (in_tree ∙ le-ltb 0 (cells_holding K pl0 n) (omega (arith, cells_after n empty_pin))))
-          go (no e) = omega (arith, O.old e, A.spot.tally.pins, grown_old (in_tree ∙ lt-ltb 0 (cells_holding K pl0 n) (omega (arith, cells_after n empty_pin, above_zero (get_or u1 (CELLS * m + n) 0) e))))
+          go (no e) = omega (
+            arith,
+            O.old e,
+            A.spot.tally.pins,
+            grown_old (in_tree ∙ lt-ltb 0 (cells_holding K pl0 n) (omega (arith, cells_after n empty_pin, above_zero (get_or u1 (CELLS * m + n) 0) e))),
+          )
 
       ones_same : get_or u1 (16 * m + ONES) 0 ≡ get_or u (16 * m + ONES) 0
       ones_same = sym (O.other (16 * m + ONES) (λ d. omega (arith, empty_pin)) (λ d. omega arith))

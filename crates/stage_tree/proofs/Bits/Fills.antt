@@ -61,7 +61,10 @@ module _ {C : Context} {m h p n : ℕ} {pl u : List ℕ} (A : FillAt C m h p n p
   module _ (pos : 0 < h) {u1 : List ℕ} (O : OneMore m n u u1) where
     cells_step : (x : ℕ) → x < m → cells_holding K (set pl p n) x ≡ cells_holding K pl x + bit (eqb n x)
     unfolding empty
-    cells_step x b = omega (arith, rw (not_filled (get_or pl p empty) A.free, ne_eqb empty x (λ e. omega (arith, A.spot.area.small))) at (cells_set K pl p n x (spot_upper A.spot pos) (spot_in A.spot)))
+    cells_step x b = omega (
+      arith,
+      rw (not_filled (get_or pl p empty) A.free, ne_eqb empty x (λ e. omega (arith, A.spot.area.small))) at (cells_set K pl p n x (spot_upper A.spot pos) (spot_in A.spot)),
+    )
 
     cells_after : (x : ℕ) → x < m → get_or u1 (CELLS * m + x) 0 ≡ cells_holding K (set pl p n) x
     cells_after x b = go (ℕ_discrete x n)
@@ -80,7 +83,12 @@ module _ {C : Context} {m h p n : ℕ} {pl u : List ℕ} (A : FillAt C m h p n p
       where
         go : Dec (get_or u (CELLS * m + n) 0 ≡ 0) → get_or u1 (16 * m + PINS) 0 ≡ length (tree K (set pl p n))
         go (yes e) = omega (arith, O.new e, A.spot.tally.pins, size_new K pl p n (spot_upper A.spot pos) (spot_in A.spot) A.free full (held ∙ le-ltb 0 (get_or u (CELLS * m + n) 0) (omega arith)))
-        go (no e) = omega (arith, O.old e, A.spot.tally.pins, size_old K pl p n (spot_upper A.spot pos) (spot_in A.spot) A.free full (held ∙ lt-ltb 0 (get_or u (CELLS * m + n) 0) (above_zero (get_or u (CELLS * m + n) 0) e)))
+        go (no e) = omega (
+          arith,
+          O.old e,
+          A.spot.tally.pins,
+          size_old K pl p n (spot_upper A.spot pos) (spot_in A.spot) A.free full (held ∙ lt-ltb 0 (get_or u (CELLS * m + n) 0) (above_zero (get_or u (CELLS * m + n) 0) e)),
+        )
 
     ones_same : get_or u1 (16 * m + ONES) 0 ≡ get_or u (16 * m + ONES) 0
     ones_same = O.other (16 * m + ONES) (λ d. omega (arith, fill_pin)) (λ d. omega arith)

@@ -123,7 +123,12 @@ module _ {C : Context} {m h w p n : ℕ} {gates pl u : List ℕ} (A : BitAt C m 
 
       -- a pin of a lower level is passed down there
       pub passed : level_at C.X n < h → {k : ℕ} {pl2 u2 : List ℕ} → BitPlaced C m (h - 1) (2 * w) (p + w) n k pl1 u1 pl2 u2 → BitPlaced C m h w p n (1 + k) pl u pl2 u2
-      passed l P = record { plan = P.plan ∙ rw M.plan (sym (place_pass C.X w p n pl h pos l)); cells = omega (arith, P.cells, cost_pass C.X w p n pl h pos l); kept = inner_then M.kept P.kept; tally = P.tally }
+      passed l P = record {
+        plan = P.plan ∙ rw M.plan (sym (place_pass C.X w p n pl h pos l));
+        cells = omega (arith, P.cells, cost_pass C.X w p n pl h pos l);
+        kept = inner_then M.kept P.kept;
+        tally = P.tally;
+      }
 
       -- a gate of the cell's level or more may be split
       pub split_at : h ≤ level_at C.X n → SplitAt C m h w p n gates pl1 u1
@@ -145,10 +150,6 @@ module _ {C : Context} {m h w p n : ℕ} {gates pl u : List ℕ} (A : BitAt C m 
     parted P = record { plan = P.plan ∙ rw M.plan (place_again C.X w p n pl h); cells = P.cells; kept = inner_then M.kept P.kept; tally = P.tally }
 
 module _ {C : Context} {m h w p n : ℕ} {gates pl u : List ℕ} (A : SplitAt C m h w p n gates pl u) where
-  -- the gate to be split is a pin of the area
-  pub split_pin : n < m
-  split_pin = omega (arith, C.S.bound n A.listed, A.base.size)
-
   -- its lower cells stand in the stage
   pub split_low : p + 2 * w < 16384
   split_low = omega (arith, lower_in A.spot A.above, spot_small A.spot, A.row)
@@ -175,7 +176,10 @@ module _ {C : Context} {m h w p n : ℕ} {gates pl u : List ℕ} (A : SplitAt C 
     module _ {k : ℕ} {pl1 u1 : List ℕ} (P : BitPlaced C m (h - 1) (2 * w) (p + w) a k pl u pl1 u1) where
       -- the first operand's cells are none of the second's
       second_free : Under (2 * w) (p + 2 * w) pl1
-      second_free j = rw P.plan (rw (frame C.X (h - 1) (2 * w) (p + w) a pl (p + 2 * w + j * (2 * w)) (apart (2 * w) (p + w) (p + 2 * w) (omega (arith, row_pos')) (omega (arith, row_pos')) (λ e. omega (arith, row_pos')) j)) (A.second j))
+      second_free j = rw P.plan (rw (frame C.X (h - 1) (2 * w) (p + w) a pl (p + 2 * w + j * (2 * w)) (apart (2 * w) (p + w) (p + 2 * w) (omega (arith, row_pos')) (omega (
+        arith,
+        row_pos',
+      )) (λ e. omega (arith, row_pos')) j)) (A.second j))
 
       -- then the second operand at the second lower cell
       pub split_second : BitAt C m (h - 1) (2 * w) (p + 2 * w) b gates pl1 u1

@@ -45,7 +45,8 @@ module _ (w p : ℕ) (pl : List ℕ) where
   unfolding freed
   freed_zero h e g = rw (e, g, freed) refl
 
-  freed_two : (h : ℕ) → 0 < h → filled (get_or pl p empty) ≡ true → freed h w p pl ≡ suc (freed (h - 1) (2 * w) (p + w) (set pl p empty) + freed (h - 1) (2 * w) (p + 2 * w) (take_back (h - 1) (2 * w) (p + w) (set pl p empty)))
+  freed_two : (h : ℕ) → 0 < h → filled (get_or pl p empty) ≡ true →
+      freed h w p pl ≡ suc (freed (h - 1) (2 * w) (p + w) (set pl p empty) + freed (h - 1) (2 * w) (p + 2 * w) (take_back (h - 1) (2 * w) (p + w) (set pl p empty)))
   unfolding freed
   freed_two zero b g = absurd (omega arith)
   freed_two (suc h) b g = let z : suc h - 1 ≡ h = omega arith in rw (z, g, freed) refl

@@ -60,7 +60,7 @@ module _ {C : Context} {m h : ℕ} {gates pl u : List ℕ} (A : Standing C m h g
       total = A.tally.total;
     }
 
-    -- for the same pin and cell taking back reports what placing did
+    -- for the same pin and cell taking back reports what placing did: no proof needs it, docs/PROMISES.md promises it
     pub same_report : {k j : ℕ} {pl1 u1 v pl2 v2 : List ℕ} → BitPlaced C m h w p n k pl u pl1 u1 → BitPurged C m h w p j pl1 v pl2 v2 → j ≡ k
     unfolding placed
     same_report B Q = Q.cells ∙ rw (B.plan, row) (same_number (work C) h p n A.fair P) ∙ sym B.cells
@@ -111,7 +111,8 @@ module _ (C : Context) (m h : ℕ) (gates u : List ℕ) (B : Base C m gates u) (
   no_ones = count_none filled _ (blank_take (row_at C.X.K 1) (drop (row_at C.X.K 1) pl0) (blank_drop (row_at C.X.K 1) pl0 (blank_replicate (2 ^ (C.X.K + 1)))))
 
   -- the invariants hold of the empty stage with counts of 0
-  pub first_stands : ((x : ℕ) → x < m → get_or u (CELLS * m + x) 0 ≡ 0) → get_or u (16 * m + ONES) 0 ≡ 0 → get_or u (16 * m + PINS) 0 ≡ 0 → get_or u (16 * m + FILLED) 0 ≡ 0 → Standing C m h gates (blank C.X) u
+  pub first_stands : ((x : ℕ) → x < m → get_or u (CELLS * m + x) 0 ≡ 0) → get_or u (16 * m + ONES) 0 ≡ 0 → get_or u (16 * m + PINS) 0 ≡ 0 → get_or u (16 * m + FILLED) 0 ≡ 0 →
+      Standing C m h gates (blank C.X) u
   unfolding blank
   first_stands c o p t = record {
     base = B;
@@ -121,5 +122,6 @@ module _ (C : Context) (m h : ℕ) (gates u : List ℕ) (B : Base C m gates u) (
   }
 
 -- other columns change
-pub stands_frame : {fs : List ℕ} {C : Context} {m h : ℕ} {gates pl u u' : List ℕ} → Frame fs m u u' → among fs LEVEL ≡ false → among fs CELLS ≡ false → among fs TAIL ≡ false → Standing C m h gates pl u → Standing C m h gates pl u'
+pub stands_frame : {fs : List ℕ} {C : Context} {m h : ℕ} {gates pl u u' : List ℕ} → Frame fs m u u' → among fs LEVEL ≡ false → among fs CELLS ≡ false → among fs TAIL ≡ false →
+    Standing C m h gates pl u → Standing C m h gates pl u'
 stands_frame f l c t A = record { base = base_frame f A.base; levelled = levelled_frame f l A.levelled; tally = tally_frame f c t A.tally; fair = A.fair }

@@ -1,7 +1,6 @@
 -- The filled cells of all levels: what placing and taking back report, added up. Assumes nothing.
-use Prim.Native.Nat.{ℕ, ◌+◌, ◌-◌, ◌*◌, ◌^◌, ◌≤◌, ◌<◌}
-use mathlib.Core.Path.{◌≡◌, sym, ◌∙◌}
-use mathlib.Core.Logic.{◌≢◌}
+use Prim.Native.Nat.{ℕ, ◌+◌, ◌-◌, ◌*◌, ◌≤◌}
+use mathlib.Core.Path.{◌≡◌, ◌∙◌}
 use mathlib.Core.List.{List}
 use native.Mathlib.Omega.{arith}
 use lib.ListN.{length, get_or, set}
@@ -11,7 +10,6 @@ use Rattle.rules.specs.Cells.{filled, row_at}
 use Rattle.rules.proofs.Stage.Fuel.{count-length}
 use Rattle.rules.proofs.Tree.Loads.{rows}
 use Rattle.rules.proofs.Tree.Cost.{place_count, back_count}
-use Rattle.columns.specs.Area.{Room}
 use Rattle.columns.specs.Fields.{CELLS, ONES, PINS, FILLED}
 use Rattle.stage_walk.specs.Stands.{Context, Tally}
 use Rattle.stage_walk.proofs.Contexts.{work}
@@ -47,7 +45,10 @@ module _ {C : Context} {m h w p n k : ℕ} {gates pl u pl1 u1 : List ℕ} (A : P
   grown : count filled pl1 ≡ count filled pl + k
   grown =
       let z : w ≡ row_at C.X.K h = A.bit.row in
-      rw (B.plan, B.cells) (place_count (work C) h w p n pl (omega (arith, A.bit.spot.from)) (omega (arith, A.bit.spot.to)) (rw z (rows C.X.K h A.bit.spot.high)) A.bit.spot.len A.bit.listed A.bit.under)
+      rw (B.plan, B.cells) (place_count (work C) h w p n pl (omega (arith, A.bit.spot.from)) (omega (
+        arith,
+        A.bit.spot.to,
+      )) (rw z (rows C.X.K h A.bit.spot.high)) A.bit.spot.len A.bit.listed A.bit.under)
 
   -- what placing reports added to the sum is the new plan's
   pub placed_total : (v : ℕ) → v ≡ get_or u1 (16 * m + FILLED) 0 → {u2 : List ℕ} → u2 ≡ set u1 (16 * m + FILLED) (v + k) → Placed C m h w p n pl u pl1 u2

@@ -1,17 +1,16 @@
 -- What the counts tell: whether a pin is in the tree, and rule 7's test. Assumes nothing.
 use mathlib.Core.Path.{◌≡◌}
 use mathlib.Core.List.{List}
-use Prim.Native.Nat.{ℕ, ◌+◌, ◌*◌, ◌≤◌, ◌<◌, max}
-use native.Mathlib.Omega.{arith}
+use Prim.Native.Nat.{ℕ, ◌+◌, ◌*◌, ◌<◌}
 use lib.Dec.{ltb}
-use lib.ListN.{length, get_or}
+use lib.ListN.{get_or}
 use Rattle.rules.specs.Lists.{mem, In}
 use Rattle.rules.specs.Cells.{level_one_size}
 use Rattle.rules.specs.Placing.{tree_of}
 use Rattle.rules.specs.Inside.Lean.{room_for}
 use Rattle.rules.proofs.Tree.Fair.{listed_filled}
 use Rattle.rules.proofs.Tree.Tally.{tree_cells}
-use Rattle.columns.specs.Fields.{CELLS, ONES, PINS}
+use Rattle.columns.specs.Fields.{CELLS}
 use Rattle.stage_walk.specs.Stands.{Context}
 use Rattle.stage_walk.proofs.Contexts.{work}
 use Rattle.stage_tree.specs.Counts.{Counts, room_in}
@@ -25,14 +24,3 @@ in_tree {C} {m} {pl} t n b i = rw (t.cells n b) (tree_cells C.X.K pl n (listed_f
 pub room_is : {C : Context} {m : ℕ} {pl u : List ℕ} → Counts C m pl u → (half b : ℕ) → half ≡ level_one_size C.X.K → room_in m half b u ≡ room_for C.X b pl
 unfolding room_in room_for
 room_is t half b e = rw (t.ones, t.pins, e)
-
-module _ (m half b : ℕ) (u : List ℕ) (ones pins : ℕ) (e : ones ≡ get_or u (16 * m + ONES) 0) (d : pins ≡ get_or u (16 * m + PINS) 0) where
-  -- with more pins in the tree than filled cells, the pins decide
-  pub room_pins : ones < pins → ltb (b + pins) half ≡ room_in m half b u
-  unfolding room_in
-  room_pins h = let z : max (get_or u (16 * m + ONES) 0) (get_or u (16 * m + PINS) 0) ≡ pins = omega arith in rw z
-
-  -- with no more pins than filled cells, the filled cells decide
-  pub room_ones : pins ≤ ones → ltb (b + ones) half ≡ room_in m half b u
-  unfolding room_in
-  room_ones h = let z : max (get_or u (16 * m + ONES) 0) (get_or u (16 * m + PINS) 0) ≡ ones = omega arith in rw z

@@ -1,11 +1,6 @@
-use Prim.Native.Nat.{◌-◌}
-use mathlib.Core.Path.{refl}
 use native.Mathlib.Omega.{arith}
 use Rattle.stage_tree.proofs.Search.{first_here, first_on, first_end}
 use Rattle.stage_tree.proofs.first_empty.Goals as goal
-
-pub loop-c-init : goal.loop-c-init
-loop-c-init c = (omega arith, omega arith, refl)
 
 pub returns-then-stage-c : goal.returns-then-stage-c
 returns-then-stage-c c = first_here _ _ _ c.requires _ c.loop-c.invariant.0 c.loop-c-test.true c.loop-c.invariant.2 c.if-stage-c.true

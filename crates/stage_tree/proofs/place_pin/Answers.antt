@@ -5,10 +5,16 @@ use Rattle.stage_tree.proofs.Bits.Totals.{total_few, total_read, placed_total}
 use Rattle.stage_tree.proofs.place_pin.Goals as goal
 
 pub overflow_add-total : goal.overflow_add-total
-overflow_add-total c = let s = c.requires in let B = c.place_bit-n.ensures.all s.it s.at.bit in omega (arith, c.tail_get-total.ensures, total_read s.at.bit.spot s.at.total B.kept, total_few s.at.bit.spot, placed_few s.at.bit.spot.high B)
+overflow_add-total c =
+    let s = c.requires in
+    let B = c.place_bit-n.ensures.all s.it s.at.bit in
+    omega (arith, c.tail_get-total.ensures, total_read s.at.bit.spot s.at.total B.kept, total_few s.at.bit.spot, placed_few s.at.bit.spot.high B)
 
 pub overflow_cast-total : goal.overflow_cast-total
-overflow_cast-total c = let s = c.requires in let B = c.place_bit-n.ensures.all s.it s.at.bit in omega (arith, c.tail_get-total.ensures, total_read s.at.bit.spot s.at.total B.kept, total_few s.at.bit.spot, placed_few s.at.bit.spot.high B)
+overflow_cast-total c =
+    let s = c.requires in
+    let B = c.place_bit-n.ensures.all s.it s.at.bit in
+    omega (arith, c.tail_get-total.ensures, total_read s.at.bit.spot s.at.total B.kept, total_few s.at.bit.spot, placed_few s.at.bit.spot.high B)
 
 pub returns : goal.returns
 returns c = record { all = λ C A. placed_total A (c.place_bit-n.ensures.all C A.bit) _ c.tail_get-total.ensures c.tail_set.ensures }

@@ -25,7 +25,8 @@ use Rattle.stage_walk.proofs.Gates.{kth_none, kth_some, follow_pin, follow_rank,
 use Rattle.stage_walk.proofs.traversal.Moves.{finish_seen, finish_list, finish_on, chain_few, chain_list, pop, phases_most}
 
 -- areas that agree on the two columns have the same stack
-pub items_same : (m : ℕ) (w w' : List ℕ) (d : ℕ) → ((i : ℕ) → i < d → (get_or w' (STACK * m + i) 0 ≡ get_or w (STACK * m + i) 0) × (get_or w' (PHASE * m + i) 0 ≡ get_or w (PHASE * m + i) 0)) → items m w' d ≡ items m w d
+pub items_same : (m : ℕ) (w w' : List ℕ) (d : ℕ) →
+    ((i : ℕ) → i < d → (get_or w' (STACK * m + i) 0 ≡ get_or w (STACK * m + i) 0) × (get_or w' (PHASE * m + i) 0 ≡ get_or w (PHASE * m + i) 0)) → items m w' d ≡ items m w d
 unfolding items
 items_same m w w' zero h = refl
 items_same m w w' (suc d) h = rw ((h d (omega arith)).0, (h d (omega arith)).1, items_same m w w' d (λ i l. h i (omega arith)))
@@ -138,8 +139,15 @@ module _ (C : Context) {m : ℕ} {gates w : List ℕ} {top n p k : ℕ} (A : Top
 
         under_is : items m w₂ top ≡ S
         under_is = items_same m w w₂ top (λ i h. (
-          get_or-set_other (set w (ORDER * m + n) p) (LISTED * m + p) (STACK * m + i) 1 0 (λ d. omega (arith, top_in, pin_in)) ∙ get_or-set_other w (ORDER * m + n) (STACK * m + i) p 0 (λ d. omega (arith, room)),
-          get_or-set_other (set w (ORDER * m + n) p) (LISTED * m + p) (PHASE * m + i) 1 0 (λ d. omega (arith, pin_in)) ∙ get_or-set_other w (ORDER * m + n) (PHASE * m + i) p 0 (λ d. omega (arith, room)),
+          get_or-set_other (set w (ORDER * m + n) p) (LISTED * m + p) (STACK * m + i) 1 0 (λ d. omega (
+            arith,
+            top_in,
+            pin_in,
+          )) ∙ get_or-set_other w (ORDER * m + n) (STACK * m + i) p 0 (λ d. omega (arith, room)),
+          get_or-set_other (set w (ORDER * m + n) p) (LISTED * m + p) (PHASE * m + i) 1 0 (λ d. omega (
+            arith,
+            pin_in,
+          )) ∙ get_or-set_other w (ORDER * m + n) (PHASE * m + i) p 0 (λ d. omega (arith, room)),
         ))
 
     -- pin q is next
@@ -242,7 +250,8 @@ module _ (C : Context) {m : ℕ} {gates w : List ℕ} {top n p k : ℕ} (A : Top
             w₃ = set w₂ (PHASE * m + (top + 1)) 0
 
             frame : Frame (STACK ∷ PHASE ∷ []) m w w₃
-            frame = frame_then (frame_set PHASE top (k + 1) top_in (omega arith) refl) (frame_then (frame_set STACK (top + 1) q next_room (omega arith) refl) (frame_set PHASE (top + 1) 0 next_room (omega arith) refl))
+            frame = frame_then (frame_set PHASE top (k + 1) top_in (omega arith) refl)
+                (frame_then (frame_set STACK (top + 1) q next_room (omega arith) refl) (frame_set PHASE (top + 1) 0 next_room (omega arith) refl))
 
             seen_is : seen_in m n w₃ ≡ seen_in m n w
             seen_is = ap reverse (frame_list frame ORDER n refl (omega arith))
@@ -257,7 +266,10 @@ module _ (C : Context) {m : ℕ} {gates w : List ℕ} {top n p k : ℕ} (A : Top
             zero_is = get_or-set_same w₂ _ 0 0 (simp length-set (omega (arith, next_room)))
 
             p_is : get_or w₃ (STACK * m + top) 0 ≡ p
-            p_is = get_or-set_other w₂ _ _ 0 0 (λ d. omega (arith, next_room)) ∙ get_or-set_other w₁ _ _ q 0 (λ d. omega arith) ∙ get_or-set_other w _ _ (k + 1) 0 (λ d. omega (arith, top_in)) ∙ sym A.pin
+            p_is = get_or-set_other w₂ _ _ 0 0 (λ d. omega (arith, next_room)) ∙ get_or-set_other w₁ _ _ q 0 (λ d. omega arith) ∙ get_or-set_other w _ _ (k + 1) 0 (λ d. omega (
+              arith,
+              top_in,
+            )) ∙ sym A.pin
 
             k_is : get_or w₃ (PHASE * m + top) 0 ≡ suc k
             k_is = get_or-set_other w₂ _ _ 0 0 (λ d. omega arith) ∙ get_or-set_other w₁ _ _ q 0 (λ d. omega (arith, next_room)) ∙ get_or-set_same w _ (k + 1) 0 (omega (arith, top_in)) ∙ add-one k

@@ -33,4 +33,10 @@ module _ (g : List Node) (done : List ℕ) (r : ℕ → ℕ) (k : Ranked g done 
   pub visit_open : (f p : ℕ) (s : List ℕ) → r p < f → Out p s → visit f g done p s ≡ p ∷ thread (visit f g done) (below g done p) s
   unfolding visit
   visit_open zero p s h o = absurd (omega arith)
-  visit_open (suc f) p s h o = rw (o, visit) (ap (λ (l : List ℕ). p ∷ l) (thread_ext (visit f g done) (visit (suc f) g done) (below g done p) (λ q i. visit_fuel f (suc f) q (omega (arith, k p q i)) (omega (arith, k p q i))) s))
+  visit_open (suc f) p s h o = rw (
+    o,
+    visit,
+  ) (ap (λ (l : List ℕ). p ∷ l) (thread_ext (visit f g done) (visit (suc f) g done) (below g done p) (λ q i. visit_fuel f (suc f) q (omega (arith, k p q i)) (omega (
+    arith,
+    k p q i,
+  ))) s))

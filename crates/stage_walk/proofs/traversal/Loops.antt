@@ -17,7 +17,7 @@ use Rattle.columns.proofs.Lists.Entries.{frame_list, holds_at, holds_pin, holds_
 use Rattle.columns.proofs.Lists.Marks.{marked_none, marked_self, marked_frame}
 use Rattle.columns.proofs.Lists.Places.{placed_frame}
 use Rattle.stage_walk.specs.Stands.{Context, Begun, Reads}
-use Rattle.stage_walk.specs.Machine.{Item, item, rest, finish, bottom, some, none, items, seen_in, Going, to_go, Went, Stepped, VisitAt, Visited, TraverseAt, GoOnAt, Swept, WentOn, Traversed}
+use Rattle.stage_walk.specs.Machine.{Item, item, rest, finish, bottom, some, none, items, seen_in, Going, Went, VisitAt, Visited, TraverseAt, GoOnAt, Swept, WentOn, Traversed}
 use Rattle.stage_walk.proofs.Contexts.{order_is}
 use Rattle.stage_walk.proofs.Gates.{reads_frame}
 use Rattle.stage_walk.proofs.traversal.Fuel.{visit_seen}
@@ -28,7 +28,8 @@ pub begun_reads : {C : Context} {m n : ℕ} {gates w : List ℕ} → Begun C m n
 begun_reads B = record { base = B.base; done = B.done }
 
 -- what a stage starts from stays where its columns are not named
-pub begun_frame : {C : Context} {m n : ℕ} {gates w : List ℕ} → Begun C m n gates w → {fs : List ℕ} {w' : List ℕ} → Frame fs m w w' → among fs DONE ≡ false → among fs WAITING ≡ false → among fs PLACE ≡ false → Begun C m n gates w'
+pub begun_frame : {C : Context} {m n : ℕ} {gates w : List ℕ} → Begun C m n gates w → {fs : List ℕ} {w' : List ℕ} → Frame fs m w w' → among fs DONE ≡ false → among fs WAITING ≡ false →
+    among fs PLACE ≡ false → Begun C m n gates w'
 begun_frame {C} B fr a b c =
     let R = reads_frame C (begun_reads B) fr a in
     record { base = R.base; done = R.done; waiting = placed_frame B.waiting fr b c (omega arith) (omega arith) }
@@ -36,28 +37,10 @@ begun_frame {C} B fr a b c =
 -- ---- until the stack is empty
 
 module _ {C : Context} {m : ℕ} {gates : List ℕ} where
-  -- with no step taken nothing changed
-  pub went_none : {w : List ℕ} {d n : ℕ} → Going C m gates w d n → Went C m gates w d n w d n
-  went_none G = record { frame = frame_none; going = G; same = refl }
-
   module _ {w₀ : List ℕ} {d₀ n₀ : ℕ} {w : List ℕ} {d n : ℕ} (U : Went C m gates w₀ d₀ n₀ w d n) where
     -- a stack that is not empty has a top
     pub went_top : 0 < d → Going C m gates w (d - 1 + 1) n
     went_top h = let e : d - 1 + 1 ≡ d = omega arith in rw e U.going
-
-    -- one step more is taken
-    pub went_then : {w' : List ℕ} {d' n' : ℕ} → 0 < d → Stepped C m gates w (d - 1 + 1) n w' d' n' → Went C m gates w₀ d₀ n₀ w' d' n'
-    went_then h s =
-        let e : d - 1 + 1 ≡ d = omega arith in
-        record { frame = frame_then U.frame s.went.frame; going = s.went.going; same = (rw e at s.went.same) ∙ U.same }
-
-    -- each step leaves less to do
-    pub went_less : {w' : List ℕ} {d' n' : ℕ} → 0 < d → Stepped C m gates w (d - 1 + 1) n w' d' n' → to_go m w' d' n' < to_go m w d n
-    went_less h s = let e : d - 1 + 1 ≡ d = omega arith in rw e at s.less
-
-    -- an empty stack: all is done
-    pub went_end : d ≤ 0 → Went C m gates w₀ d₀ n₀ w 0 n
-    went_end h = let e : d ≡ 0 = omega arith in rw e at U
 
 -- ---- one pin
 
@@ -69,7 +52,8 @@ visited_before {C} {m} {gates} {w} {n} {p} A t = record {
   lists = sym (visit_seen C.X.g C.X.done C.r C.S.ranked _ p (seen_in m n w) (sym (listed_test A.going p A.pin) ∙ t));
 }
 
-module _ {C : Context} {m : ℕ} {gates w : List ℕ} {n p : ℕ} (A : VisitAt C m gates w n p) (t : not (eqb (get_or w (LISTED * m + p) 0) 0) ≡ false) (v : List ℕ) (ev : v ≡ set (set w (STACK * m + 0) p) (PHASE * m + 0) 0) where
+module _ {C : Context} {m : ℕ} {gates w : List ℕ} {n p : ℕ} (A : VisitAt C m gates w n p) (t : not (eqb (get_or w (LISTED * m + p) 0) 0) ≡ false) (v : List ℕ)
+    (ev : v ≡ set (set w (STACK * m + 0) p) (PHASE * m + 0) 0) where
   w₂ : List ℕ
   w₂ = set (set w (STACK * m + 0) p) (PHASE * m + 0) 0
 
@@ -93,7 +77,12 @@ module _ {C : Context} {m : ℕ} {gates w : List ℕ} {n p : ℕ} (A : VisitAt C
   visit_going = record {
     reads = reads_frame C A.going.reads entered refl;
     listed = marked_self (marked_frame A.going.listed entered refl refl (omega arith) (omega arith));
-    stack = rw one_item (some {p = p} {k = 0} (record { pin = rw A.going.reads.base.size A.pin; rank = rw A.going.reads.base.size A.rank; opened = record { most = omega arith; fresh = rw seen_same (sym (listed_test A.going p A.pin) ∙ t) }; under = bottom }));
+    stack = rw one_item (some {p = p} {k = 0} (record {
+      pin = rw A.going.reads.base.size A.pin;
+      rank = rw A.going.reads.base.size A.rank;
+      opened = record { most = omega arith; fresh = rw seen_same (sym (listed_test A.going p A.pin) ∙ t) };
+      under = bottom;
+    }));
   }
 
   -- once the stack is empty the pin is visited with all below it

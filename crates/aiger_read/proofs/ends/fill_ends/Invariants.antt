@@ -1,7 +1,7 @@
 -- `aiger_read::ends::fill_ends` meets its contract. Assumes nothing.
 use Prim.Native.Nat.{◌-◌}
 use lib.ListN.{length}
-use Rattle.aiger_text.specs.File.{head_of}
+use Rattle.aiger_rows.specs.Rows.{head_of}
 use Rattle.aiger_read.proofs.Laws.Ends.{Filling}
 use Rattle.aiger_read.proofs.ends.fill_ends.Given as goal
 

@@ -1,12 +1,14 @@
 -- `aiger_read::ends::in_ends` meets its contract. Assumes nothing.
-use Rattle.aiger_read.proofs.Laws.Ends.{ends_input, ends_latch, ends_output}
+use native.Mathlib.Omega.{arith}
+use Rattle.aiger_rows.specs.Rows.{head_of}
+use Rattle.aiger_read.proofs.Laws.Ends.{ends_inside, ends_behind}
 use Rattle.aiger_read.proofs.ends.in_ends.Goals as goal
 
-pub returns-then-i-h : goal.returns-then-i-h
-returns-then-i-h c = ends_input _ _ _ _ c.if-i-h.true
+pub returns-in-Gates : goal.returns-in-Gates
+returns-in-Gates c = ends_behind (head_of c.args.h) _ (omega (arith, c.in-Gates.ensures))
 
-pub returns-then-j-h : goal.returns-then-j-h
-returns-then-j-h c = ends_latch _ _ _ _ c.if-i-h.false c.if-j-h.true
+pub returns-in-Symbols : goal.returns-in-Symbols
+returns-in-Symbols c = ends_behind (head_of c.args.h) _ (omega (arith, c.in-Symbols.ensures))
 
-pub returns : goal.returns
-returns c = ends_output _ _ _ _ c.if-i-h.false c.if-j-h.false
+pub returns-in_default : goal.returns-in_default
+returns-in_default c = ends_inside (head_of c.args.h) _ _ c.section_of.ensures c.in_default.not-Gates c.in_default.not-Symbols

@@ -1,46 +1,52 @@
 -- `aiger_read::ends::put_record` meets its contract. Assumes nothing.
-use mathlib.Core.Path.{refl}
+use Prim.Native.Nat.{ℕ, suc, ◌+◌, ◌≤◌}
+use mathlib.Core.Path.{◌≡◌, refl}
+use lib.ListN.{length, length-set}
+use Rattle.std.specs.Prelude.{Option, Some}
+use Rattle.graph.specs.declared.Literal.{Literal}
+use Rattle.aiger_rows.specs.declared.rows.Row.{Row}
+use Rattle.aiger_rows.specs.declared.rows.Row.TheVariants.{Latch, Output}
 use native.Mathlib.Omega.{arith}
-use Rattle.aiger_rows.specs.Rows.{row_item}
+use Rattle.aiger_rows.specs.Rows.{said, row_item}
 use Rattle.aiger_form.specs.Aag.{record_of}
-use Rattle.aiger_read.proofs.Laws.Ends.{latch_three, output_two, put_two, put_three}
+use Rattle.aiger_read.proofs.Laws.Ends.{record_other}
 use Rattle.aiger_read.proofs.ends.put_record.Goals as goal
 
-pub overflow_add-at : goal.overflow_add-at
-overflow_add-at c = omega (arith, latch_three c.args.at c.in-Latch.is c.requires)
+pub returns-in_default : goal.returns-in_default
+unfolding said record_of
+returns-in_default c = rw c.in_default.is (record { place = omega arith; area = refl })
 
-pub overflow_add-at-in-Latch : goal.overflow_add-at-in-Latch
-overflow_add-at-in-Latch c = omega (arith, latch_three c.args.at c.in-Latch.is c.requires)
+pub returns-in_default-row : goal.returns-in_default-row
+unfolding said
+returns-in_default-row c = rw (c.in-Some.is, record_other _ c.in_default-row.not-Latch c.in_default-row.not-Output) (record { place = omega arith; area = refl })
 
-pub overflow_add-result : goal.overflow_add-result
-overflow_add-result c = omega (arith, latch_three c.args.at c.in-Latch.is c.requires)
+latch_room : {x : Option Row} {row : Row} {a b : Literal} {k : ℕ} (at : ℕ) {n : ℕ} → x ≡ Some row → row ≡ Latch a b k → at + length (record_of (said x)) ≤ n → at + 3 ≤ n
+unfolding said row_item record_of
+latch_room at e f h = rw (e, f) at h
 
-pub overflow_add-at-in-Output : goal.overflow_add-at-in-Output
-overflow_add-at-in-Output c = omega (arith, output_two c.args.at c.in-Output.is c.requires)
-
-pub overflow_add-result-in-Output : goal.overflow_add-result-in-Output
-overflow_add-result-in-Output c = omega (arith, output_two c.args.at c.in-Output.is c.requires)
-
-pub returns-in-Bad : goal.returns-in-Bad
-unfolding row_item record_of
-returns-in-Bad c = rw c.in-Bad.is (record { place = omega arith; area = refl })
-
-pub returns-in-Symbol : goal.returns-in-Symbol
-unfolding row_item record_of
-returns-in-Symbol c = rw c.in-Symbol.is (record { place = omega arith; area = refl })
-
-pub returns-in-Input : goal.returns-in-Input
-unfolding row_item record_of
-returns-in-Input c = rw c.in-Input.is (record { place = omega arith; area = refl })
-
-pub returns-in-Gate : goal.returns-in-Gate
-unfolding row_item record_of
-returns-in-Gate c = rw c.in-Gate.is (record { place = omega arith; area = refl })
+output_room : {x : Option Row} {row : Row} {a : Literal} (at : ℕ) {n : ℕ} → x ≡ Some row → row ≡ Output a → at + length (record_of (said x)) ≤ n → at + 2 ≤ n
+unfolding said row_item record_of
+output_room at e f h = rw (e, f) at h
 
 pub returns-in-Latch : goal.returns-in-Latch
-unfolding row_item record_of
-returns-in-Latch c = rw c.in-Latch.is (record { place = omega arith; area = put_three c.args.records.now c.args.at 2 1 _ c.put.ensures c.put-in-Latch.ensures c.put-in-Latch-2.ensures })
+unfolding said row_item record_of
+returns-in-Latch c = rw (c.in-Some.is, c.in-Latch.is) (record { place = refl; area = let a : c.args.at + 1 ≡ suc c.args.at = omega arith in let b : c.args.at + 2 ≡ suc (suc c.args.at) = omega arith in rw (a, b) refl })
 
 pub returns-in-Output : goal.returns-in-Output
-unfolding row_item record_of
-returns-in-Output c = rw c.in-Output.is (record { place = omega arith; area = put_two c.args.records.now c.args.at 1 _ c.put-in-Output.ensures c.put-in-Output-2.ensures })
+unfolding said row_item record_of
+returns-in-Output c = rw (c.in-Some.is, c.in-Output.is) (record { place = refl; area = let a : c.args.at + 1 ≡ suc c.args.at = omega arith in rw a refl })
+
+pub bounds-records-at : goal.bounds-records-at
+bounds-records-at c = omega (arith, latch_room c.args.at c.in-Some.is c.in-Latch.is c.requires)
+
+pub bounds-records-at-in-Latch : goal.bounds-records-at-in-Latch
+bounds-records-at-in-Latch c = simp length-set (omega (arith, latch_room c.args.at c.in-Some.is c.in-Latch.is c.requires))
+
+pub bounds-records-at-in-Latch-2 : goal.bounds-records-at-in-Latch-2
+bounds-records-at-in-Latch-2 c = simp length-set (omega (arith, latch_room c.args.at c.in-Some.is c.in-Latch.is c.requires))
+
+pub bounds-records-at-in-Output : goal.bounds-records-at-in-Output
+bounds-records-at-in-Output c = omega (arith, output_room c.args.at c.in-Some.is c.in-Output.is c.requires)
+
+pub bounds-records-at-in-Output-2 : goal.bounds-records-at-in-Output-2
+bounds-records-at-in-Output-2 c = simp length-set (omega (arith, output_room c.args.at c.in-Some.is c.in-Output.is c.requires))

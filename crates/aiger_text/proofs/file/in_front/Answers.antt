@@ -1,9 +1,14 @@
 -- `aiger_text::file::in_front` meets its contract. Assumes nothing.
-use Rattle.aiger_text.proofs.Laws.Resets.{front_input, front_latch}
+use native.Mathlib.Omega.{arith}
+use Rattle.aiger_rows.specs.Rows.{head_of}
+use Rattle.aiger_text.proofs.Laws.Resets.{front_inside, front_behind}
 use Rattle.aiger_text.proofs.file.in_front.Goals as goal
 
-pub returns-then-i-h : goal.returns-then-i-h
-returns-then-i-h c = front_input _ _ _ c.if-i-h.true
+pub returns-in-Inputs : goal.returns-in-Inputs
+returns-in-Inputs c = front_inside (head_of c.args.h) _ (omega (arith, c.in-Inputs.ensures))
 
-pub returns : goal.returns
-returns c = front_latch _ _ _ c.if-i-h.false
+pub returns-in-Latches : goal.returns-in-Latches
+returns-in-Latches c = front_inside (head_of c.args.h) _ (omega (arith, c.in-Latches.ensures))
+
+pub returns-in_default : goal.returns-in_default
+returns-in_default c = front_behind (head_of c.args.h) _ _ c.section_of.ensures c.in_default.not-Inputs c.in_default.not-Latches

@@ -1,23 +1,16 @@
-use Rattle.rules.proofs.Bools.{no, yes}
 use native.Mathlib.Omega.{arith}
-use mathlib.Core.Path.{refl, ◌∙◌}
-use Rattle.aiger_write.proofs.Laws.Shape.{flips_none, flips_more, flips_end}
+use mathlib.Core.Path.{◌≡◌, sym, ◌∙◌}
+use Rattle.aiger_write.proofs.Laws.Shape.{flips_start, flips_none, flips_more, flips_end}
 use Rattle.aiger_write.proofs.jobs.shaped.Goals as goal
 
-pub loop-left-init : goal.loop-left-init
-loop-left-init c = record { inside = omega arith; same = refl }
-
-pub flip_at-requires : goal.flip_at-requires
-flip_at-requires c = c.loop-left.invariant.inside
+pub loop-i-init : goal.loop-i-init
+loop-i-init c = flips_start _ _
 
 pub returns-then-not-flip_at : goal.returns-then-not-flip_at
-returns-then-not-flip_at c = flips_none c.loop-left.invariant c.loop-left-test.true (no c.flip_at.ensures c.if-not-flip_at.true-raw)
+returns-then-not-flip_at c = flips_none c.loop-i.invariant c.loop-i-test.true (sym c.flip_at.ensures ∙ c.if-not-flip_at.true)
 
-pub loop-left-preserved : goal.loop-left-preserved
-loop-left-preserved c = flips_more c.loop-left.invariant c.loop-left-test.true (yes c.flip_at.ensures c.if-not-flip_at.false-raw)
-
-pub outputs_only-requires : goal.outputs_only-requires
-outputs_only-requires c = c.loop-left.invariant.inside
+pub loop-i-preserved : goal.loop-i-preserved
+loop-i-preserved c = flips_more c.loop-i.invariant c.loop-i-test.true (sym c.flip_at.ensures ∙ c.if-not-flip_at.false)
 
 pub returns : goal.returns
-returns c = c.outputs_only.ensures ∙ flips_end c.loop-left.invariant c.loop-left-test.false
+returns c = let e : c.loop-i.i ≡ c.args.n = omega arith in c.outputs_only.ensures ∙ flips_end (rw e at c.loop-i.invariant)

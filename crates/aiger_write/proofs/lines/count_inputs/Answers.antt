@@ -1,22 +1,11 @@
 use native.Mathlib.Omega.{arith}
-use Prim.Native.Nat.{◌-◌}
 use mathlib.Core.Path.{sym, ◌∙◌}
-use Rattle.aiger_write.specs.Lines.{is_input}
 use Rattle.aiger_write.proofs.Laws.Lines.{count_start, count_in, count_out, count_end}
 use Rattle.aiger_write.proofs.lines.count_inputs.Goals.{then-is_input, else-is_input}
 use Rattle.aiger_write.proofs.lines.count_inputs.Goals as goal
 
 pub loop-p-init : goal.loop-p-init
 loop-p-init c = (omega arith, count_start)
-
-pub overflow_cast-p : goal.overflow_cast-p
-overflow_cast-p c = omega (arith, c.loop-p-test.true, c.pin_count-pins.ensures, c.requires.few)
-
-pub is_input-requires : goal.is_input-requires
-is_input-requires c = omega (arith, c.loop-p-test.true, c.pin_count-pins.ensures, c.requires.few, c.requires.long)
-
-pub overflow_add-n : goal.overflow_add-n
-overflow_add-n c = omega (arith, c.loop-p.invariant.1.few, c.loop-p-test.true, c.pin_count-pins.ensures, c.requires.few)
 
 pub loop-p-preserved : goal.loop-p-preserved
 loop-p-preserved c = elim c.if-is_input.branch [

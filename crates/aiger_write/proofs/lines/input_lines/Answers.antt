@@ -1,16 +1,9 @@
 use native.Mathlib.Omega.{arith}
-use Prim.Native.Nat.{◌-◌}
 use Rattle.aiger_write.proofs.Laws.Lines.{lines_start, lines_next, lines_end, lines_size}
 use Rattle.aiger_write.proofs.lines.input_lines.Goals as goal
 
 pub loop-p-init : goal.loop-p-init
 loop-p-init c = (omega arith, lines_start)
-
-pub overflow_cast-p : goal.overflow_cast-p
-overflow_cast-p c = omega (arith, c.loop-p-test.true, c.pin_count-pins.ensures, c.requires.few)
-
-pub input_line-now-requires : goal.input_line-now-requires
-input_line-now-requires c = omega (arith, c.loop-p-test.true, c.pin_count-pins.ensures, c.requires.few, c.requires.long)
 
 pub loop-p-preserved : goal.loop-p-preserved
 loop-p-preserved c = (omega arith, lines_next c.loop-p.invariant.1 c.input_line-now.ensures)

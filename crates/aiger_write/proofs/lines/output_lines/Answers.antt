@@ -1,17 +1,10 @@
 use native.Mathlib.Omega.{arith}
-use Prim.Native.Nat.{◌-◌}
 use Rattle.listing_lines.proofs.Laws.Laid.{laid_as}
 use Rattle.aiger_write.proofs.Laws.Lines.{lines_start, lines_next, lines_end, lines_size, output_row}
 use Rattle.aiger_write.proofs.lines.output_lines.Goals as goal
 
 pub loop-i-init : goal.loop-i-init
 loop-i-init c = (omega arith, lines_start)
-
-pub overflow_mul-i : goal.overflow_mul-i
-overflow_mul-i c = omega (arith, c.loop-i-test.true, c.requires.inside, c.well_formed)
-
-pub bounds-records-from : goal.bounds-records-from
-bounds-records-from c = omega (arith, c.loop-i-test.true, c.requires.inside)
 
 pub loop-i-preserved : goal.loop-i-preserved
 loop-i-preserved c = (omega arith, lines_next c.loop-i.invariant.1 (laid_as c.output_line-now.ensures (output_row c.args.records.now c.args.from c.loop-i.i)))

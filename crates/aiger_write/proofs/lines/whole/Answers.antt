@@ -3,9 +3,6 @@ use Rattle.aiger_write.specs.Lines.{output_count, file_text}
 use Rattle.listing_lines.proofs.Laws.Laid.{laid_more}
 use Rattle.aiger_write.proofs.lines.whole.Goals as goal
 
-pub gate_lines-requires : goal.gate_lines-requires
-gate_lines-requires c = c.requires.few
-
 pub returns : goal.returns
 unfolding output_count file_text
 returns c = laid_more (laid_more (laid_more (laid_more (rw (c.pin_count.ensures, c.count_inputs-inputs.ensures, c.count_gates-ands.ensures) at c.head-a.ensures) c.input_lines-b.ensures) c.latch_lines-d.ensures) c.output_lines-e.ensures) c.gate_lines.ensures

@@ -1,4 +1,3 @@
-use Prim.Native.Nat.{◌-◌}
 use native.Mathlib.Omega.{arith}
 use Rattle.entries.proofs.Laws.Entry.{told_short, telling_more, telling_done}
 use Rattle.entries.proofs.answers.tell.Goals as goal

@@ -1,11 +1,6 @@
 -- `entries::answers::tell` meets its contract: the first i numbers are written. Assumes nothing.
-use Prim.Native.Nat.{◌-◌}
-use lib.ListN.{length}
 use Rattle.entries.proofs.Laws.Entry.{Telling}
 use Rattle.entries.proofs.answers.tell.Given as goal
 
 abbrev pub invariant-loop-i : goal.invariant-loop-i
 invariant-loop-i l = Telling l.numbers l.initial.answer l.answer l.i
-
-abbrev pub decreases-loop-i : goal.decreases-loop-i
-decreases-loop-i l = length l.numbers - l.i

@@ -1,5 +1,6 @@
 -- `entries::build_entry::enter` meets its contract. Assumes nothing.
 use native.Mathlib.Omega.{arith}
+use Rattle.placer.specs.Answers.{outcome}
 use Rattle.entries.specs.Build.{rest, built}
 use Rattle.entries.proofs.Laws.Entry.{entry_short}
 use Rattle.entries.proofs.Laws.Build.{entry_built}
@@ -10,4 +11,5 @@ unfolding built rest
 returns-then-answer-lt6 c = entry_short _ _ _ _ _ (omega (arith, c.if-answer-lt6.true))
 
 pub returns : goal.returns
-returns c = entry_built _ _ _ _ _ _ _ _ _ (omega (arith, c.if-answer-lt6.false)) _ _ _ _ _ _ _ _ c.build-a.ensures c.wide.ensures c.index-shown.ensures c.tell.ensures
+unfolding outcome
+returns c = entry_built _ _ _ _ _ _ _ _ _ (omega (arith, c.if-answer-lt6.false)) _ c.build-built.ensures c.tell_built.ensures.number c.tell_built.ensures.told

@@ -1,9 +1,12 @@
 -- `entries::merge_entry::merge_partitions_by` meets its contract: what the rule alone is refused with, or the call. Assumes nothing.
+use mathlib.Core.Path.{refl, ◌∙◌}
+use Rattle.refusals.proofs.Numbers.{number_is}
 use Rattle.entries.proofs.Laws.Merge.{by_away, by_on}
 use Rattle.entries.proofs.merge_entry.merge_partitions_by.Goals as goal
 
-pub returns-then-refused-ne0 : goal.returns-then-refused-ne0
-returns-then-refused-ne0 c = by_away _ _ _ _ _ _ _ _ _ _ _ _ _ _ c.rule_refusal-refused.ensures c.if-refused-ne0.true _ _ c.wide.ensures c.tell.ensures
+pub returns-in-Err : goal.returns-in-Err
+returns-in-Err c =
+    by_away _ _ _ _ _ _ _ _ _ _ _ _ _ _ (c.number-number.ensures ∙ (rw c.in-Err.is at c.rule_refusal.ensures)) (λ z. number_is _ (rw c.number-number.ensures at z)) _ _ c.wide.ensures c.tell.ensures
 
-pub returns : goal.returns
-returns c = by_on _ _ _ _ _ _ _ _ _ _ _ _ _ _ c.rule_refusal-refused.ensures c.if-refused-ne0.false _ c.enter.ensures
+pub returns-in-Ok : goal.returns-in-Ok
+returns-in-Ok c = by_on _ _ _ _ _ _ _ _ _ _ _ _ _ _ (rw c.in-Ok.is at c.rule_refusal.ensures) refl _ c.enter.ensures

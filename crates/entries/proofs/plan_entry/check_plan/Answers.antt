@@ -10,4 +10,5 @@ unfolding plan_checked place
 returns-then-answer-lt4 c = entry_short _ _ _ _ _ (omega (arith, c.if-answer-lt4.true))
 
 pub returns : goal.returns
-returns c = entry_checked _ _ _ _ _ _ _ _ _ (omega (arith, c.if-answer-lt4.false)) _ _ _ _ c.check_plan-a.ensures c.wide.ensures c.index-shown.ensures c.tell.ensures
+unfolding place
+returns c = entry_checked _ _ _ _ _ _ _ _ _ (omega (arith, c.if-answer-lt4.false)) _ c.check_plan-checked.ensures c.tell_checked.ensures.number c.tell_checked.ensures.told

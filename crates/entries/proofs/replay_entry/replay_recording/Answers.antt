@@ -1,5 +1,6 @@
 -- `entries::replay_entry::replay_recording` meets its contract. Assumes nothing.
 use native.Mathlib.Omega.{arith}
+use Rattle.replay.specs.Answers.{outcome}
 use Rattle.entries.specs.Build.{rest}
 use Rattle.entries.specs.Replay.{recording_replayed}
 use Rattle.entries.proofs.Laws.Entry.{entry_short}
@@ -11,4 +12,5 @@ unfolding recording_replayed rest
 returns-then-answer-lt6 c = entry_short _ _ _ _ _ (omega (arith, c.if-answer-lt6.true))
 
 pub returns : goal.returns
-returns c = entry_replayed _ _ _ (omega (arith, c.if-answer-lt6.false)) _ _ _ _ _ _ _ _ _ _ _ _ _ c.replay-a.ensures c.wide.ensures c.index-shown.ensures c.tell.ensures
+unfolding outcome
+returns c = entry_replayed _ _ _ (omega (arith, c.if-answer-lt6.false)) _ c.replay-built.ensures c.tell_built.ensures.number c.tell_built.ensures.told

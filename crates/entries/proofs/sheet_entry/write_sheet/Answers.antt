@@ -10,4 +10,4 @@ unfolding sheet_written
 returns-then-answer-lt2 c = entry_short _ _ _ _ _ (omega (arith, c.if-answer-lt2.true))
 
 pub returns : goal.returns
-returns c = entry_sheet_written _ _ _ _ _ (omega (arith, c.if-answer-lt2.false)) _ _ _ _ c.write-a.ensures c.wide.ensures c.tell.ensures
+returns c = entry_sheet_written _ _ _ _ _ (omega (arith, c.if-answer-lt2.false)) _ _ _ _ c.write.ensures c.tell_length.ensures.number c.tell_length.ensures.told

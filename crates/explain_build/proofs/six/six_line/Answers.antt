@@ -5,8 +5,8 @@ use Rattle.explain_build.proofs.six.six_line.Goals as goal
 
 pub returns-then-reserved-limit : goal.returns-then-reserved-limit
 unfolding six
-returns-then-reserved-limit c = six_limit _ _ _ c.if-reserved-limit.true
+returns-then-reserved-limit c = rw c.number-number.ensures (six_limit _ _ _ c.if-reserved-limit.true)
 
 pub returns : goal.returns
 unfolding six
-returns c = six_reserved _ _ _ c.if-reserved-limit.false
+returns c = rw c.number-number.ensures (six_reserved _ _ _ c.if-reserved-limit.false)

@@ -7,5 +7,5 @@ use Rattle.fold.proofs.stages.fold_plan.Goals as goal
 pub returns : goal.returns
 returns c = record {
   folded = c.fold_stages.ensures;
-  cleared = c.fill_part.ensures ∙ ap (λ (n : ℕ). replicate n 0) c.fold_stages.auto.looks;
+  cleared = (c.fill.ensures.after (λ y e. e)) ∙ ap (λ (n : ℕ). replicate n 0) c.fold_stages.auto.looks;
 }

@@ -1,7 +1,5 @@
-use Prim.Native.Nat.{◌-◌}
-use mathlib.Core.Path.{sym, ◌∙◌}
 use native.Mathlib.Omega.{arith}
-use Rattle.fold.proofs.Laws.Stages.{size_there, stage_left, plan_one, one_at, first_length, first_back, standing_first, standing_more, standing_step, standing_none, standing_done}
+use Rattle.fold.proofs.Laws.Stages.{size_there, plan_one, one_at, first_back, standing_first, standing_more, standing_step, standing_none, standing_done}
 use Rattle.fold.proofs.stages.fold_stages.Goals as goal
 
 pub returns-then-plan-eq0 : goal.returns-then-plan-eq0
@@ -22,8 +20,8 @@ loop-at-init c = standing_first _ _ _ c.requires.plan_at _ _ _ _ c.if-plan-eq0.f
 pub fold_at-requires : goal.fold_at-requires
 fold_at-requires c = standing_step _ _ _ c.requires.plan_at _ _ _ _ _ c.loop-at.invariant c.loop-at-test.true
 
-pub overflow_add-at : goal.overflow_add-at
-overflow_add-at c = omega (arith, size_there _ _ c.requires.plan_at.height c.stage_size-size.ensures, stage_left _ _ _ _ _ _ _ c.loop-at.invariant c.loop-at-test.true)
+pub nonzero_div-size : goal.nonzero_div-size
+nonzero_div-size c = omega (arith, size_there _ _ c.requires.plan_at.height c.stage_size-size.ensures, c.requires.plan_at.double, c.requires.plan_at.low)
 
 pub loop-at-smaller : goal.loop-at-smaller
 loop-at-smaller c = omega (arith, size_there _ _ c.requires.plan_at.height c.stage_size-size.ensures, c.requires.plan_at.double, c.requires.plan_at.low)
@@ -31,11 +29,13 @@ loop-at-smaller c = omega (arith, size_there _ _ c.requires.plan_at.height c.sta
 pub loop-at-preserved : goal.loop-at-preserved
 loop-at-preserved c = standing_more _ _ _ _ _ _ _ c.loop-at.invariant c.loop-at-test.true _ (size_there _ _ c.requires.plan_at.height c.stage_size-size.ensures) _ _ c.fold_at.ensures
 
-pub shape_of-res : goal.shape_of-res
-shape_of-res c = c.loop-at.invariant.len ∙ first_length _ _ _ c.requires.plan_at _ _ _ _ c.if-plan-eq0.false _ (size_there _ _ c.requires.plan_at.height c.stage_size-size.ensures) c.fold_first.ensures
+pub returns-else-plan-eq0 : goal.returns-else-plan-eq0
+returns-else-plan-eq0 c =
+    let s = size_there _ _ c.requires.plan_at.height c.stage_size-size.ensures in
+    standing_done _ _ _ _ _ (first_back _ _ _ c.requires.plan_at _ _ _ _ c.if-plan-eq0.false _ s c.fold_first.ensures) _ _ _ c.loop-at.invariant c.loop-at-test.false
 
-pub shape_of-looks : goal.shape_of-looks
-shape_of-looks c = c.loop-at.invariant.size ∙ sym c.requires.looks_len
-
-pub returns : goal.returns
-returns c = standing_done _ _ _ _ _ (first_back _ _ _ c.requires.plan_at _ _ _ _ c.if-plan-eq0.false _ (size_there _ _ c.requires.plan_at.height c.stage_size-size.ensures) c.fold_first.ensures) _ _ _ c.loop-at.invariant c.loop-at-test.false
+pub returns-else-plan-eq0-2 : goal.returns-else-plan-eq0-2
+returns-else-plan-eq0-2 c =
+    let s = size_there _ _ c.requires.plan_at.height c.stage_size-size.ensures in
+    standing_done _ _ _ _ _ (first_back _ _ _ c.requires.plan_at _ _ _ _ c.if-plan-eq0.false _ s c.fold_first.ensures) _ _ _
+    (standing_more _ _ _ _ _ _ _ c.loop-at.invariant c.loop-at-test.true _ s _ _ c.fold_at.ensures) (omega arith)

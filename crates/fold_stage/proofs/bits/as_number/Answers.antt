@@ -2,10 +2,6 @@
 use Rattle.rules.specs.Fold.{as_number}
 use Rattle.fold_stage.proofs.bits.as_number.Goals as goal
 
-pub returns-then-bit : goal.returns-then-bit
+pub returns : goal.returns
 unfolding as_number
-returns-then-bit c = rw c.if-bit.true
-
-pub returns-else-bit : goal.returns-else-bit
-unfolding as_number
-returns-else-bit c = rw c.if-bit.false
+returns c = c.from.ensures

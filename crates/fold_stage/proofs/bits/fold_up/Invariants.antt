@@ -8,6 +8,3 @@ use Rattle.fold_stage.proofs.bits.fold_up.Given as goal
 
 abbrev pub invariant-loop-c : goal.invariant-loop-c
 invariant-loop-c l = (length l.bits ≡ length l.initial.bits) × (l.c ≤ 8192) × (l.c ≤ length l.cells) × ((K : ℕ) → UpAt K l.cells l.initial.bits → l.initial.c ≡ 2 ^ K → Rising K l.cells l.initial.bits l.c l.bits)
-
-abbrev pub decreases-loop-c : goal.decreases-loop-c
-decreases-loop-c l = l.c

@@ -1,5 +1,5 @@
 -- `fold_stage::loads::load_next` meets its contract: the cells of level 0 below c are loaded. Assumes nothing.
-use Prim.Native.Nat.{ℕ, ◌-◌, ◌^◌}
+use Prim.Native.Nat.{ℕ, ◌^◌}
 use mathlib.Core.Path.{◌≡◌}
 use lib.ListN.{length}
 use Rattle.fold_stage.specs.Loads.{held}
@@ -9,6 +9,3 @@ use Rattle.fold_stage.proofs.loads.load_next.Given as goal
 
 abbrev pub invariant-loop-c : goal.invariant-loop-c
 invariant-loop-c l = (length l.bits ≡ length l.initial.bits) × ((K : ℕ) → UpAt K l.cells l.initial.bits → l.initial.c ≡ 2 ^ K → LoadsTo K l.cells (held l.looks) l.initial.bits l.c l.bits)
-
-abbrev pub decreases-loop-c : goal.decreases-loop-c
-decreases-loop-c l = length l.cells - l.c

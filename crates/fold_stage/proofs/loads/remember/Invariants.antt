@@ -9,6 +9,3 @@ use Rattle.fold_stage.proofs.loads.remember.Given as goal
 
 abbrev pub invariant-loop-c : goal.invariant-loop-c
 invariant-loop-c l = (length l.looks ≡ length l.initial.looks) × (l.c ≤ length l.cells) × ((K : ℕ) → UpAt K l.cells l.bits → l.initial.c ≡ 2 ^ K → SpreadFrom K (pins l.cells) (λ (q : ℕ). get_or l.bits q 0) l.initial.looks l.c l.looks)
-
-abbrev pub decreases-loop-c : goal.decreases-loop-c
-decreases-loop-c l = l.c

@@ -1,26 +1,25 @@
 use mathlib.Core.Path.{◌∙◌}
-use Prim.Native.Nat.{◌-◌}
 use Rattle.rules.specs.Job.{read_records}
 use Rattle.job.proofs.Laws.Many.{records_many, going_none, going_more, going_lost, going_done, going_at}
 use Rattle.job.proofs.steps.read_records.Goals as goal
 
-pub loop-i-init : goal.loop-i-init
-loop-i-init c = going_none c.requires.inside
+pub loop-init : goal.loop-init
+loop-init c = going_none c.requires.inside
 
 pub read_record-step-requires : goal.read_record-step-requires
-read_record-step-requires c = going_at c.loop-i.invariant c.requires.small c.requires.room
+read_record-step-requires c = going_at c.loop.invariant c.requires.small c.requires.room
 
 pub shape_of-area-then-end-step : goal.shape_of-area-then-end-step
-shape_of-area-then-end-step c = c.read_record-step.ensures.len ∙ c.loop-i.invariant.len
+shape_of-area-then-end-step c = c.read_record-step.ensures.len ∙ c.loop.invariant.len
 
 pub returns-then-end-step : goal.returns-then-end-step
-returns-then-end-step c = let a = c.args in going_lost c.loop-i.invariant c.loop-i-test.true c.read_record-step.ensures c.if-end-step.true (read_records a.n) (records_many a.n)
+returns-then-end-step c = let a = c.args in going_lost c.loop.invariant c.loop-test.true c.read_record-step.ensures c.if-end-step.true (read_records a.n) (records_many a.n)
 
-pub loop-i-preserved : goal.loop-i-preserved
-loop-i-preserved c = going_more c.loop-i.invariant c.loop-i-test.true c.read_record-step.ensures c.if-end-step.false
+pub loop-preserved : goal.loop-preserved
+loop-preserved c = going_more c.loop.invariant c.loop-test.true c.read_record-step.ensures c.if-end-step.false
 
 pub shape_of-area : goal.shape_of-area
-shape_of-area c = c.loop-i.invariant.len
+shape_of-area c = c.loop.invariant.len
 
 pub returns : goal.returns
-returns c = let a = c.args in going_done c.loop-i.invariant c.loop-i-test.false (read_records a.n) (records_many a.n)
+returns c = let a = c.args in going_done c.loop.invariant c.loop-test.false (read_records a.n) (records_many a.n)

@@ -3,5 +3,5 @@ use mathlib.Core.Path.{sym}
 use lib.Seq.{set_out}
 use Rattle.job.proofs.steps.store.Goals as goal
 
-pub returns-then-area-i : goal.returns-then-area-i
-returns-then-area-i c = sym (set_out _ _ _ c.if-area-i.true)
+pub returns-else-i-area : goal.returns-else-i-area
+returns-else-i-area c = sym (set_out _ _ _ c.if-i-area.false)

@@ -1,13 +1,13 @@
 -- `job::walk::is_job` meets its contract. Assumes nothing.
-use Rattle.rules.proofs.Bools.{no, yes}
+use mathlib.Core.Path.{sym, ◌∙◌}
 use Rattle.job.proofs.Laws.Walk.{accepts_lost, accepts_more, accepts_is}
 use Rattle.job.proofs.walk.is_job.Goals as goal
 
-pub returns-then-bytes-at : goal.returns-then-bytes-at
-returns-then-bytes-at c = let a = c.args in accepts_lost a.bytes.now a.at a.height a.gates a.records c.if-bytes-at.true
+pub returns-then-bytes-met : goal.returns-then-bytes-met
+returns-then-bytes-met c = let m = c.args.met in accepts_lost c.args.bytes.now m.at m.height m.gates m.records c.if-bytes-met.true
 
-pub returns-then-not-is_padding : goal.returns-then-not-is_padding
-returns-then-not-is_padding c = let a = c.args in accepts_more a.bytes.now a.at a.height a.gates a.records c.if-bytes-at.false (no c.is_padding.ensures c.if-not-is_padding.true-raw)
+pub returns-else-is_padding : goal.returns-else-is_padding
+returns-else-is_padding c = let m = c.args.met in rw c.if-is_padding.false (accepts_more c.args.bytes.now m.at m.height m.gates m.records c.if-bytes-met.false (sym c.is_padding.ensures ∙ c.if-is_padding.false))
 
-pub returns : goal.returns
-returns c = let a = c.args in accepts_is a.bytes.now a.at a.height a.gates a.records c.if-bytes-at.false (yes c.is_padding.ensures c.if-not-is_padding.false-raw) c.is_sized.ensures
+pub returns-then-is_padding : goal.returns-then-is_padding
+returns-then-is_padding c = let m = c.args.met in accepts_is c.args.bytes.now m.at m.height m.gates m.records c.if-bytes-met.false (sym c.is_padding.ensures ∙ c.if-is_padding.true) c.is_sized.ensures

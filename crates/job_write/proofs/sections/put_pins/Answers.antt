@@ -1,4 +1,3 @@
-use Prim.Native.Nat.{◌-◌}
 use native.Mathlib.Omega.{arith}
 use Rattle.job_write.proofs.Laws.Sections.{pins_none, pins_more, pins_done}
 use Rattle.job_write.proofs.sections.put_pins.Goals as goal

@@ -1,6 +1,5 @@
 use Rattle.merge_unions.proofs.Laws.Names.{name_there}
 use Rattle.merge_unions.proofs.Laws.Reserving.{counting_none, counting_names, counting_at, counted_few, counting_over, counting_more, counting_done}
-use Prim.Native.Nat.{◌-◌}
 use Rattle.merge_unions.proofs.reservation.reserve_part.Goals as goal
 
 pub loop-i-init : goal.loop-i-init

@@ -1,5 +1,4 @@
 use native.Mathlib.Omega.{arith}
-use Prim.Native.Nat.{◌-◌}
 use Rattle.merge_unions.proofs.Laws.Sizing.{along_none, along_room, along_to, along_more, along_done}
 use Rattle.merge_unions.proofs.sizing.clear_along.Goals as goal
 

@@ -1,20 +1,19 @@
 use mathlib.Core.Path.{refl}
 use native.Mathlib.Omega.{arith}
-use Prim.Native.Nat.{◌-◌}
 use Rattle.merge_unions.proofs.Laws.Sizing.{unmark_none, unmark_to, unmark_more, unmark_done}
 use Rattle.merge_unions.proofs.sizing.unmark_given.Goals as goal
 
-pub loop-i-init : goal.loop-i-init
-loop-i-init c = unmark_none c.requires
+pub loop-p-init : goal.loop-p-init
+loop-p-init c = unmark_none c.requires
 
 pub set_field-requires : goal.set_field-requires
-set_field-requires c = record { p_bound = unmark_to c.requires c.loop-i.invariant c.loop-i-test.true refl; v_bound = omega arith }
+set_field-requires c = record { p_bound = unmark_to c.requires c.loop-p.invariant c.loop-p-test.true refl; v_bound = omega arith }
 
-pub loop-i-preserved : goal.loop-i-preserved
-loop-i-preserved c = unmark_more c.requires c.loop-i.invariant c.loop-i-test.true refl c.set_field.ensures
+pub loop-p-preserved : goal.loop-p-preserved
+loop-p-preserved c = unmark_more c.requires c.loop-p.invariant c.loop-p-test.true refl c.set_field.ensures
 
 pub shape_of-work : goal.shape_of-work
-shape_of-work c = c.loop-i.invariant.frame.len
+shape_of-work c = c.loop-p.invariant.frame.len
 
 pub returns : goal.returns
-returns c = unmark_done c.requires c.loop-i.invariant c.loop-i-test.false
+returns c = unmark_done c.requires c.loop-p.invariant c.loop-p-test.false

@@ -4,4 +4,4 @@ use Rattle.placer.proofs.areas.empty_all.Goals as goal
 
 pub returns : goal.returns
 unfolding empty
-returns c = record { plan = c.fill_part.ensures; words = c.fill_part-2.ensures; counts = c.fill_part-3.ensures; work = c.fill_part-4.ensures }
+returns c = record { plan = (c.fill.ensures.after (λ y e. e)); words = (c.fill-2.ensures.after (λ y e. e)); counts = (c.fill-3.ensures.after (λ y e. e)); work = (c.fill-4.ensures.after (λ y e. e)) }

@@ -1,6 +1,7 @@
 -- `placer::stages::next_stage` meets its contract: the stage's part of the plan is lent, and comes back filled. Assumes nothing.
 use native.Mathlib.Omega.{arith}
 use mathlib.Core.Path.{refl}
+use Rattle.refusals.proofs.Numbers.{handed_on}
 use Rattle.placer.proofs.Laws.Next.{ctx, stage_size_lem, size_small, part_inside_plan, stage_at, refused_part, words_few, on_part, counts_length, one_half, from_half, to_half}
 use Rattle.placer.proofs.stages.next_stage.Goals as goal
 
@@ -19,14 +20,14 @@ offset_bounds-plan-a c = let A = c.requires.1.at in rw (one_half A c.level_one_s
 pub slice_bounds-build_one_stage-end : goal.slice_bounds-build_one_stage-end
 slice_bounds-build_one_stage-end c = let A = c.requires.1.at in rw (one_half A c.level_one_size-size.ensures) (part_inside_plan A)
 
-pub build_one_stage-s-requires : goal.build_one_stage-s-requires
-build_one_stage-s-requires c = let A = c.requires.1.at in let e = one_half A c.level_one_size-size.ensures in (c.requires.0, record { it = _; at = stage_at A (from_half A e) (to_half A e) })
+pub build_one_stage-requires : goal.build_one_stage-requires
+build_one_stage-requires c = let A = c.requires.1.at in let e = one_half A c.level_one_size-size.ensures in (c.requires.0, record { it = _; at = stage_at A (from_half A e) (to_half A e) })
 
-pub returns-then-s-ne0 : goal.returns-then-s-ne0
-returns-then-s-ne0 c = record { all = λ C A. let e = one_half A c.level_one_size-size.ensures in refused_part A (from_half A e) (to_half A e) (c.build_one_stage-s.ensures.all (ctx A) (stage_at A (from_half A e) (to_half A e))) (omega (arith, c.if-s-ne0.true)) }
+pub returns-in_err-s : goal.returns-in_err-s
+returns-in_err-s c = let q = handed_on c.from_residual.result _ c.from_residual.ensures.1 in rw q (record { all = λ C A. let e = one_half A c.level_one_size-size.ensures in refused_part A (from_half A e) (to_half A e) (c.in_err-s.ensures.all (ctx A) (stage_at A (from_half A e) (to_half A e))) })
 
 pub overflow_cast-counts : goal.overflow_cast-counts
-overflow_cast-counts c = let A = c.requires.1.at in let e = one_half A c.level_one_size-size.ensures in record { fits = words_few A (from_half A e) (to_half A e) (c.build_one_stage-s.ensures.all (ctx A) (stage_at A (from_half A e) (to_half A e))) c.if-s-ne0.false }
+overflow_cast-counts c = let A = c.requires.1.at in let e = one_half A c.level_one_size-size.ensures in record { fits = words_few A (from_half A e) (to_half A e) (c.in_ok-s.ensures.all (ctx A) (stage_at A (from_half A e) (to_half A e))) }
 
 pub offset_bounds-counts-k : goal.offset_bounds-counts-k
 offset_bounds-counts-k c = let A = c.requires.1.at in omega (arith, counts_length A, A.more, c.well_formed.1.1.1.0.1)
@@ -35,4 +36,4 @@ pub bounds-counts-k : goal.bounds-counts-k
 bounds-counts-k c = let A = c.requires.1.at in omega (arith, counts_length A, A.more)
 
 pub returns : goal.returns
-returns c = record { all = λ C A. let e = one_half A c.level_one_size-size.ensures in on_part A (from_half A e) (to_half A e) (c.build_one_stage-s.ensures.all (ctx A) (stage_at A (from_half A e) (to_half A e))) c.if-s-ne0.false refl }
+returns c = record { all = λ C A. let e = one_half A c.level_one_size-size.ensures in on_part A (from_half A e) (to_half A e) (c.in_ok-s.ensures.all (ctx A) (stage_at A (from_half A e) (to_half A e))) refl }

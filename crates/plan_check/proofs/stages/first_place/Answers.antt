@@ -1,8 +1,8 @@
 use Rattle.plan_check.proofs.Laws.Stages.{end_is, checking_none, checking_here, checking_stage, checking_turn, checking_wrong, checking_few, checking_there, checking_more, checking_done}
-use Prim.Native.Nat.{◌-◌}
-use mathlib.Core.Path.{◌∙◌, sym}
+use mathlib.Core.Path.{refl, ◌∙◌, sym}
 use native.Mathlib.Omega.{arith}
 use Rattle.plan_check.proofs.Laws.Loads.{size_is}
+use Rattle.std.proofs.lemmas.Result.{err_from_is_err_and}
 use Rattle.plan_check.proofs.stages.first_place.Goals as goal
 
 pub loop-k-init : goal.loop-k-init
@@ -32,29 +32,31 @@ slice_bounds-stage_step-count-in-loop-k c = c.loop-k.invariant.1.there
 pub slice_bounds-stage_step-start-in-loop-k : goal.slice_bounds-stage_step-start-in-loop-k
 slice_bounds-stage_step-start-in-loop-k c = c.loop-k.invariant.1.there
 
-pub stage_step-place-requires : goal.stage_step-place-requires
-stage_step-place-requires c = checking_stage _ _ _ _ _ _ _ _ _ _ c.requires _ _ _ _ _ _ c.loop-k.invariant.1 c.loop-k-test.true _ (end_is _ c.requires.here.tall c.stage_size-size.ensures)
+pub stage_step-requires : goal.stage_step-requires
+stage_step-requires c = checking_stage _ _ _ _ _ _ _ _ _ _ c.requires _ _ _ _ _ _ c.loop-k.invariant.1 c.loop-k-test.true _ (end_is _ c.requires.here.tall c.stage_size-size.ensures)
 
-pub shape_of-looks-then-place : goal.shape_of-looks-then-place
-shape_of-looks-then-place c = c.loop-k.invariant.1.held.size ∙ sym c.requires.held.size
+pub shape_of-looks-in_err-stage_step : goal.shape_of-looks-in_err-stage_step
+shape_of-looks-in_err-stage_step c = c.loop-k.invariant.1.held.size ∙ sym c.requires.held.size
 
-pub shape_of-written-then-place : goal.shape_of-written-then-place
-shape_of-written-then-place c = c.stage_step-place.ensures.len ∙ c.loop-k.invariant.1.size ∙ sym c.requires.size
+pub shape_of-written-in_err-stage_step : goal.shape_of-written-in_err-stage_step
+shape_of-written-in_err-stage_step c = c.in_err-stage_step.ensures.len ∙ c.loop-k.invariant.1.size ∙ sym c.requires.size
 
-pub returns-then-place : goal.returns-then-place
-returns-then-place c = checking_wrong _ _ _ _ _ _ _ _ _ _ c.requires _ _ _ _ _ _ c.loop-k.invariant.1 c.loop-k-test.true _ c.wide-count.ensures _ (end_is _ c.requires.here.tall c.stage_size-size.ensures) _ _ c.stage_step-place.ensures c.if-place.true
+pub returns-in_err-stage_step : goal.returns-in_err-stage_step
+returns-in_err-stage_step c =
+    let p = err_from_is_err_and c.from_residual.result c.from_residual.ensures.1 in
+    rw (p.1, p.2) (checking_wrong _ _ _ _ _ _ _ _ _ _ c.requires _ _ _ _ _ _ c.loop-k.invariant.1 c.loop-k-test.true _ c.wide-count.ensures _ (end_is _ c.requires.here.tall c.stage_size-size.ensures) _ _ c.in_err-stage_step.ensures _ refl)
 
 pub turn-requires : goal.turn-requires
 turn-requires c = checking_turn _ _ _ _ _ _ _ _ _ _ c.requires _ _ _ _ _ _ c.loop-k.invariant.1 c.loop-k-test.true
 
 pub overflow_add-from : goal.overflow_add-from
-overflow_add-from c = omega (arith, c.loop-k.invariant.0, checking_there _ _ _ _ _ _ _ _ _ _ c.requires _ _ _ _ _ _ c.loop-k.invariant.1 c.loop-k-test.true _ c.wide-count.ensures _ (end_is _ c.requires.here.tall c.stage_size-size.ensures) _ _ c.stage_step-place.ensures c.if-place.false)
+overflow_add-from c = omega (arith, c.loop-k.invariant.0, checking_there _ _ _ _ _ _ _ _ _ _ c.requires _ _ _ _ _ _ c.loop-k.invariant.1 c.loop-k-test.true _ c.wide-count.ensures _ (end_is _ c.requires.here.tall c.stage_size-size.ensures) _ _ c.in_ok-stage_step.ensures refl)
 
 pub overflow_sub-left : goal.overflow_sub-left
-overflow_sub-left c = checking_few _ _ _ _ _ _ _ _ _ _ c.requires _ _ _ _ _ _ c.loop-k.invariant.1 c.loop-k-test.true _ c.wide-count.ensures _ (end_is _ c.requires.here.tall c.stage_size-size.ensures) _ _ c.stage_step-place.ensures c.if-place.false
+overflow_sub-left c = checking_few _ _ _ _ _ _ _ _ _ _ c.requires _ _ _ _ _ _ c.loop-k.invariant.1 c.loop-k-test.true _ c.wide-count.ensures _ (end_is _ c.requires.here.tall c.stage_size-size.ensures) _ _ c.in_ok-stage_step.ensures refl
 
 pub loop-k-preserved : goal.loop-k-preserved
-loop-k-preserved c = (c.loop-k.invariant.0, checking_more _ _ _ _ _ _ _ _ _ _ c.requires _ _ _ _ _ _ c.loop-k.invariant.1 c.loop-k-test.true _ c.wide-count.ensures _ (end_is _ c.requires.here.tall c.stage_size-size.ensures) _ _ c.stage_step-place.ensures c.if-place.false _ c.turn.ensures)
+loop-k-preserved c = (c.loop-k.invariant.0, checking_more _ _ _ _ _ _ _ _ _ _ c.requires _ _ _ _ _ _ c.loop-k.invariant.1 c.loop-k-test.true _ c.wide-count.ensures _ (end_is _ c.requires.here.tall c.stage_size-size.ensures) _ _ c.in_ok-stage_step.ensures refl _ c.turn.ensures)
 
 pub shape_of-looks : goal.shape_of-looks
 shape_of-looks c = c.loop-k.invariant.1.held.size ∙ sym c.requires.held.size
@@ -63,4 +65,4 @@ pub shape_of-written : goal.shape_of-written
 shape_of-written c = c.loop-k.invariant.1.size ∙ sym c.requires.size
 
 pub returns : goal.returns
-returns c = checking_done _ _ _ _ _ _ _ _ _ _ c.requires _ _ _ _ _ _ c.loop-k.invariant.1 c.loop-k-test.false _ c.nowhere.ensures
+returns c = checking_done _ _ _ _ _ _ _ _ _ _ c.requires _ _ _ _ _ _ c.loop-k.invariant.1 c.loop-k-test.false

@@ -5,11 +5,11 @@ use Rattle.plan_check_stage.proofs.right.right_above.Goals as goal
 pub returns-then-cell-pin : goal.returns-then-cell-pin
 returns-then-cell-pin c = above_copies _ _ _ _ _ _ c.pin-pin.ensures c.if-cell-pin.true
 
-pub returns-then-has_mark : goal.returns-then-has_mark
-returns-then-has_mark c = above_given _ _ _ _ _ _ c.pin-pin.ensures c.if-cell-pin.false _ c.has_mark.ensures c.if-has_mark.true
+pub returns-else-not-has_mark : goal.returns-else-not-has_mark
+returns-else-not-has_mark c = rw c.if-not-has_mark.false (above_given _ _ _ _ _ _ c.pin-pin.ensures c.if-cell-pin.false _ c.has_mark.ensures c.if-not-has_mark.false)
 
 pub splits-requires : goal.splits-requires
 splits-requires c = c.requires
 
-pub returns : goal.returns
-returns c = above_ands _ _ _ _ _ _ c.pin-pin.ensures c.if-cell-pin.false _ c.has_mark.ensures c.if-has_mark.false _ _ c.node_at.ensures c.splits.ensures
+pub returns-then-not-has_mark : goal.returns-then-not-has_mark
+returns-then-not-has_mark c = above_ands _ _ _ _ _ _ c.pin-pin.ensures c.if-cell-pin.false _ c.has_mark.ensures c.if-not-has_mark.true _ _ c.node_at.ensures c.splits.ensures

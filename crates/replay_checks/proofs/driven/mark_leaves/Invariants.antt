@@ -5,6 +5,3 @@ use Rattle.replay_checks.proofs.driven.mark_leaves.Given as goal
 
 abbrev pub invariant-loop-i : goal.invariant-loop-i
 invariant-loop-i l = RightTo (graph_of l.gates) l.driven l.initial.marks l.i l.marks
-
-abbrev pub decreases-loop-i : goal.decreases-loop-i
-decreases-loop-i l = l.i

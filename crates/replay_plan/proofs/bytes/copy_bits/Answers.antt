@@ -1,4 +1,3 @@
-use Prim.Native.Nat.{◌-◌}
 use native.Mathlib.Omega.{arith}
 use Rattle.replay_plan.proofs.Laws.Bytes.{filled_none, filled_more, copied}
 use Rattle.replay_plan.proofs.bytes.copy_bits.Goals as goal
@@ -13,7 +12,7 @@ pub loop-i-smaller : goal.loop-i-smaller
 loop-i-smaller c = omega (arith, c.loop-i-test.true)
 
 pub loop-i-preserved : goal.loop-i-preserved
-loop-i-preserved c = filled_more _ _ _ _ c.loop-i.invariant (omega (arith, c.loop-i.invariant.len, c.loop-i-test.true, c.requires)) _ c.as_bit.ensures
+loop-i-preserved c = filled_more _ _ _ _ c.loop-i.invariant (omega (arith, c.loop-i.invariant.len, c.loop-i-test.true, c.requires)) _ c.bit.ensures
 
 pub shape_of-to : goal.shape_of-to
 shape_of-to c = c.loop-i.invariant.len

@@ -10,4 +10,4 @@ pub read_plan-requires : goal.read_plan-requires
 read_plan-requires c = words_at_lem _ _ _ _ _ _ _ _ _ c.requires _ _ _ _ c.make_plan-entries.ensures _ (size_there _ _ c.requires.made.passed.height c.stage_size-size.ensures)
 
 pub returns : goal.returns
-returns c = tape_out _ _ _ _ _ _ _ _ _ c.requires _ _ _ _ c.make_plan-entries.ensures _ (size_there _ _ c.requires.made.passed.height c.stage_size-size.ensures) _ _ c.fill_part.ensures c.read_plan.ensures
+returns c = tape_out _ _ _ _ _ _ _ _ _ c.requires _ _ _ _ c.make_plan-entries.ensures _ (size_there _ _ c.requires.made.passed.height c.stage_size-size.ensures) _ _ (c.fill.ensures.after (λ y e. e)) c.read_plan.ensures

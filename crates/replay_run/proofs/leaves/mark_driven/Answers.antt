@@ -15,7 +15,7 @@ pub loop-i-smaller : goal.loop-i-smaller
 loop-i-smaller c = omega arith
 
 pub loop-i-preserved : goal.loop-i-preserved
-loop-i-preserved c = rw c.put_mark.ensures (marked_more _ _ _ _ c.loop-i.invariant c.loop-i-test.true _ c.wide.ensures)
+loop-i-preserved c = rw c.put_inside.ensures (marked_more _ _ _ _ c.loop-i.invariant c.loop-i-test.true _ c.wide.ensures)
 
 pub shape_of-marks : goal.shape_of-marks
 shape_of-marks c = omega (arith, c.loop-i.invariant.marked.len)

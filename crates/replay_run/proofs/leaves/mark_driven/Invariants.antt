@@ -4,6 +4,3 @@ use Rattle.replay_run.proofs.leaves.mark_driven.Given as goal
 
 abbrev pub invariant-loop-i : goal.invariant-loop-i
 invariant-loop-i l = MarkedTo l.driven l.initial.marks l.i l.marks
-
-abbrev pub decreases-loop-i : goal.decreases-loop-i
-decreases-loop-i l = l.i

@@ -1,4 +1,3 @@
-use Prim.Native.Nat.{◌-◌}
 use native.Mathlib.Omega.{arith}
 use Rattle.replay_run.proofs.Laws.Leaves.{leaves_none, leaves_more, leaves_done}
 use Rattle.replay_run.proofs.leaves.put_leaves.Goals as goal

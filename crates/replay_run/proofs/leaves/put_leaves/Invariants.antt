@@ -1,11 +1,6 @@
 -- `replay_run::leaves::put_leaves` meets its contract: pins below p are gone through. Assumes nothing.
-use Prim.Native.Nat.{◌-◌}
-use Rattle.rules.specs.Graph.{pin_count}
 use Rattle.replay_run.proofs.Laws.Leaves.{LeavesTo}
 use Rattle.replay_run.proofs.leaves.put_leaves.Given as goal
 
 abbrev pub invariant-loop-p : goal.invariant-loop-p
 invariant-loop-p l = LeavesTo l.gates l.marks l.initial.leaves l.p l.n l.leaves
-
-abbrev pub decreases-loop-p : goal.decreases-loop-p
-decreases-loop-p l = pin_count l.gates - l.p

@@ -1,4 +1,3 @@
-use Prim.Native.Nat.{◌-◌}
 use mathlib.Core.Path.{◌∙◌}
 use native.Mathlib.Omega.{arith}
 use Rattle.replay_run.proofs.Laws.Places.{record_none, record_inside, pin_inside, slot_small, record_more, record_done}

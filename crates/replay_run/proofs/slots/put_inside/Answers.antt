@@ -4,4 +4,4 @@ use lib.Seq.{set_out}
 use Rattle.replay_run.proofs.slots.put_inside.Goals as goal
 
 pub returns-else-n-list : goal.returns-else-n-list
-returns-else-n-list c = sym (set_out _ _ _ c.if-n-list.false)
+returns-else-n-list g c = sym (set_out _ _ _ c.if-n-list.false)

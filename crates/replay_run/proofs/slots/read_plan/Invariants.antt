@@ -4,6 +4,3 @@ use Rattle.replay_run.proofs.slots.read_plan.Given as goal
 
 abbrev pub invariant-loop-k : goal.invariant-loop-k
 invariant-loop-k l = PlanTo l.size l.plan l.slots l.words l.counts l.initial.reads l.k l.at l.stop l.reads
-
-abbrev pub decreases-loop-k : goal.decreases-loop-k
-decreases-loop-k l = l.k

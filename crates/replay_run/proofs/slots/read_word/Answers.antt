@@ -5,7 +5,7 @@ use Rattle.replay_run.proofs.Laws.Slots.{word_none, word_more, word_done}
 use Rattle.replay_run.proofs.slots.read_word.Goals as goal
 
 pub loop-p-init : goal.loop-p-init
-loop-p-init c = word_none _ _ _ _ _ c.least-p.ensures
+loop-p-init c = word_none _ _ _ _ _ c.min-p.ensures
 
 pub offset_bounds-cells-p : goal.offset_bounds-cells-p
 offset_bounds-cells-p c = omega (arith, c.loop-p.invariant.inside)

@@ -4,6 +4,3 @@ use Rattle.replay_run.proofs.slots.read_word.Given as goal
 
 abbrev pub invariant-loop-p : goal.invariant-loop-p
 invariant-loop-p l = WordTo l.cells l.slots l.at l.p l.initial.reads l.reads
-
-abbrev pub decreases-loop-p : goal.decreases-loop-p
-decreases-loop-p l = l.p

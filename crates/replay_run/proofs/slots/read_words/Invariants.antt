@@ -4,6 +4,3 @@ use Rattle.replay_run.proofs.slots.read_words.Given as goal
 
 abbrev pub invariant-loop-i : goal.invariant-loop-i
 invariant-loop-i l = WordsTo l.cells l.slots l.words l.initial.reads l.i l.reads
-
-abbrev pub decreases-loop-i : goal.decreases-loop-i
-decreases-loop-i l = l.i

@@ -1,9 +1,8 @@
 -- `replay_tape::clocks::bit` meets its contract. Assumes nothing.
-use Rattle.replay_tape.proofs.Laws.Clocks.{bit_zero, bit_one}
+use Rattle.rules.specs.Fold.{as_number}
+use Rattle.replay_form.specs.Clocks.{is_one}
 use Rattle.replay_tape.proofs.clocks.bit.Goals as goal
 
-pub returns-then-x-eq0 : goal.returns-then-x-eq0
-returns-then-x-eq0 c = bit_zero _ c.if-x-eq0.true
-
-pub returns-else-x-eq0 : goal.returns-else-x-eq0
-returns-else-x-eq0 c = bit_one _ c.if-x-eq0.false
+pub returns : goal.returns
+unfolding as_number is_one
+returns c = c.from.ensures

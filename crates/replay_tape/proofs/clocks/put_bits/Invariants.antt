@@ -4,6 +4,3 @@ use Rattle.replay_tape.proofs.clocks.put_bits.Given as goal
 
 abbrev pub invariant-loop-i : goal.invariant-loop-i
 invariant-loop-i l = PutFrom l.pins l.values l.initial.bits l.i l.bits
-
-abbrev pub decreases-loop-i : goal.decreases-loop-i
-decreases-loop-i l = l.i

@@ -1,4 +1,3 @@
-use Prim.Native.Nat.{◌-◌}
 use native.Mathlib.Omega.{arith}
 use Rattle.replay_tape.proofs.Laws.Clocks.{taken_none, flip_inside, taken_more, taken_done}
 use Rattle.replay_tape.proofs.clocks.take_data.Goals as goal

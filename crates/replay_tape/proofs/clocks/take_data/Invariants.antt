@@ -1,11 +1,6 @@
 -- `replay_tape::clocks::take_data` meets its contract: the first i flip-flops have their next bits. Assumes nothing.
-use Prim.Native.Nat.{◌-◌}
-use lib.ListN.{length}
 use Rattle.replay_tape.proofs.Laws.Clocks.{TakenTo}
 use Rattle.replay_tape.proofs.clocks.take_data.Given as goal
 
 abbrev pub invariant-loop-i : goal.invariant-loop-i
 invariant-loop-i l = TakenTo l.flips l.out l.initial.state l.i l.state
-
-abbrev pub decreases-loop-i : goal.decreases-loop-i
-decreases-loop-i l = length l.flips - l.i

@@ -10,4 +10,4 @@ pub remember-requires : goal.remember-requires
 remember-requires c = record { stage = c.requires.up.stage; same = c.make_stage-count.ensures.wlen ∙ c.requires.up.same }
 
 pub returns : goal.returns
-returns c = let p = c.requires in let f = c.first_slots.ensures in next_made _ _ _ _ _ _ _ _ _ _ (one_in _ _ _ _ _ _ p _ f) p.named c.make_stage-count.ensures _ _ c.fill_part.ensures c.remember.ensures _ (first_loads _ _ _ _ _ _ p _ f)
+returns c = let p = c.requires in let f = c.first_slots.ensures in next_made _ _ _ _ _ _ _ _ _ _ (one_in _ _ _ _ _ _ p _ f) p.named c.make_stage-count.ensures _ _ (c.fill.ensures.after (λ y e. e)) c.remember.ensures _ (first_loads _ _ _ _ _ _ p _ f)

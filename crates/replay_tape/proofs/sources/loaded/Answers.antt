@@ -2,8 +2,8 @@
 use Rattle.replay_tape.proofs.Laws.Sources.{load_past, load_there}
 use Rattle.replay_tape.proofs.sources.loaded.Goals as goal
 
-pub returns-then-looks-i : goal.returns-then-looks-i
-returns-then-looks-i c = load_past _ _ _ c.index-i.ensures c.if-looks-i.true
+pub returns-then-i-looks : goal.returns-then-i-looks
+returns-then-i-looks c = load_there _ _ _ c.index-i.ensures
 
-pub returns : goal.returns
-returns c = load_there _ _ _ c.index-i.ensures
+pub returns-else-i-looks : goal.returns-else-i-looks
+returns-else-i-looks c = load_past _ _ _ c.index-i.ensures c.if-i-looks.false

@@ -1,34 +1,29 @@
-use Prim.Native.Nat.{◌-◌}
+use mathlib.Core.Path.{refl}
 use native.Mathlib.Omega.{arith}
-use Rattle.reservation_count.proofs.Laws.Chains.{chaining_none, chaining_at, chaining_stands, chaining_more, chaining_done}
+use Rattle.records.proofs.Walks.{Stepped, stepped, walked}
+use Rattle.checks.proofs.Laws.Passed.{read_stands}
+use Rattle.reservation_count.proofs.Laws.Chains.{chaining_none, chaining_at, chaining_more, chaining_done}
 use Rattle.reservation_count.proofs.chains.chain_all.Goals as goal
+use Rattle.reservation_count.proofs.chains.chain_all.Goals.{In-Some}
+
+step : (c : In-Some) → Stepped c.args.records.now c.loop-at.at-iterator c.in-Some.at c.next.new.self
+step c = stepped _ _ c.loop-at.invariant.0 c.in-Some.ensures.steps
 
 pub loop-at-init : goal.loop-at-init
-loop-at-init c = chaining_none _ _ _ c.requires
+loop-at-init c =
+    let i = c.into_iter-at-iterator.ensures.into_iter_gives in
+    let s = c.starts-at-items.ensures in
+    (rw i s.records, rw (i, s.at) (chaining_none _ _ _ c.requires))
 
 pub chain_record-memories-requires : goal.chain_record-memories-requires
-chain_record-memories-requires c = chaining_at _ _ _ c.requires _ _ _ _ c.loop-at.invariant c.loop-at-test.true
-
-pub overflow_add-memories : goal.overflow_add-memories
-overflow_add-memories c = omega (arith, c.loop-at.invariant.few, c.loop-at.invariant.upto, c.requires.right.short, c.chain_record-memories.ensures.few)
-
-pub overflow_add-at : goal.overflow_add-at
-overflow_add-at c = omega (arith, c.size_at.ensures, (chaining_stands _ _ _ c.requires _ _ _ _ c.loop-at.invariant c.loop-at-test.true).inside)
-
-pub overflow_add-at-in-loop-at : goal.overflow_add-at-in-loop-at
-overflow_add-at-in-loop-at c = omega (arith, c.size_at.ensures, (chaining_stands _ _ _ c.requires _ _ _ _ c.loop-at.invariant c.loop-at-test.true).inside)
-
-pub loop-at-smaller : goal.loop-at-smaller
-loop-at-smaller c = omega (arith, c.size_at.ensures, (chaining_stands _ _ _ c.requires _ _ _ _ c.loop-at.invariant c.loop-at-test.true).inside)
+chain_record-memories-requires c = let s = step (goal.at.chain_record-memories-requires c).In-Some in
+    rw s.start (chaining_at _ _ _ c.requires _ _ _ _ c.loop-at.invariant.1 (omega (arith, s.here.inside)))
 
 pub loop-at-preserved : goal.loop-at-preserved
-loop-at-preserved c = chaining_more _ _ _ c.requires _ _ _ _ c.loop-at.invariant c.loop-at-test.true _ _ _ c.chain_record-memories.ensures _ c.size_at.ensures
-
-pub shape_of-heads : goal.shape_of-heads
-shape_of-heads c = c.loop-at.invariant.heads_len
-
-pub shape_of-links : goal.shape_of-links
-shape_of-links c = c.loop-at.invariant.links_len
+loop-at-preserved c =
+    let s = step (goal.at.loop-at-preserved c).In-Some in
+    let e = rw s.start at c.chain_record-memories.ensures in
+    (s.same, rw s.next (chaining_more _ _ _ c.requires _ _ _ _ c.loop-at.invariant.1 (omega (arith, s.here.inside)) _ _ _ e _ refl))
 
 pub returns : goal.returns
-returns c = chaining_done _ _ _ c.requires _ _ _ _ c.loop-at.invariant c.loop-at-test.false
+returns c = chaining_done _ _ _ c.requires _ _ _ _ c.loop-at.invariant.1 (walked _ _ c.loop-at.invariant.0 c.in-None.ensures.steps (read_stands _ _ _ c.loop-at.invariant.1.unread))

@@ -3,12 +3,6 @@ use native.Mathlib.Omega.{arith}
 use Rattle.reservation_count.proofs.Laws.Chains.{link_inside, linked_memory, link_pin, linked_code}
 use Rattle.reservation_count.proofs.chains.chain_record.Goals as goal
 
-pub adds-requires : goal.adds-requires
-adds-requires c = record { whole = c.requires.whole }
-
-pub offset_bounds-heads-i : goal.offset_bounds-heads-i
-offset_bounds-heads-i c = omega (arith, link_pin _ _ _ _ c.requires c.adds.ensures c.in-Code.is _ c.index-i.ensures)
-
 pub bounds-heads-i : goal.bounds-heads-i
 bounds-heads-i c = link_pin _ _ _ _ c.requires c.adds.ensures c.in-Code.is _ c.index-i.ensures
 
@@ -23,9 +17,6 @@ overflow_add-heads c = omega (arith, link_inside _ _ _ _ c.requires c.adds.ensur
 
 pub overflow_cast-heads : goal.overflow_cast-heads
 overflow_cast-heads c = omega (arith, link_inside _ _ _ _ c.requires c.adds.ensures, c.requires.short)
-
-pub offset_bounds-heads-i-in-Code : goal.offset_bounds-heads-i-in-Code
-offset_bounds-heads-i-in-Code c = omega (arith, link_pin _ _ _ _ c.requires c.adds.ensures c.in-Code.is _ c.index-i.ensures)
 
 pub bounds-heads-i-in-Code : goal.bounds-heads-i-in-Code
 bounds-heads-i-in-Code c = link_pin _ _ _ _ c.requires c.adds.ensures c.in-Code.is _ c.index-i.ensures

@@ -1,5 +1,4 @@
-use native.Mathlib.Omega.{arith}
-use Rattle.reservation_count.proofs.Laws.Walks.{walking_none, walk_whole, walk_inside, walk_falls, walk_few, walk_stamp, walking_pass, walking_more, walking_done}
+use Rattle.reservation_count.proofs.Laws.Walks.{walking_none, walk_whole, walk_falls, walk_stamp, walking_pass, walking_more, walking_done}
 use Rattle.reservation_count.proofs.walks.walk.Goals as goal
 
 pub loop-h-init : goal.loop-h-init
@@ -8,17 +7,8 @@ loop-h-init c = λ cs A. walking_none _ _ _ _ _ _ cs A
 pub code_at-code-requires : goal.code_at-code-requires
 code_at-code-requires c = walk_whole _ _ _ _ _ _ _ c.requires.at _ _ _ (c.loop-h.invariant _ c.requires.at) c.loop-h-test.true
 
-pub offset_bounds-links-at : goal.offset_bounds-links-at
-offset_bounds-links-at c = omega (arith, walk_inside _ _ _ _ _ _ _ c.requires.at _ _ _ (c.loop-h.invariant _ c.requires.at) c.loop-h-test.true)
-
-pub bounds-links-at : goal.bounds-links-at
-bounds-links-at c = walk_inside _ _ _ _ _ _ _ c.requires.at _ _ _ (c.loop-h.invariant _ c.requires.at) c.loop-h-test.true
-
 pub stamp-n-requires : goal.stamp-n-requires
 stamp-n-requires c = walk_stamp _ _ _ _ _ _ _ c.requires.at _ _ _ (c.loop-h.invariant _ c.requires.at) c.loop-h-test.true _ _ c.code_at-code.ensures c.wide-h.ensures c.if-code-r.true
-
-pub overflow_add-n : goal.overflow_add-n
-overflow_add-n c = omega (arith, walk_few _ _ _ _ _ _ _ c.requires.at _ _ _ (c.loop-h.invariant _ c.requires.at) c.loop-h-test.true, c.stamp-n.ensures.few)
 
 pub loop-h-smaller-then-code-r : goal.loop-h-smaller-then-code-r
 loop-h-smaller-then-code-r c = walk_falls _ _ _ _ _ _ _ c.requires.at _ _ _ (c.loop-h.invariant _ c.requires.at) c.loop-h-test.true _ c.wide-h.ensures
@@ -31,9 +21,6 @@ loop-h-smaller c = walk_falls _ _ _ _ _ _ _ c.requires.at _ _ _ (c.loop-h.invari
 
 pub loop-h-preserved : goal.loop-h-preserved
 loop-h-preserved c = λ cs A. walking_pass _ _ _ _ _ _ cs A _ _ _ (c.loop-h.invariant cs A) c.loop-h-test.true _ _ c.code_at-code.ensures c.wide-h.ensures c.if-code-r.false
-
-pub shape_of-stamps : goal.shape_of-stamps
-shape_of-stamps c = (c.loop-h.invariant _ c.requires.at).len
 
 pub returns : goal.returns
 returns c = record { all = λ cs A. walking_done _ _ _ _ _ _ cs A _ _ _ (c.loop-h.invariant cs A) c.loop-h-test.false }

@@ -1,23 +1,18 @@
-use Prim.Native.Nat.{◌-◌}
-use native.Mathlib.Omega.{arith}
-use Rattle.rules.proofs.Bools.{no, yes}
+use mathlib.Core.Path.{sym, ◌∙◌}
 use Rattle.sheet_plan.proofs.Laws.Lifts.{going_all, lift_asks, going_no, going_on, going_done}
 use Rattle.sheet_plan.proofs.lifts.stage_lifts.Goals as goal
 
 pub loop-p-init : goal.loop-p-init
 loop-p-init c = going_all c.requires _
 
-pub overflow_cast-p : goal.overflow_cast-p
-overflow_cast-p c = omega (arith, c.requires.few, c.loop-p-test.true)
-
 pub lifts_at-requires : goal.lifts_at-requires
 lifts_at-requires c = lift_asks c.requires _ c.loop-p.invariant c.loop-p-test.true
 
 pub returns-then-not-lifts_at : goal.returns-then-not-lifts_at
-returns-then-not-lifts_at c = going_no c.requires _ c.loop-p.invariant c.loop-p-test.true (no c.lifts_at.ensures c.if-not-lifts_at.true-raw)
+returns-then-not-lifts_at c = going_no c.requires _ c.loop-p.invariant c.loop-p-test.true (sym c.lifts_at.ensures ∙ c.if-not-lifts_at.true)
 
 pub loop-p-preserved : goal.loop-p-preserved
-loop-p-preserved c = going_on c.requires _ c.loop-p.invariant c.loop-p-test.true (yes c.lifts_at.ensures c.if-not-lifts_at.false-raw)
+loop-p-preserved c = going_on c.requires _ c.loop-p.invariant c.loop-p-test.true (sym c.lifts_at.ensures ∙ c.if-not-lifts_at.false)
 
 pub returns : goal.returns
 returns c = going_done c.requires _ c.loop-p.invariant c.loop-p-test.false

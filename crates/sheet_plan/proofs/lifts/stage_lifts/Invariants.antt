@@ -1,11 +1,6 @@
 -- `sheet_plan::lifts::stage_lifts` meets its contract. Assumes nothing.
-use Prim.Native.Nat.{◌-◌}
-use lib.ListN.{length}
 use Rattle.sheet_plan.proofs.Laws.Lifts.{Going}
 use Rattle.sheet_plan.proofs.lifts.stage_lifts.Given as goal
 
 abbrev pub invariant-loop-p : goal.invariant-loop-p
 invariant-loop-p l = Going l.height.0 l.gates l.cells l.p
-
-abbrev pub decreases-loop-p : goal.decreases-loop-p
-decreases-loop-p l = length l.cells - l.p

@@ -1,13 +1,11 @@
 -- `sheet_plan::reading::behind_pin` meets its contract. Assumes nothing.
-use mathlib.Core.Path.{sym}
-use borrow.Author.Tests.{eq-eqb, ne_eqb}
 use Rattle.sheet_form.specs.Forms.{behind_pin}
 use Rattle.sheet_plan.proofs.reading.behind_pin.Goals as goal
 
-pub returns-then-number-eq1 : goal.returns-then-number-eq1
+pub returns-in-Pins : goal.returns-in-Pins
 unfolding behind_pin
-returns-then-number-eq1 c = sym (rw (eq-eqb _ 1 c.if-number-eq1.true, behind_pin))
+returns-in-Pins c = rw c.in-Pins.is
 
-pub returns-else-number-eq1 : goal.returns-else-number-eq1
+pub returns-in-Cells : goal.returns-in-Cells
 unfolding behind_pin
-returns-else-number-eq1 c = sym (rw (ne_eqb _ 1 c.if-number-eq1.false, behind_pin))
+returns-in-Cells c = rw c.in-Cells.is

@@ -6,7 +6,7 @@ pub returns-then-room-used : goal.returns-then-room-used
 returns-then-room-used c = pad_none c.if-room-used.true
 
 pub shape_of-area : goal.shape_of-area
-shape_of-area c = (pad_part c.if-room-used.false c.requires.inside c.fill_part.ensures).len
+shape_of-area c = (pad_part c.if-room-used.false c.requires.inside (c.fill.ensures.after (λ y e. e))).len
 
 pub returns : goal.returns
-returns c = pad_part c.if-room-used.false c.requires.inside c.fill_part.ensures
+returns c = pad_part c.if-room-used.false c.requires.inside (c.fill.ensures.after (λ y e. e))

@@ -1,13 +1,8 @@
-use Prim.Native.Nat.{◌-◌}
-use native.Mathlib.Omega.{arith}
 use Rattle.sheet_read.proofs.Laws.Stages.{laid_none, laid_more, laid_length, laid_done}
 use Rattle.sheet_read.proofs.stages.lay.Goals as goal
 
 pub loop-i-init : goal.loop-i-init
 loop-i-init c = laid_none
-
-pub overflow_add-at : goal.overflow_add-at
-overflow_add-at c = omega (arith, c.requires, c.loop-i-test.true)
 
 pub loop-i-preserved : goal.loop-i-preserved
 loop-i-preserved c = laid_more c.loop-i.invariant c.loop-i-test.true c.store.ensures

@@ -1,11 +1,6 @@
 -- `sheet_read::stages::lay` meets its contract. Assumes nothing.
-use Prim.Native.Nat.{◌-◌}
-use lib.ListN.{length}
 use Rattle.sheet_read.proofs.Laws.Stages.{Laid}
 use Rattle.sheet_read.proofs.stages.lay.Given as goal
 
 abbrev pub invariant-loop-i : goal.invariant-loop-i
 invariant-loop-i l = Laid l.initial.plan l.cells l.at l.i l.plan
-
-abbrev pub decreases-loop-i : goal.decreases-loop-i
-decreases-loop-i l = length l.cells - l.i

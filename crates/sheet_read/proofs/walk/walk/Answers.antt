@@ -1,26 +1,21 @@
 -- `sheet_read::walk::walk` meets its contract. Assumes nothing.
-use Rattle.rules.proofs.Bools.{no, yes}
+use native.Mathlib.Omega.{arith}
+use mathlib.Core.Path.{sym, ◌∙◌}
 use mathlib.Core.List.{[]}
-use Rattle.sheet_read.proofs.Laws.Walk.{head_lost, height_lost, stages_asks, walked}
+use Rattle.sheet_read.proofs.Laws.Walk.{head_lost, height_lost, stages_asks, stages_lost, walked}
 use Rattle.sheet_read.proofs.walk.walk.Goals as goal
 
-pub returns-then-end-lt28 : goal.returns-then-end-lt28
-returns-then-end-lt28 c = head_lost c.requires _ _ c.if-end-lt28.true
+pub returns-then-bytes-lt28 : goal.returns-then-bytes-lt28
+returns-then-bytes-lt28 c = head_lost c.requires _ _ c.if-bytes-lt28.true
 
 pub returns-then-not-is_height : goal.returns-then-not-is_height
-returns-then-not-is_height c = height_lost c.if-end-lt28.false c.field-height.ensures _ _ (no c.is_height.ensures c.if-not-is_height.true-raw)
+returns-then-not-is_height c = height_lost c.if-bytes-lt28.false c.field-height.ensures _ _ (sym c.is_height.ensures ∙ c.if-not-is_height.true)
 
-pub walk_stages-r-requires : goal.walk_stages-r-requires
-walk_stages-r-requires c = stages_asks c.if-end-lt28.false c.field-height.ensures 0 [] (yes c.is_height.ensures c.if-not-is_height.false-raw) c.field.ensures c.wide-n.ensures c.requires.small
+pub walk_stages-requires : goal.walk_stages-requires
+walk_stages-requires c = stages_asks c.if-bytes-lt28.false c.field-height.ensures 0 [] (sym c.is_height.ensures ∙ c.if-not-is_height.false) c.field.ensures c.wide-n.ensures c.requires.small
 
-pub shape_of-plan : goal.shape_of-plan
-shape_of-plan c = c.walk_stages-r.ensures.kept.plan
-
-pub shape_of-words : goal.shape_of-words
-shape_of-words c = c.walk_stages-r.ensures.kept.words
-
-pub shape_of-counts : goal.shape_of-counts
-shape_of-counts c = c.walk_stages-r.ensures.kept.counts
+pub returns-in_err-r : goal.returns-in_err-r
+returns-in_err-r c = rw c.from_residual.ensures (stages_lost c.if-bytes-lt28.false c.field-height.ensures _ _ (sym c.is_height.ensures ∙ c.if-not-is_height.false) c.field.ensures c.wide-n.ensures (omega arith) c.in_err-r.ensures)
 
 pub returns : goal.returns
-returns c = walked c.if-end-lt28.false c.field-height.ensures _ _ (yes c.is_height.ensures c.if-not-is_height.false-raw) c.field.ensures c.wide-n.ensures c.walk_stages-r.ensures
+returns c = (walked c.if-bytes-lt28.false c.field-height.ensures _ _ (sym c.is_height.ensures ∙ c.if-not-is_height.false) c.field.ensures c.wide-n.ensures c.in_ok-r.ensures.0, c.in_ok-r.ensures.1)

@@ -1,4 +1,3 @@
-use Prim.Native.Nat.{◌-◌}
 use native.Mathlib.Omega.{arith}
 use Rattle.sheet_write.proofs.Laws.Fits.{fits_none, fits_done, stage_asks, part_there, fits_lost, fits_more, count_there, stands}
 use Rattle.sheet_write.proofs.fits.stages_end.Goals as goal
@@ -30,17 +29,17 @@ overflow_add-from c = omega (arith, (part_there c.requires c.loop-i.invariant c.
 pub slice_bounds-stage_end-end-in-loop-i : goal.slice_bounds-stage_end-end-in-loop-i
 slice_bounds-stage_end-end-in-loop-i c = omega (arith, (part_there c.requires c.loop-i.invariant c.loop-i-test.true _ c.stage_size-size.ensures _ c.wide-count.ensures).1)
 
-pub stage_end-end-requires : goal.stage_end-end-requires
-stage_end-end-requires c = stage_asks c.requires c.loop-i.invariant c.loop-i-test.true _ c.stage_size-size.ensures _ c.wide-count.ensures
+pub stage_end-requires : goal.stage_end-requires
+stage_end-requires c = stage_asks c.requires c.loop-i.invariant c.loop-i-test.true _ c.stage_size-size.ensures _ c.wide-count.ensures
 
-pub returns-then-end-eq0 : goal.returns-then-end-eq0
-returns-then-end-eq0 c = fits_lost c.requires c.loop-i.invariant c.loop-i-test.true _ c.stage_size-size.ensures _ c.wide-count.ensures c.stage_end-end.ensures c.if-end-eq0.true
+pub returns-in_err-at : goal.returns-in_err-at
+returns-in_err-at c = rw c.from_residual.ensures (fits_lost c.requires c.loop-i.invariant c.loop-i-test.true _ c.stage_size-size.ensures _ c.wide-count.ensures c.in_err-at.ensures)
 
 pub overflow_add-from-in-loop-i : goal.overflow_add-from-in-loop-i
 overflow_add-from-in-loop-i c = omega (arith, (part_there c.requires c.loop-i.invariant c.loop-i-test.true _ c.stage_size-size.ensures _ c.wide-count.ensures).1)
 
 pub loop-i-preserved : goal.loop-i-preserved
-loop-i-preserved c = fits_more c.requires c.loop-i.invariant c.loop-i-test.true _ c.stage_size-size.ensures _ c.wide-count.ensures c.stage_end-end.ensures c.if-end-eq0.false
+loop-i-preserved c = fits_more c.requires c.loop-i.invariant c.loop-i-test.true _ c.stage_size-size.ensures _ c.wide-count.ensures _ c.in_ok-at.ensures
 
 pub returns : goal.returns
 returns c = fits_done c.requires c.loop-i.invariant c.loop-i-test.false

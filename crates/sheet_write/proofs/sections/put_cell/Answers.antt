@@ -16,9 +16,6 @@ put-q-requires c = record { near = omega (arith, c.requires, c.put-p.ensures.beh
 pub put-requires-2 : goal.put-requires-2
 put-requires-2 c = record { near = omega (arith, c.requires, c.put-p.ensures.behind, width 1 1, c.put-q.ensures.behind, width 16 c.pin.result.0); short = omega arith }
 
-pub shape_of-bytes : goal.shape_of-bytes
-shape_of-bytes c = c.put-2.ensures.len ∙ c.put-q.ensures.len ∙ c.put-p.ensures.len
-
 pub returns : goal.returns
 unfolding does
 returns c = cell_full _ (not-false _ (sym c.is_empty.ensures ∙ c.if-is_empty.false)) c.put-p.ensures c.pin.ensures c.put-q.ensures c.does.ensures c.put-2.ensures

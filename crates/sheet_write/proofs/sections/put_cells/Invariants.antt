@@ -1,11 +1,6 @@
 -- `sheet_write::sections::put_cells` meets its contract. Assumes nothing.
-use Prim.Native.Nat.{◌-◌}
-use lib.ListN.{length}
 use Rattle.sheet_write.proofs.Laws.Sections.{Cells}
 use Rattle.sheet_write.proofs.sections.put_cells.Given as goal
 
 abbrev pub invariant-loop-i : goal.invariant-loop-i
 invariant-loop-i l = Cells l.cells l.i l.from l.at l.initial.bytes l.bytes
-
-abbrev pub decreases-loop-i : goal.decreases-loop-i
-decreases-loop-i l = length l.cells - l.i

@@ -1,4 +1,3 @@
-use Prim.Native.Nat.{◌-◌}
 use native.Mathlib.Omega.{arith}
 use Rattle.sheet_write.proofs.Laws.Fits.{count_there}
 use Rattle.sheet_write.proofs.Laws.Sections.{stages_none, stages_done, stands, part_there, stage_asks, stages_more}
@@ -39,9 +38,6 @@ overflow_add-from-in-loop-i c = omega (arith, (part_there c.requires c.loop-i.in
 
 pub loop-i-preserved : goal.loop-i-preserved
 loop-i-preserved c = stages_more c.requires c.loop-i.invariant c.loop-i-test.true _ c.stage_size-size.ensures _ c.wide-count.ensures c.put_stage-at.ensures
-
-pub shape_of-bytes : goal.shape_of-bytes
-shape_of-bytes c = c.loop-i.invariant.left.len
 
 pub returns : goal.returns
 returns c = stages_done c.requires c.loop-i.invariant c.loop-i-test.false

@@ -1,11 +1,7 @@
 -- `sheet_write::sections::put_stages` meets its contract. Assumes nothing.
-use Prim.Native.Nat.{◌-◌}
 use Rattle.sheet_form.specs.Calls.{areas}
 use Rattle.sheet_write.proofs.Laws.Sections.{Stages}
 use Rattle.sheet_write.proofs.sections.put_stages.Given as goal
 
 abbrev pub invariant-loop-i : goal.invariant-loop-i
 invariant-loop-i l = Stages l.height l.stages (areas l.plan l.words l.counts) l.i l.from l.at l.initial.bytes l.bytes
-
-abbrev pub decreases-loop-i : goal.decreases-loop-i
-decreases-loop-i l = l.stages - l.i

@@ -1,13 +1,6 @@
 -- `stage::finish::finish_last` meets its contract: rule 10, then rule 11 over what it realised. Assumes nothing.
-use native.Mathlib.Omega.{arith}
 use Rattle.stage.proofs.Laws.Ended.{close_at, ended}
 use Rattle.stage.proofs.finish.finish_last.Goals as goal
-
-pub write_last-kept-requires : goal.write_last-kept-requires
-write_last-kept-requires c = record { it = _; at = c.requires.at }
-
-pub tail_get-cells-requires : goal.tail_get-cells-requires
-tail_get-cells-requires c = omega (arith, (close_at c.requires.at (c.write_last-kept.ensures.all _ c.requires.at)).area.room)
 
 pub close_stage-left-requires : goal.close_stage-left-requires
 close_stage-left-requires c = close_at c.requires.at (c.write_last-kept.ensures.all _ c.requires.at)

@@ -8,5 +8,5 @@ last_words-requires c = last_at c.requires.at
 pub returns-then-s : goal.returns-then-s
 returns-then-s c = record { all = λ x A. lasting_last A c.if-s.true c.last_words.ensures }
 
-pub returns : goal.returns
-returns c = record { all = λ x A. lasting_not A c.if-s.false }
+pub returns-else-s : goal.returns-else-s
+returns-else-s c = record { all = λ x A. lasting_not A c.if-s.false }

@@ -1,5 +1,5 @@
 -- `stage_ending::close::retire_all` meets its contract: along the order. Assumes nothing.
-use Prim.Native.Nat.{◌-◌, ◌≤◌}
+use Prim.Native.Nat.{◌≤◌}
 use Rattle.columns.specs.Fields as fields
 use Rattle.columns.specs.Lists.{list}
 use lib.ListN.{take}
@@ -8,6 +8,3 @@ use Rattle.stage_ending.proofs.close.retire_all.Given as goal
 
 abbrev pub invariant-loop-i : goal.invariant-loop-i
 invariant-loop-i l = Swept l.m (take l.i (list fields.ORDER l.m l.k l.initial.work)) l.initial.work l.work × (l.i ≤ l.k)
-
-abbrev pub decreases-loop-i : goal.decreases-loop-i
-decreases-loop-i l = l.k - l.i

@@ -3,9 +3,6 @@ use native.Mathlib.Omega.{arith}
 use Rattle.stage_ending.proofs.Laws.Filled.{half_few, filled_full, filled_search, filled_test}
 use Rattle.stage_ending.proofs.rest.fill_rest.Goals as goal
 
-pub put_rest-requires : goal.put_rest-requires
-put_rest-requires c = record { it = _; at = c.requires.at }
-
 pub overflow_mul-half : goal.overflow_mul-half
 overflow_mul-half c = omega (arith, half_few c.requires.at)
 
@@ -18,5 +15,5 @@ overflow_mul-result c = omega (arith, half_few c.requires.at)
 pub returns-then-put_rest : goal.returns-then-put_rest
 returns-then-put_rest c = record { all = λ C A. filled_test A (c.put_rest.ensures.all C A) c.if-put_rest.true c.first_empty.ensures }
 
-pub returns : goal.returns
-returns c = record { all = λ C A. filled_full A (c.put_rest.ensures.all C A) c.if-put_rest.false }
+pub returns-else-put_rest : goal.returns-else-put_rest
+returns-else-put_rest c = record { all = λ C A. rw c.if-put_rest.false (filled_full A (c.put_rest.ensures.all C A) c.if-put_rest.false) }

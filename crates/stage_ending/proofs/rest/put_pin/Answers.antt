@@ -1,16 +1,10 @@
 -- `stage_ending::rest::put_pin` meets its contract: a pin that is realised or in the tree needs no cell. Assumes nothing.
 use native.Mathlib.Omega.{arith}
-use Rattle.stage_ending.proofs.Laws.Rest.{pin_below, half_few, skip_real, skip_tree, pin_search, pin_full, pin_place, pin_placed}
+use Rattle.stage_ending.proofs.Laws.Rest.{half_few, skip_real, skip_tree, pin_search, pin_full, pin_place, pin_placed}
 use Rattle.stage_ending.proofs.rest.put_pin.Goals as goal
-
-pub is_in-requires : goal.is_in-requires
-is_in-requires c = omega (arith, pin_below c.requires.at, c.requires.at.stands.base.area.room)
 
 pub returns-then-is_in : goal.returns-then-is_in
 returns-then-is_in c = record { all = λ C A. skip_real A c.is_in.ensures c.if-is_in.true }
-
-pub is_in-requires-2 : goal.is_in-requires-2
-is_in-requires-2 c = omega (arith, pin_below c.requires.at, c.requires.at.stands.base.area.room)
 
 pub returns-then-is_in-2 : goal.returns-then-is_in-2
 returns-then-is_in-2 c = record { all = λ C A. skip_tree A c.is_in.ensures c.is_in-2.ensures c.if-is_in-2.true }
@@ -24,9 +18,6 @@ first_empty-c-requires c = pin_search c.requires.at c.is_in.ensures c.is_in-2.en
 pub overflow_mul-half-2 : goal.overflow_mul-half-2
 overflow_mul-half-2 c = omega (arith, half_few c.requires.at)
 
-pub overflow_add-result : goal.overflow_add-result
-overflow_add-result c = omega (arith, half_few c.requires.at, c.first_empty-c.ensures.to)
-
 pub returns-then-half-c : goal.returns-then-half-c
 returns-then-half-c c = record { all = λ C A. pin_full A c.is_in.ensures c.is_in-2.ensures c.if-is_in.false c.if-is_in-2.false c.first_empty-c.ensures c.if-half-c.true }
 
@@ -37,4 +28,7 @@ pub overflow_add-result-2 : goal.overflow_add-result-2
 overflow_add-result-2 c = omega (arith, half_few c.requires.at, c.first_empty-c.ensures.to)
 
 pub returns : goal.returns
-returns c = record { all = λ C A. pin_placed A c.is_in.ensures c.is_in-2.ensures c.if-is_in.false c.if-is_in-2.false c.first_empty-c.ensures c.if-half-c.false (c.place_pin.ensures.all C (pin_place A c.is_in.ensures c.is_in-2.ensures c.if-is_in.false c.if-is_in-2.false c.first_empty-c.ensures c.if-half-c.false)) }
+returns c = record {
+  all = λ C A. pin_placed A c.is_in.ensures c.is_in-2.ensures c.if-is_in.false c.if-is_in-2.false c.first_empty-c.ensures c.if-half-c.false
+      (c.place_pin.ensures.all C (pin_place A c.is_in.ensures c.is_in-2.ensures c.if-is_in.false c.if-is_in-2.false c.first_empty-c.ensures c.if-half-c.false));
+}

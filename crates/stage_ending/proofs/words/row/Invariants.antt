@@ -1,5 +1,4 @@
 -- `stage_ending::words::row` meets its contract: cell after cell. Assumes nothing.
-use Prim.Native.Nat.{◌-◌}
 use Rattle.rules.specs.Inside.Some.{Every}
 use Rattle.stage_ending.specs.Words.{RowAt}
 use Rattle.stage_ending.proofs.Laws.Words.{Going}
@@ -7,6 +6,3 @@ use Rattle.stage_ending.proofs.words.row.Given as goal
 
 abbrev pub invariant-loop-c : goal.invariant-loop-c
 invariant-loop-c l = Every (λ ws. RowAt l.m l.n l.a l.e ws l.stage l.initial.work) (λ ws. Going l.m l.a l.e l.c ws l.stage l.initial.work l.work l.k)
-
-abbrev pub decreases-loop-c : goal.decreases-loop-c
-decreases-loop-c l = l.e - l.c

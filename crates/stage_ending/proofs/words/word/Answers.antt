@@ -4,23 +4,11 @@ use native.Mathlib.Omega.{arith}
 use Rattle.stage_ending.proofs.Laws.Words.{few, word_old, word_new}
 use Rattle.stage_ending.proofs.words.word.Goals as goal
 
-pub tail_get-requires : goal.tail_get-requires
-tail_get-requires c = let A = c.requires.at in omega (arith, A.spots.area.room, A.word)
-
 pub returns-then-tail_get-ne0 : goal.returns-then-tail_get-ne0
 returns-then-tail_get-ne0 c = record { all = λ ws A. word_old A (λ e. c.if-tail_get-ne0.true (c.tail_get.ensures ∙ e)) }
 
-pub overflow_add-n : goal.overflow_add-n
-overflow_add-n c = omega (arith, few c.requires.at)
-
 pub overflow_cast-n : goal.overflow_cast-n
 overflow_cast-n c = omega (arith, few c.requires.at)
-
-pub tail_set-requires : goal.tail_set-requires
-tail_set-requires c = let A = c.requires.at in omega (arith, A.spots.area.room, A.word)
-
-pub overflow_add-result : goal.overflow_add-result
-overflow_add-result c = omega (arith, few c.requires.at)
 
 pub returns : goal.returns
 returns c = record { all = λ ws A. word_new A (sym c.tail_get.ensures ∙ c.if-tail_get-ne0.false) _ c.tail_set.ensures }

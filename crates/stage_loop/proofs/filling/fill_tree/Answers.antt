@@ -15,4 +15,8 @@ pub counted-requires : goal.counted-requires
 counted-requires c = let A = c.requires in record { it = record { C = A.it; pl = _ }; at = fill_count A.at (c.grow-s.ensures.all A.it (fill_grow A.at c.start_level-h.ensures c.if-h-lt2.false)) }
 
 pub returns : goal.returns
-returns c = record { all = λ C A. let G = c.grow-s.ensures.all C (fill_grow A c.start_level-h.ensures c.if-h-lt2.false) in filled_tree A G (c.counted.ensures.all (record { C = C; pl = _ }) (fill_count A G)) }
+returns c = record {
+  all = λ C A.
+      let G = c.grow-s.ensures.all C (fill_grow A c.start_level-h.ensures c.if-h-lt2.false) in
+      filled_tree A G (c.counted.ensures.all (record { C = C; pl = _ }) (fill_count A G));
+}

@@ -1,7 +1,7 @@
 -- `stage_runs::puts::put_cell` meets its contract: the cell decides whether a pin is put, met or neither. Assumes nothing.
 use mathlib.Core.Path.{refl}
 use native.Mathlib.Omega.{arith}
-use Rattle.stage_runs.proofs.Laws.Puts.{put_idle, cell_inside, next_at, fill_at, fill_enlist, put_filled, met_pin, met_enlist, put_met_waits, put_met_not}
+use Rattle.stage_runs.proofs.Laws.Puts.{put_idle, cell_inside, fill_at, fill_enlist, put_filled, met_pin, met_enlist, put_met_waits, put_met_not}
 use Rattle.stage_runs.proofs.puts.put_cell.Goals as goal
 
 pub returns-then-next-k : goal.returns-then-next-k
@@ -13,9 +13,6 @@ offset_bounds-stage-c c = omega (arith, cell_inside c.requires.at)
 pub bounds-stage-c : goal.bounds-stage-c
 bounds-stage-c c = cell_inside c.requires.at
 
-pub pin_at-q-requires : goal.pin_at-q-requires
-pin_at-q-requires c = next_at c.requires.at c.if-next-k.false refl
-
 pub place_pin-requires : goal.place_pin-requires
 place_pin-requires c = record { it = _; at = fill_at c.requires.at c.if-next-k.false c.pin_at-q.ensures c.if-p.true }
 
@@ -23,7 +20,10 @@ pub enlist-more-requires : goal.enlist-more-requires
 enlist-more-requires c = fill_enlist c.requires.at c.if-next-k.false c.pin_at-q.ensures c.if-p.true (c.place_pin.ensures.all _ (fill_at c.requires.at c.if-next-k.false c.pin_at-q.ensures c.if-p.true))
 
 pub returns-then-p : goal.returns-then-p
-returns-then-p c = record { all = λ C A. put_filled A c.if-next-k.false c.pin_at-q.ensures c.if-p.true (c.place_pin.ensures.all _ (fill_at A c.if-next-k.false c.pin_at-q.ensures c.if-p.true)) c.enlist-more.ensures }
+returns-then-p c = record {
+  all = λ C A. put_filled A c.if-next-k.false c.pin_at-q.ensures c.if-p.true
+      (c.place_pin.ensures.all _ (fill_at A c.if-next-k.false c.pin_at-q.ensures c.if-p.true)) c.enlist-more.ensures;
+}
 
 pub is_in-requires : goal.is_in-requires
 is_in-requires c = omega (arith, met_pin c.requires.at c.if-next-k.false refl c.if-p.false refl, c.requires.at.now.stands.base.area.room)

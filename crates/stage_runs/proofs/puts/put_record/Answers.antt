@@ -9,14 +9,8 @@ overflow_add-half c = omega (arith, record_end c.requires.at)
 pub overflow_cast-half : goal.overflow_cast-half
 overflow_cast-half c = omega (arith, record_end c.requires.at)
 
-pub note-requires : goal.note-requires
-note-requires c = record { fits = c.requires.at.fits }
-
 pub overflow_add-half-2 : goal.overflow_add-half-2
 overflow_add-half-2 c = omega (arith, record_end c.requires.at)
 
 pub put_run-requires : goal.put_run-requires
 put_run-requires c = record { it = _; at = record_run c.requires.at }
-
-pub returns : goal.returns
-returns c = record { all = λ C A. record { put = c.put_run.ensures.all C (record_run A); note = c.note.ensures } }

@@ -1,5 +1,4 @@
-use Rattle.stage_runs.proofs.Laws.Puts.{put_none_yet, run_cell, run_more, run_end, run_done}
-use Prim.Native.Nat.{◌-◌}
+use Rattle.stage_runs.proofs.Laws.Puts.{put_none_yet, run_cell, run_more, run_end}
 use native.Mathlib.Omega.{arith}
 use Rattle.stage_runs.proofs.puts.put_run.Goals as goal
 
@@ -13,13 +12,7 @@ pub put_cell-t-requires : goal.put_cell-t-requires
 put_cell-t-requires c = record { it = _; at = run_cell c.requires.at (c.loop-i.invariant.1.all _ c.requires.at) c.loop-i-test.true }
 
 pub loop-i-preserved : goal.loop-i-preserved
-loop-i-preserved c = (omega arith, record { all = λ C A. run_more A (c.loop-i.invariant.1.all C A) c.loop-i-test.true (c.put_cell-t.ensures.all C (run_cell A (c.loop-i.invariant.1.all C A) c.loop-i-test.true)) })
-
-pub shape_of-stage : goal.shape_of-stage
-shape_of-stage c = (c.loop-i.invariant.1.all _ c.requires.at).size
-
-pub shape_of-work : goal.shape_of-work
-shape_of-work c = (c.loop-i.invariant.1.all _ c.requires.at).moved.frame.len
-
-pub returns : goal.returns
-returns c = record { all = λ C A. run_done A (c.loop-i.invariant.1.all C A) c.loop-i.invariant.0 c.loop-i-test.false }
+loop-i-preserved c = (
+  omega arith,
+  record { all = λ C A. run_more A (c.loop-i.invariant.1.all C A) c.loop-i-test.true (c.put_cell-t.ensures.all C (run_cell A (c.loop-i.invariant.1.all C A) c.loop-i-test.true)) },
+)

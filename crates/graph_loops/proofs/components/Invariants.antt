@@ -1,8 +1,0 @@
--- `graph_loops::components` meets its contract. Assumes nothing.
-use Rattle.graph_loops.proofs.components.Given as goal
-
-abbrev pub invariant-loop-left : goal.invariant-loop-left
-invariant-loop-left l = Unit {0}
-
-abbrev pub decreases-loop-left : goal.decreases-loop-left
-decreases-loop-left l = l.left

@@ -1,9 +1,0 @@
--- `try_cases::tell` is safe. Assumes nothing.
-use Rattle.std.proofs.Common.{◌-◌, length}
-use Rattle.try_cases.proofs.tell.Given as goal
-
-abbrev pub invariant-loop-i : goal.invariant-loop-i
-invariant-loop-i g l = Unit {0}
-
-abbrev pub decreases-loop-i : goal.decreases-loop-i
-decreases-loop-i g l = length l.text - l.i

@@ -1,8 +1,0 @@
--- `try_replay::files::print` is safe. Assumes nothing.
-use Rattle.try_replay.proofs.files.print.Given as goal
-
-abbrev pub invariant-loop-left : goal.invariant-loop-left
-invariant-loop-left g l = Unit {0}
-
-abbrev pub decreases-loop-left : goal.decreases-loop-left
-decreases-loop-left g l = l.left

@@ -1,8 +1,0 @@
--- `try_replay::machines::free_leaf` is safe. Assumes nothing.
-use Rattle.try_replay.proofs.machines.free_leaf.Given as goal
-
-abbrev pub invariant-loop-left : goal.invariant-loop-left
-invariant-loop-left l = Unit {0}
-
-abbrev pub decreases-loop-left : goal.decreases-loop-left
-decreases-loop-left l = l.left

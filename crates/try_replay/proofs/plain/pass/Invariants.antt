@@ -1,9 +1,0 @@
--- `try_replay::plain::pass` is safe. Assumes nothing.
-use Rattle.std.proofs.Common.{◌≡◌, ◌-◌, length}
-use Rattle.try_replay.proofs.plain.pass.Given as goal
-
-abbrev pub invariant-loop-p : goal.invariant-loop-p
-invariant-loop-p l = length l.values ≡ length l.initial.values
-
-abbrev pub decreases-loop-p : goal.decreases-loop-p
-decreases-loop-p l = length l.gates - l.p
