@@ -74,6 +74,7 @@ pub fn fill_ends(bytes: &[u8], start: usize, h: Head, records: &mut [u32], latch
     let mut i = 0;
     let mut r = 0;
     let mut l = 0;
+    // A walk by the length of the line that it reads.
     while in_ends(i, h) {
         match line_at(bytes, at, i, h) {
             Step::Last => return,

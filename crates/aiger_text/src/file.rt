@@ -44,6 +44,7 @@ fn reset_line(bytes: &[u8], start: usize, h: Head) -> Option<usize>
 {
     let mut at = start;
     let mut i = 0;
+    // A walk by the length of the line that it reads.
     while in_front(i, h) {
         match line_at(bytes, at, i, h) {
             Step::Last => return None,

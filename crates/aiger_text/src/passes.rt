@@ -113,6 +113,7 @@ fn mark_lines(
     let mut at = start;
     let mut i = 0;
     let mut first = bytes.len();
+    // A walk by the length of the line that it reads.
     loop {
         match line_at(bytes, at, i, h) {
             Step::Last => {
@@ -170,6 +171,7 @@ fn use_lines(bytes: &[u8], start: usize, h: Head, lo: usize, map: &[u8]) -> usiz
 {
     let mut at = start;
     let mut i = 0;
+    // A walk by the length of the line that it reads.
     loop {
         match line_at(bytes, at, i, h) {
             Step::Last => {

@@ -308,6 +308,7 @@ fn spread(gates: &[u32], seen: &mut [u8], list: &mut Numbers, pin: Pin) -> bool
     let n = queue(gates, seen, list, 0, pin);
     reach(gates, seen, pin);
     reach_along(gates, seen, list, n);
+    // It counts no index: it ends where nothing more is reached.
     while reach_more(gates, seen) {}
     seen[pin.index()] != 0
 }

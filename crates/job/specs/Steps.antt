@@ -1,6 +1,7 @@
 -- A step of the walk through a job file: where it ends, and the area with what was read. Assumes nothing.
-use Rattle.std.specs.Prelude.{◌≡◌, List, [], ◌∷◌, ℕ, ◌+◌, ◌*◌, ◌<◌, ◌≤◌, length, drop}
+use Rattle.std.specs.Prelude.{◌≡◌, Option, Some, None, List, [], ◌∷◌, ℕ, ◌+◌, ◌*◌, ◌<◌, ◌≤◌, length, drop}
 use Rattle.std.proofs.lemmas.List.Edits.{sets}
+use Rattle.job.specs.declared.steps.Step.{Step}
 use Rattle.rules.specs.Job.{Read, cut, got, next, field}
 use Rattle.bits.specs.Fields.{bits_in}
 
@@ -24,11 +25,6 @@ pub record FieldsAt (at w s : ℕ) (xs : List ℕ) : Type 0 where
   pub room : s ≤ 2 * at + 2
   pub some : 1 ≤ w
   pub short : w ≤ 17
-
--- or past the end, where something was cut before
-pub record SectionAt (at s : ℕ) (xs : List ℕ) : Type 0 where
-  pub small : length xs ≤ 8192
-  pub room : s ≤ 2 * at + 2
 
 -- what was read stands in the area from s on, as far as the area reaches; a bit holds two numbers at most
 pub record All (one : List ℕ → Read (List ℕ)) (xs : List ℕ) (at s : ℕ) (a a' : List ℕ) (at' s' : ℕ) : Type 0 where
@@ -54,3 +50,8 @@ pub record CountIs (xs : List ℕ) (at at' n : ℕ) : Type 0 where
 pub record Counted (xs : List ℕ) (at at' n : ℕ) : Type 0 where
   pub lost : 8 * length xs < at' → at ≤ 8 * length xs → field 16 (drop at (bits_in xs)) ≡ cut
   pub read : at' ≤ 8 * length xs → CountIs xs at at' n
+
+-- a step by what it reads up to a bit, and how many numbers are stored then; past the end the file is cut
+abbrev pub TookAs : (ℕ → ℕ → Type 0) → List ℕ → Option Step → Type 0
+TookAs P xs None = P (8 * length xs + 1) 0
+TookAs P xs (Some r) = P r.at r.count × (r.at ≤ 8 * length xs)

@@ -1,6 +1,7 @@
 -- The walk through a whole job file, and whether what it met is a job. Assumes nothing.
-use Rattle.std.specs.Prelude.{◌≡◌, Bool, ◌&&◌, List, ℕ, ◌*◌, ◌/◌, ◌<◌, ◌≤◌, leb, length, drop}
+use Rattle.std.specs.Prelude.{◌≡◌, Option, Some, None, Bool, ◌&&◌, ◌+◌, List, ℕ, ◌*◌, ◌/◌, ◌<◌, ◌≤◌, leb, length, drop}
 use Rattle.std.proofs.lemmas.List.Edits.{sets}
+use Rattle.job.specs.declared.walk.Extent.{Extent}
 use Rattle.rules.specs.Job.{Job, cut, got, is_padding, read_fields}
 use Rattle.bits.specs.Fields.{bits_in}
 
@@ -35,6 +36,11 @@ pub record Walked (xs g v c g' v' c' : List ℕ) (at K ng nv nc : ℕ) : Type 0 
   pub records : length c' ≡ length c
   pub measured : Measured xs at K ng nv nc
   pub stored : (h : at ≤ 8 * length xs) → Stored (measured.read h).J g v c g' v' c'
+
+-- a walk by what it meets up to a bit; past the end the file is cut
+abbrev pub WalkedAs : (ℕ → ℕ → ℕ → ℕ → ℕ → Type 0) → List ℕ → Option Extent → Type 0
+WalkedAs P xs None = P (8 * length xs + 1) 0 0 0 0
+WalkedAs P xs (Some e) = P e.at e.height e.gates e.given e.records × (e.at ≤ 8 * length xs)
 
 -- the program's sizes, by the counts
 abbrev pub sized : ℕ → ℕ → ℕ → Bool

@@ -47,7 +47,9 @@ pub fn read(
     if 8192 < bytes.len() {
         return Err(Refusal::NoJob);
     }
-    let m = measure(bytes, gates, given, records);
+    let Some(m) = measure(bytes, gates, given, records) else {
+        return Err(Refusal::NoJob);
+    };
     if !is_job(bytes, m) {
         return Err(Refusal::NoJob);
     }
@@ -61,7 +63,9 @@ pub fn read(
     ) {
         return Err(Refusal::WrongSize);
     }
-    let w = walk(bytes, gates, given, records);
+    let Some(w) = walk(bytes, gates, given, records) else {
+        return Err(Refusal::NoJob);
+    };
     Ok(Job {
         height: w.height,
         gates: w.gates,

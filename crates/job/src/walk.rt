@@ -1,15 +1,15 @@
 // The whole file.
-ghost use Rattle.std.specs.Prelude.{◌≡◌, ◌/◌, ◌≤◌, length, drop};
+ghost use Rattle.std.specs.Prelude.{◌≡◌, ◌≤◌, length, drop};
 ghost use Rattle.rules.specs.Job.{is_padding};
 ghost use Rattle.bits.specs.Fields.{bits_in};
 ghost use Rattle.job.specs.Steps.{At};
-ghost use Rattle.job.specs.Walk.{Walked, MeasuredIn, sized, accepts};
+ghost use Rattle.job.specs.Walk.{Walked, WalkedAs, MeasuredIn, sized, accepts};
 
 use crate::steps::{count_given, count_pins, count_records, store};
 use bits::field;
 use graph::EMPTY;
 
-// The bit behind the fields, past the end where they are cut; the height; how many numbers each list has.
+// The bit behind the fields, the height, and how many numbers each list has.
 #[derive(Clone, Copy)]
 pub struct Extent {
     pub at: usize,
@@ -19,39 +19,42 @@ pub struct Extent {
     pub records: usize,
 }
 
-pub fn walk(bytes: &[u8], gates: &mut [u32], given: &mut [u32], records: &mut [u32]) -> Extent
+pub fn walk(
+    bytes: &[u8],
+    gates: &mut [u32],
+    given: &mut [u32],
+    records: &mut [u32],
+) -> Option<Extent>
     requires { length bytes.now ≤ 8192 }
-    ensures { Walked bytes.now gates.old given.old records.old gates.new given.new records.new result.at result.height result.gates result.given result.records }
+    ensures { WalkedAs (Walked bytes.now gates.old given.old records.old gates.new given.new records.new) bytes.now result }
 {
-    let end = 8 * bytes.len();
-    if end < 4 {
-        return Extent {
-            at: end + 1,
-            height: 0,
-            gates: 0,
-            given: 0,
-            records: 0,
-        };
+    if 8 * bytes.len() < 4 {
+        return None;
     }
     let height = field(bytes, 0, 4);
     store(gates, 0, EMPTY);
     store(gates, 1, EMPTY);
-    let a = count_pins(bytes, 4, gates, 2);
-    let b = count_given(bytes, a.at, given, 0);
-    let c = count_records(bytes, b.at, records, 0);
-    Extent {
+    let a = count_pins(bytes, 4, gates, 2)?;
+    let b = count_given(bytes, a.at, given, 0)?;
+    let c = count_records(bytes, b.at, records, 0)?;
+    Some(Extent {
         at: c.at,
         height,
         gates: a.count,
         given: b.count,
         records: c.count,
-    }
+    })
 }
 
 // The walk in empty areas.
-pub fn measure(bytes: &[u8], gates: &mut [u32], given: &mut [u32], records: &mut [u32]) -> Extent
+pub fn measure(
+    bytes: &[u8],
+    gates: &mut [u32],
+    given: &mut [u32],
+    records: &mut [u32],
+) -> Option<Extent>
     requires { length bytes.now ≤ 8192 }
-    ensures { MeasuredIn bytes.now gates.old given.old records.old gates.new given.new records.new result.at result.height result.gates result.given result.records }
+    ensures { WalkedAs (MeasuredIn bytes.now gates.old given.old records.old gates.new given.new records.new) bytes.now result }
 {
     walk(
         bytes,
@@ -78,11 +81,8 @@ fn is_sized(height: u32, gates: usize, records: usize) -> bool
 
 // Is a measured file a job for the program?
 pub fn is_job(bytes: &[u8], met: Extent) -> bool
-    requires { length bytes.now ≤ 8192 }
+    requires { At met.at 0 bytes.now }
     ensures { result ≡ accepts bytes.now met.at met.height met.gates met.records }
 {
-    if 8 * bytes.len() < met.at {
-        return false;
-    }
     is_padding(bytes, met.at) && is_sized(met.height, met.gates, met.records)
 }

@@ -59,6 +59,7 @@ pub fn stages(
     let mut k = 0;
     let mut left = n;
     let mut cells = 0;
+    // It counts no index: it ends where no pin waits.
     while left > 0 {
         if k == rooms {
             return Err(Refused {

@@ -65,6 +65,7 @@ fn has_code(work: &[u32], m: usize, head: usize, code: usize) -> bool
     ensures { Every (λ cs. ChainAt m head cs work.now) (λ cs. Knows code cs result) }
 {
     let mut h = head;
+    // A chain: each place names the next.
     while h != 0 {
         let i = h - 1;
         if tail_get(work, m, RECORDS + 2 * i) == code {

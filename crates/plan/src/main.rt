@@ -44,6 +44,7 @@ fn read_full<R: Read>(from: &mut R, buf: &mut [u8]) -> usize
     ensures { result ≤ length buf.new }
 {
     let mut done = 0;
+    // A read may give fewer bytes than it is asked for.
     while done < buf.len() {
         let n = from.read(&mut buf[done..]).unwrap_or(0);
         if n == 0 {

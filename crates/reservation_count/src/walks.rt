@@ -23,6 +23,7 @@ fn walk(records: &[u32], links: &[u32], stamps: &mut [u32], head: usize, r: usiz
 {
     let mut n = 0;
     let mut h = head;
+    // A chain: each place names the next.
     while h != 0 {
         let at = h - 1;
         let code = code_at(records, at);

@@ -104,6 +104,7 @@ fn run(gates: &[u32], work: &mut [u32], m: usize, items: usize, n: usize) -> usi
         depth: items,
         listed: n,
     };
+    // It counts no index: the stack grows and shrinks.
     while at.depth > 0 {
         at = step(gates, work, m, at.depth - 1, at.listed);
     }

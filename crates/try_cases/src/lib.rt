@@ -13,6 +13,7 @@ pub fn read_full<R: Read>(from: &mut R, buf: &mut [u8]) -> io::Result<usize>
     ensures { IfOk result (λ n. n ≤ length buf.new) }
 {
     let mut done = 0;
+    // A read may give fewer bytes than it is asked for.
     while done < buf.len() {
         let n = from.read(&mut buf[done..])?;
         if n == 0 {

@@ -44,6 +44,11 @@ module _ {xs : List ℕ} {at K ng nv nc : ℕ} (small : length xs ≤ 8192) (M :
       (λ t. met (leb-true at (8 * length xs) t) (rw t at e))
       (λ t. rw (M.lost (leb-false at (8 * length xs) t)))
 
+  -- what is cut is no job
+  pub cut_job : 8 * length xs < at → read_job xs ≡ no_job
+  unfolding accept
+  cut_job h = opened ∙ rw (M.lost h)
+
   -- the bytes are the job that was measured
   pub record Is : Type 0 where
     pub inside : at ≤ 8 * length xs
@@ -112,6 +117,10 @@ module _ {xs g v c g₁ v₁ c₁ : List ℕ} {at K ng nv nc : ℕ} (W : Walked 
       let s = W.stored h in
       let f = fits m.J g v c r in
       rw (← laid_over_lem m.J.gates g f.gates, ← laid_over_lem m.J.given v f.given, ← laid_over_lem m.J.records c f.records, ← s.gates, ← s.given, ← s.records, ← m.height, ← m.gates, ← m.given, ← m.records)
+
+  -- a file that is a job is not cut
+  pub never_cut : {at₀ K₀ ng₀ nv₀ nc₀ : ℕ} (M : Measured xs at₀ K₀ ng₀ nv₀ nc₀) → at₀ ≤ 8 * length xs → 8 * length xs < at → ⊥
+  never_cut M h k = no_cut (sym (W.measured.lost k) ∙ (M.read h).is)
 
   -- the second walk leaves the job's lists over the front of the areas
   pub reads : {at₀ K₀ ng₀ nv₀ nc₀ : ℕ} (small : length xs ≤ 8192) (M : Measured xs at₀ K₀ ng₀ nv₀ nc₀) → accepts xs at₀ K₀ ng₀ nc₀ ≡ true →

@@ -8,7 +8,9 @@ use lib.Seq.{sets}
 use Rattle.rules.specs.Job.{Read, cut, got, next, field, fields, read_pin, read_pins, read_record, read_records}
 use Rattle.bits.specs.Fields.{bits_in}
 use Rattle.rules.proofs.Lists.Parts.{sets_append}
-use Rattle.job.specs.Steps.{one_field, counted, At, FieldsAt, Took, Counted}
+use Rattle.std.specs.Prelude.{Option, Some, None}
+use Rattle.job.specs.declared.steps.Step.{Step}
+use Rattle.job.specs.Steps.{one_field, counted, Took, TookAs, Counted}
 
 -- what reads some numbers from bits, or finds them cut
 abbrev pub Reader : Type 0
@@ -153,14 +155,6 @@ module _ {one : Reader} {xs : List ℕ} {n i from s : ℕ} {a a₁ : List ℕ} {
         };
       }
 
--- the next of them may be read
-pub going_at : {one : Reader} {xs : List ℕ} {n i from s : ℕ} {a a₁ : List ℕ} {at count : ℕ} → Going one xs n i from s a a₁ at count → length xs ≤ 8192 → s ≤ 2 * from + 2 → At at count xs
-going_at G k r = record { small = k; inside = G.inside; room = omega (arith, G.few) }
-
--- the next field may be read
-pub going_fields : {one : Reader} {xs : List ℕ} {n i w from s : ℕ} {a a₁ : List ℕ} {at count : ℕ} → Going one xs n i from s a a₁ at count → FieldsAt from w s xs → FieldsAt at w count xs
-going_fields G F = record { small = F.small; inside = G.inside; room = omega (arith, G.few, F.room); some = F.some; short = F.short }
-
 -- ---- a step that met a cut
 
 -- a cut is told by a place past the end
@@ -169,22 +163,14 @@ took_lost {one} {xs} l e = record { len = l; lost = λ _ _. e; read = λ h. absu
 
 -- ---- a count and so many
 
--- behind a count that is there the walk goes on
-pub counted_at : {xs : List ℕ} {at at₁ n s : ℕ} → Counted xs at at₁ n → at₁ ≤ 8 * length xs → length xs ≤ 8192 → s ≤ 2 * at + 2 → At at₁ s xs
-counted_at C h k r = record { small = k; inside = h; room = omega (arith, (C.read h).behind) }
-
--- behind a count that is there fields of 16 bits may be read
-pub counted_fields : {xs : List ℕ} {at at₁ n s : ℕ} → Counted xs at at₁ n → at₁ ≤ 8 * length xs → length xs ≤ 8192 → s ≤ 2 * at + 2 → FieldsAt at₁ 16 s xs
-counted_fields C h k r = record { small = k; inside = h; room = omega (arith, (C.read h).behind); some = omega arith; short = omega arith }
-
 module _ (f : ℕ → Reader) {xs : List ℕ} {at at₁ n s : ℕ} (C : Counted xs at at₁ n) where
   -- a count that is cut cuts what it counts
-  pub counted_lost : 8 * length xs < at₁ → {a : List ℕ} → Took (counted f) xs at s a a at₁ s
+  pub counted_lost : 8 * length xs < at₁ → {a : List ℕ} {s₁ : ℕ} → Took (counted f) xs at s a a at₁ s₁
   unfolding counted next
   counted_lost h = record { len = refl; lost = λ k l. rw (C.lost k l); read = λ k. absurd (omega arith) }
 
   -- a count and so many readings are one step
-  pub counted_took : at₁ ≤ 8 * length xs → {a a' : List ℕ} {at₂ s₂ : ℕ} → Took (f n) xs at₁ s a a' at₂ s₂ → Took (counted f) xs at s a a' at₂ s₂
+  counted_took : at₁ ≤ 8 * length xs → {a a' : List ℕ} {at₂ s₂ : ℕ} → Took (f n) xs at₁ s a a' at₂ s₂ → Took (counted f) xs at s a a' at₂ s₂
   unfolding counted next
   counted_took h T =
       let I = C.read h in
@@ -193,3 +179,9 @@ module _ (f : ℕ → Reader) {xs : List ℕ} {at at₁ n s : ℕ} (C : Counted 
         lost = λ k _. rw I.is (T.lost k h);
         read = λ k. let A = T.read k in record { from = I.from; these = A.these; is = rw I.is A.is; area = A.area; count = A.count; few = omega (arith, A.few, I.behind) };
       }
+
+-- and one step or none
+pub counted_as : (f : ℕ → Reader) {xs : List ℕ} {at at₁ n : ℕ} → Counted xs at at₁ n → at₁ ≤ 8 * length xs →
+    (s : ℕ) (a a' : List ℕ) (r : Option Step) → TookAs (Took (f n) xs at₁ s a a') xs r → TookAs (Took (counted f) xs at s a a') xs r
+counted_as f C h s a a' None T = counted_took f C h T
+counted_as f C h s a a' (Some _) T = (counted_took f C h T.0, T.1)

@@ -4,10 +4,10 @@ use mathlib.Core.Bool.{Bool, true, false, ◌&&◌}
 use mathlib.Core.List.{List, [], ◌∷◌, ◌++◌}
 use Prim.Native.Nat.{ℕ, ◌+◌, ◌-◌, ◌*◌, ◌<◌, ◌≤◌}
 use native.Mathlib.Omega.{arith}
-use lib.Dec.{leb, eqb}
+use lib.Dec.{eqb}
 use lib.ListN.{length, set, take, drop, length-set, length-drop}
 use lib.Seq.{sets, take_all}
-use borrow.Author.Tests.{le-leb, lt-leb, leb-true, leb-false, lt-ltb, le-ltb, eq-eqb, ne_eqb}
+use borrow.Author.Tests.{le-leb, lt-ltb, le-ltb, eq-eqb, ne_eqb}
 use Rattle.rules.specs.Cells.{empty}
 use Rattle.rules.specs.Lists.{every}
 use Rattle.rules.specs.Job.{Job, Read, cut, got, next, field, fields, number_of, read_pins, read_records, read_fields, is_padding}
@@ -17,7 +17,9 @@ use Rattle.bits.specs.Fields.{bits_in, FieldIs}
 use Rattle.bits.proofs.Laws.Fields.{field_there, field_lost, bits_length}
 use Rattle.bits.proofs.Laws.Putting.{none_back}
 use Rattle.job.specs.Steps.{counted, Took}
-use Rattle.job.specs.Walk.{Met, MeasuredIn, Walked, sized, accepts}
+use Rattle.std.specs.Prelude.{Option, Some, None}
+use Rattle.job.specs.declared.walk.Extent.{Extent}
+use Rattle.job.specs.Walk.{Met, MeasuredIn, Walked, WalkedAs, sized, accepts}
 
 -- ---- the fields, section by section
 
@@ -39,6 +41,10 @@ pub sections : (bs : List ℕ) {K : ℕ} {b1 : List ℕ} → field 4 bs ≡ got 
 unfolding read_fields counted
 sections bs e = rw e (simp (next_got, next_assoc))
 
+-- a walk that met a cut
+walked_cut : {xs g v c g' v' c' : List ℕ} → length g' ≡ length g → length v' ≡ length v → length c' ≡ length c → read_fields (bits_in xs) ≡ cut → Walked xs g v c g' v' c' (8 * length xs + 1) 0 0 0 0
+walked_cut {xs} a b d e = record { gates = a; given = b; records = d; measured = record { lost = λ _. e; read = λ k. absurd (omega arith) }; stored = λ k. absurd (omega arith) }
+
 module _ {xs : List ℕ} {K : ℕ} (F : FieldIs 0 4 xs K) (h : 4 ≤ 8 * length xs) where
   first : field 4 (bits_in xs) ≡ got K (drop 4 (bits_in xs))
   first = field_there 0 4 xs K F (omega arith)
@@ -59,49 +65,58 @@ module _ {xs : List ℕ} {K : ℕ} (F : FieldIs 0 4 xs K) (h : 4 ≤ 8 * length 
   unfolding next
   none_lost e d c = sections (bits_in xs) first ∙ rw (e, next, d, next, c, next)
 
-  module _ (g : List ℕ) {g₁ g₂ g₃ v v₁ c c₁ : List ℕ} {at₁ n₁ at₂ n₂ at₃ n₃ : ℕ} (e₁ : g₁ ≡ set g 0 empty) (e₂ : g₂ ≡ set g₁ 1 empty)
-      (P : Took (counted read_pins) xs 4 2 g₂ g₃ at₁ n₁) (D : Took (counted (λ n. fields n 16)) xs at₁ 0 v v₁ at₂ n₂) (C : Took (counted read_records) xs at₂ 0 c c₁ at₃ n₃) where
-    walk_lost : 8 * length xs < at₃ → read_fields (bits_in xs) ≡ cut
-    walk_lost k = split (leb at₁ (8 * length xs))
-        (λ t.
-        let a₁ = leb-true at₁ (8 * length xs) t in
-        let p = P.read a₁ in
-        split (leb at₂ (8 * length xs))
-        (λ u.
-        let a₂ = leb-true at₂ (8 * length xs) u in
-        let v = D.read a₂ in
-        lost_records p.is v.is (C.lost k a₂))
-        (λ u. lost_given p.is (D.lost (leb-false at₂ (8 * length xs) u) a₁)))
-        (λ t. lost_pins (P.lost (leb-false at₁ (8 * length xs) t) h))
+  module _ (g v c : List ℕ) {g₁ g₂ : List ℕ} (e₁ : g₁ ≡ set g 0 empty) (e₂ : g₂ ≡ set g₁ 1 empty) where
+    marked_len : length g₂ ≡ length g
+    marked_len = ap length e₂ ∙ length-set g₁ 1 empty ∙ ap length e₁ ∙ length-set g 0 empty
 
-    walk_met : at₃ ≤ 8 * length xs → Met xs at₃ K n₁ n₂ n₃
-    walk_met k =
-        let c = C.read k in
-        let v = D.read c.from in
-        let p = P.read v.from in
-        record { J = made K p.these v.these c.these; is = none_lost p.is v.is c.is; height = refl; gates = omega (arith, p.count); given = omega (arith, v.count); records = omega (arith, c.count) }
+    -- pins that are cut cut the file
+    pub pins_cut : {g₃ : List ℕ} → Took (counted read_pins) xs 4 2 g₂ g₃ (8 * length xs + 1) 0 → Walked xs g v c g₃ v c (8 * length xs + 1) 0 0 0 0
+    pins_cut P = walked_cut (P.len ∙ marked_len) refl refl (lost_pins (P.lost (omega arith) h))
 
-    -- the sections one after the other are the walk through the whole file
-    pub walked : Walked xs g v c g₃ v₁ c₁ at₃ K n₁ n₂ n₃
-    unfolding walk_met
-    walked = record {
-      gates = P.len ∙ ap length e₂ ∙ length-set g₁ 1 empty ∙ ap length e₁ ∙ length-set g 0 empty;
-      given = D.len;
-      records = C.len;
-      measured = record { lost = walk_lost; read = walk_met };
-      stored = λ k.
-          let c = C.read k in
-          let v = D.read c.from in
-          let p = P.read v.from in
-          record { gates = p.area ∙ ap (λ (l : List ℕ). sets l 2 p.these) (e₂ ∙ ap (λ (l : List ℕ). set l 1 empty) e₁); given = v.area; records = c.area };
-    }
+    module _ {g₃ : List ℕ} {at₁ n₁ : ℕ} (P : Took (counted read_pins) xs 4 2 g₂ g₃ at₁ n₁) (h₁ : at₁ ≤ 8 * length xs) where
+      -- and so do given pins
+      pub given_cut : {v₁ : List ℕ} → Took (counted (λ n. fields n 16)) xs at₁ 0 v v₁ (8 * length xs + 1) 0 → Walked xs g v c g₃ v₁ c (8 * length xs + 1) 0 0 0 0
+      given_cut D = walked_cut (P.len ∙ marked_len) D.len refl (lost_given (P.read h₁).is (D.lost (omega arith) h₁))
+
+      module _ {v₁ : List ℕ} {at₂ n₂ : ℕ} (D : Took (counted (λ n. fields n 16)) xs at₁ 0 v v₁ at₂ n₂) (h₂ : at₂ ≤ 8 * length xs) where
+        -- and records
+        pub records_cut : {c₁ : List ℕ} → Took (counted read_records) xs at₂ 0 c c₁ (8 * length xs + 1) 0 → Walked xs g v c g₃ v₁ c₁ (8 * length xs + 1) 0 0 0 0
+        records_cut C = walked_cut (P.len ∙ marked_len) D.len C.len (lost_records (P.read h₁).is (D.read h₂).is (C.lost (omega arith) h₂))
+
+        module _ {c₁ : List ℕ} {at₃ n₃ : ℕ} (C : Took (counted read_records) xs at₂ 0 c c₁ at₃ n₃) (h₃ : at₃ ≤ 8 * length xs) where
+          walk_met : Met xs at₃ K n₁ n₂ n₃
+          walk_met =
+              let p = P.read h₁ in
+              let d = D.read h₂ in
+              let r = C.read h₃ in
+              record {
+                J = made K p.these d.these r.these;
+                is = none_lost p.is d.is r.is;
+                height = refl;
+                gates = omega (arith, p.count);
+                given = omega (arith, d.count);
+                records = omega (arith, r.count);
+              }
+
+          -- the sections one after the other are the walk through the whole file
+          pub walked : Walked xs g v c g₃ v₁ c₁ at₃ K n₁ n₂ n₃
+          unfolding walk_met
+          walked = record {
+            gates = P.len ∙ marked_len;
+            given = D.len;
+            records = C.len;
+            measured = record { lost = λ k. absurd (omega arith); read = λ _. walk_met };
+            stored = λ _.
+                let p = P.read h₁ in
+                record { gates = p.area ∙ ap (λ (l : List ℕ). sets l 2 p.these) (e₂ ∙ ap (λ (l : List ℕ). set l 1 empty) e₁); given = (D.read h₂).area; records = (C.read h₃).area };
+          }
 
 -- too few bits for a height: cut at once
 pub walked_none : {xs g v c : List ℕ} → 8 * length xs < 4 → Walked xs g v c g v c (8 * length xs + 1) 0 0 0 0
 unfolding read_fields next
 walked_none {xs} h =
     let f : field 4 (bits_in xs) ≡ cut = field_lost 0 4 xs (omega arith) in
-    record { gates = refl; given = refl; records = refl; measured = record { lost = λ _. rw f; read = λ k. absurd (omega arith) }; stored = λ k. absurd (omega arith) }
+    walked_cut refl refl refl (rw f)
 
 -- ---- padding and sizes
 
@@ -128,11 +143,6 @@ padding_is {at} {xs} {n} h F =
     let t : take (8 * length xs - at) bs ≡ bs = take_all (8 * length xs - at) bs (omega (arith, bits_length xs)) in
     rw (F.is, t, zero_number bs 0, lt-ltb (length bs) 8 (omega (arith, bits_length xs)))
 
--- a cut file is not accepted
-pub accepts_lost : (xs : List ℕ) (at K ng nc : ℕ) → 8 * length xs < at → false ≡ accepts xs at K ng nc
-unfolding accepts
-accepts_lost xs at K ng nc h = sym (rw (lt-leb at (8 * length xs) h))
-
 -- a file with more than padding behind its fields is not accepted
 pub accepts_more : (xs : List ℕ) (at K ng nc : ℕ) → at ≤ 8 * length xs → is_padding (drop at (bits_in xs)) ≡ false → false ≡ accepts xs at K ng nc
 unfolding accepts
@@ -146,5 +156,6 @@ accepts_is xs at K ng nc h e d = d ∙ sym (rw (le-leb at (8 * length xs) h, e))
 -- ---- an empty part comes back as it was
 
 -- a walk over empty parts changes no area, and measures the file
-pub measured_in : {xs : List ℕ} (g v c : List ℕ) {g' v' c' : List ℕ} {at K ng nv nc : ℕ} → Walked xs [] [] [] g' v' c' at K ng nv nc → MeasuredIn xs g v c (g' ++ g) (v' ++ v) (c' ++ c) at K ng nv nc
-measured_in g v c {g'} {v'} {c'} W = record { measured = W.measured; gates = none_back g' g W.gates; given = none_back v' v W.given; records = none_back c' c W.records }
+pub measured_in : (xs g v c g' v' c' : List ℕ) (r : Option Extent) → WalkedAs (Walked xs [] [] [] g' v' c') xs r → WalkedAs (MeasuredIn xs g v c (g' ++ g) (v' ++ v) (c' ++ c)) xs r
+measured_in xs g v c g' v' c' None W = record { measured = W.measured; gates = none_back g' g W.gates; given = none_back v' v W.given; records = none_back c' c W.records }
+measured_in xs g v c g' v' c' (Some _) T = let W = T.0 in (record { measured = W.measured; gates = none_back g' g W.gates; given = none_back v' v W.given; records = none_back c' c W.records }, T.1)

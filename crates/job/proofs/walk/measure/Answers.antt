@@ -3,4 +3,4 @@ use Rattle.job.proofs.Laws.Walk.{measured_in}
 use Rattle.job.proofs.walk.measure.Goals as goal
 
 pub returns : goal.returns
-returns c = let a = c.args in measured_in a.gates.now a.given.now a.records.now c.walk.ensures
+returns c = let a = c.args in measured_in _ a.gates.now a.given.now a.records.now _ _ _ _ c.walk.ensures
