@@ -1,24 +1,17 @@
 -- What the checks say of a graph and of lists of pins. Assumes nothing.
 use mathlib.Core.Path.{◌≡◌, refl, ap}
-use mathlib.Core.Bool.{Bool, true, ◌&&◌}
+use mathlib.Core.Bool.{true, ◌&&◌}
 use mathlib.Core.List.{List, [], ◌∷◌}
-use Prim.Native.Nat.{ℕ, zero, suc, ◌+◌, ◌*◌, ◌/◌, ◌%◌, ◌<◌, ◌≤◌}
+use Prim.Native.Nat.{ℕ, zero, suc, ◌*◌, ◌/◌, ◌%◌, ◌<◌, ◌≤◌}
 use native.Mathlib.Omega.{arith}
 use native.Mathlib.Nat.{div-add-mod'}
 use borrow.Author.Tests.{eqb-true, leb-true, ltb-true}
 use lib.Dec.{eqb, leb, ltb}
 use lib.ListN.{length, get_or}
-use Rattle.rules.specs.Lists.{every}
 use Rattle.rules.specs.Graph.{Node, leaf, gate, pin_of, graph_of, pin_count}
 use Rattle.rules.specs.Checks.{nodes_right, graph_right, loops_right, given_right}
-use Rattle.rules.proofs.Lists.Members.{split, true_false, and_true}
+use Rattle.rules.proofs.Lists.Members.{and_true, every_at}
 use Rattle.rules.specs.Loops.{Valid}
-
-every_at : (f : ℕ → Bool) (xs : List ℕ) → every f xs ≡ true → (i : ℕ) → i < length xs → f (get_or xs i 0) ≡ true
-unfolding every
-every_at f [] e i h = absurd (omega arith)
-every_at f (x ∷ xs) e zero h = split (f x) (λ d. d) (λ d. true_false (rw (d, every) at e) refl)
-every_at f (x ∷ xs) e (suc i) h = split (f x) (λ d. every_at f xs (rw (d, every) at e) i (omega arith)) (λ d. true_false (rw (d, every) at e) refl)
 
 -- pins that pass the check are below n
 pub pins_right : (n : ℕ) (xs : List ℕ) → given_right n xs ≡ true → (i : ℕ) → i < length xs → get_or xs i 0 < n

@@ -1,64 +1,27 @@
 -- A text where it fits, and where it does not. Assumes nothing.
-use mathlib.Core.Path.{◌≡◌, refl, ◌∙◌, ap}
-use mathlib.Core.List.{List, [], ◌∷◌, ◌++◌}
-use Prim.Native.Nat.{ℕ, suc, ◌+◌, ◌≤◌, ◌<◌}
+use mathlib.Core.Path.{◌≡◌, ap}
+use mathlib.Core.List.{List}
+use Prim.Native.Nat.{ℕ, ◌+◌, ◌≤◌, ◌<◌}
 use native.Mathlib.Omega.{arith}
-use lib.Dec.{leb, ltb}
-use lib.ListN.{length, drop, set}
-use lib.Seq.{sets, sets-eq}
-use borrow.Author.Tests.{ltb-true, ltb-false, leb-true, leb-false, le-leb}
-use Rattle.rules.specs.Lists.{laid_over}
+use lib.Dec.{leb}
+use lib.ListN.{length}
+use borrow.Author.Tests.{leb-true, le-leb, lt-leb}
 use Rattle.rules.proofs.Lists.Members.{split}
-use Rattle.listing_lines.specs.Laid.{along, over, Laid}
-use Rattle.listing_lines.proofs.Laws.Laid.{step_in, step_out}
+use Rattle.listing_lines.specs.Laid.{Laid}
+use Rattle.listing_lines.proofs.Laws.Fits.{laid_past, laid_fits, laid_length, laid_whole}
 use Rattle.listing.specs.Listing.{Outcome, outcome, written}
-
-along_in : (limit at : ℕ) (xs : List ℕ) → at + length xs ≤ limit → along limit at xs ≡ at + length xs
-unfolding along
-along_in limit at [] h = omega arith
-along_in limit at (x ∷ xs) h = rw (step_in limit at (omega arith)) (along_in limit (suc at) xs (omega arith) ∙ omega arith)
-
-over_in : (limit at : ℕ) (xs o : List ℕ) → at + length xs ≤ limit → over limit at xs o ≡ sets o at xs
-unfolding over
-over_in limit at [] o h = refl
-over_in limit at (x ∷ xs) o h = rw (step_in limit at (omega arith)) (over_in limit (suc at) xs (set o at x) (omega arith))
-
-along_end : (limit : ℕ) (xs : List ℕ) → along limit limit xs ≡ limit
-unfolding along
-along_end limit [] = refl
-along_end limit (x ∷ xs) = rw (step_out limit limit (omega arith)) (along_end limit xs)
-
--- a cursor that did not reach its limit tells the length
-along_short : (limit at : ℕ) (xs : List ℕ) → at ≤ limit → limit < at + length xs → along limit at xs ≡ limit
-unfolding along
-along_short limit at [] h k = absurd (omega arith)
-along_short limit at (x ∷ xs) h k = split (ltb at limit)
-    (λ t. let i = ltb-true at limit t in rw (step_in limit at i) (along_short limit (suc at) xs i (omega arith)))
-    (λ f. let e : at ≡ limit = omega (arith, ltb-false at limit f) in rw (e, step_out limit limit (omega arith)) (along_end limit xs))
 
 -- a text measured in another area, and then laid or not
 module _ (text o : List ℕ) {o1 o2 : List ℕ} {limit r : ℕ} (l : limit ≡ length o + 1) (m : Laid limit 0 text o1 r o2) where
   -- a text longer than the area answers 2 and leaves the area
   pub written_not : length o < r → written text o ≡ outcome 2 0 o
   unfolding written
-  written_not h = split (leb (length text) (length o))
-      (λ t. absurd (omega (arith, leb-true (length text) (length o) t, m.cursor, along_in limit 0 text (omega (arith, leb-true (length text) (length o) t)))))
-      (λ f. rw (f, written))
-
-  short : r ≤ length o → length text ≤ length o
-  short h = split (leb (length text) (length o)) (λ t. leb-true (length text) (length o) t)
-      (λ f. split (ltb limit (length text))
-      (λ t. absurd (omega (arith, l, m.cursor, along_short limit 0 text (omega arith) (omega (arith, ltb-true limit (length text) t)))))
-      (λ t. absurd (omega (arith, leb-false (length text) (length o) f, m.cursor, along_in limit 0 text (omega (arith, ltb-false limit (length text) t))))))
+  written_not h = rw (lt-leb (length text) (length o) (laid_past text o l m h), written)
 
   -- a text that fits stands over the area's front, and its length is answered
   pub written_all : {r2 : ℕ} {o3 : List ℕ} → r ≤ length o → Laid limit 0 text o r2 o3 → outcome 0 r o3 ≡ written text o
-  unfolding written laid_over
-  written_all {r2} {o3} h b =
-      let k = short h in
-      let e : r ≡ length text = omega (arith, m.cursor, along_in limit 0 text (omega arith)) in
-      let f : o3 ≡ text ++ drop (length text) o = b.area ∙ over_in limit 0 text o (omega arith) ∙ (let z : 0 + length text ≡ length text = omega arith in rw z at (sets-eq text o 0 (omega arith))) in
-      rw (le-leb (length text) (length o) k, e, f, written)
+  unfolding written
+  written_all h b = rw (le-leb (length text) (length o) (laid_fits text o l m h), laid_length text o l m h, laid_whole text o l m h b, written)
 
 -- the length that is answered is within the area
 pub written_within : (text o : List ℕ) (number size : ℕ) (o' : List ℕ) → outcome number size o' ≡ written text o → size ≤ length o

@@ -1,4 +1,3 @@
-use Prim.Native.Nat.{◌-◌}
 use native.Mathlib.Omega.{arith}
 use Rattle.try_walks.proofs.Starts.{given_none, given_more}
 use Rattle.try_walks.proofs.give.Goals as goal

@@ -1,6 +1,4 @@
 -- `try_walks::give` meets its contract: it marks the pins one after the other. Assumes nothing.
-use Prim.Native.Nat.{◌≤◌, ◌-◌}
-use lib.ListN.{length}
 use Rattle.try_walks.specs.Shown.{Given}
 use Rattle.try_walks.proofs.give.Given as goal
 

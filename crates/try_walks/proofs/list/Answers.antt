@@ -1,4 +1,3 @@
-use Prim.Native.Nat.{◌-◌}
 use native.Mathlib.Omega.{arith}
 use Rattle.try_walks.proofs.Starts.{waiting_none, waiting_at, waiting_more}
 use Rattle.try_walks.proofs.list.Goals as goal

@@ -1,6 +1,4 @@
 -- `try_walks::list` meets its contract: it lists the pins one after the other. Assumes nothing.
-use Prim.Native.Nat.{◌≤◌, ◌-◌}
-use lib.ListN.{length}
 use Rattle.try_walks.specs.Shown.{Waiting}
 use Rattle.try_walks.proofs.list.Given as goal
 
