@@ -29,8 +29,11 @@ reset_in count a c = eqb count 2 || (eqb count 3 && (leb c 1 || eqb c a))
 
 -- ---- the line at a place behind the header, from 0 on
 
+abbrev pub head : (variables inputs latches outputs gates : ℕ) → Header
+head m i l o a = record { variables = m; inputs = i; latches = l; outputs = o; gates = a }
+
 abbrev pub head_of : Head → Header
-head_of h = record { variables = h.variables; inputs = h.inputs; latches = h.latches; outputs = h.outputs; gates = h.gates }
+head_of h = head h.variables h.inputs h.latches h.outputs h.gates
 
 unfoldable pub item_at : Header → ℕ → List ℕ → Item
 item_at h i line = elim (ltb i h.inputs) [
@@ -52,6 +55,10 @@ In h i Outputs = (h.inputs ≤ i) × (h.latches ≤ i - h.inputs) × (i - h.inpu
 In h i Gates = (h.inputs ≤ i) × (h.latches ≤ i - h.inputs) × (h.outputs ≤ i - h.inputs - h.latches) × (i - h.inputs - h.latches - h.outputs < h.gates)
 In h i Symbols = (h.inputs ≤ i) × (h.latches ≤ i - h.inputs) × (h.outputs ≤ i - h.inputs - h.latches) × (h.gates ≤ i - h.inputs - h.latches - h.outputs)
 
+-- the same behind any header that says so many of each
+abbrev pub Among : (inputs latches outputs gates i : ℕ) → Section → Type 0
+Among inputs latches outputs gates i s = (m : ℕ) → In (head m inputs latches outputs gates) i s
+
 -- behind the gates a line `c` ends all
 unfoldable pub stops_at : Header → ℕ → List ℕ → Bool
 stops_at h i line = elim (ltb i h.inputs) [
@@ -64,6 +71,10 @@ stops_at h i line = elim (ltb i h.inputs) [
     ]
   ]
 ]
+
+-- the same behind any header that says so many of each
+abbrev pub Stops : (inputs latches outputs gates i : ℕ) → List ℕ → Bool → Type 0
+Stops inputs latches outputs gates i line r = (m : ℕ) → r ≡ stops_at (head m inputs latches outputs gates) i line
 
 -- ---- the header's line: the number of outputs is capped, the others are exact
 

@@ -1,7 +1,7 @@
 // The header, `aag M I L O A`.
 ghost use Rattle.std.specs.Prelude.{◌≡◌, ◌&&◌, ◌+◌, leb};
 ghost use Rattle.aiger_form.specs.Aag.{header_of, most_variables};
-ghost use Rattle.aiger_rows.specs.Rows.{HeadIs, head_of, In};
+ghost use Rattle.aiger_rows.specs.Rows.{HeadIs, head_of, In, Among};
 
 use crate::cursor::numbers;
 use crate::head::Head;
@@ -16,25 +16,38 @@ pub enum Section {
     Symbols,
 }
 
+// The section of the i-th line behind a header that says so many of each, from 0 on.
+pub(crate) fn section_among(
+    i: usize,
+    inputs: usize,
+    latches: usize,
+    outputs: usize,
+    gates: usize,
+) -> Section
+    ensures { Among inputs latches outputs gates i result }
+{
+    if i < inputs {
+        return Section::Inputs;
+    }
+    let j = i - inputs;
+    if j < latches {
+        return Section::Latches;
+    }
+    let k = j - latches;
+    if k < outputs {
+        return Section::Outputs;
+    }
+    if k - outputs < gates {
+        return Section::Gates;
+    }
+    Section::Symbols
+}
+
 // The section of the i-th line behind the header, from 0 on.
 pub fn section_of(i: usize, h: Head) -> Section
     ensures { In (head_of h) i result }
 {
-    if i < h.inputs {
-        return Section::Inputs;
-    }
-    let j = i - h.inputs;
-    if j < h.latches {
-        return Section::Latches;
-    }
-    let k = j - h.latches;
-    if k < h.outputs {
-        return Section::Outputs;
-    }
-    if k - h.outputs < h.gates {
-        return Section::Gates;
-    }
-    Section::Symbols
+    section_among(i, h.inputs, h.latches, h.outputs, h.gates)
 }
 
 fn fits(m: usize, i: usize, l: usize, a: usize) -> bool

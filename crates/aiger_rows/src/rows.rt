@@ -3,11 +3,11 @@ ghost use Rattle.std.specs.Prelude.{◌≡◌, ◌&&◌, true, false, MatchOptio
 ghost use Rattle.rules.specs.Lists.{same_list};
 ghost use Rattle.rules.specs.Listing.{text};
 ghost use Rattle.aiger_form.specs.Aag.{or_bad, is_literal, is_variable, input_item, latch_item, output_item, gate_line, gate_item, line_item, symbol_count, symbol_item};
-ghost use Rattle.aiger_rows.specs.Rows.{said, reset_in, head_of, item_at, stops_at};
+ghost use Rattle.aiger_rows.specs.Rows.{said, reset_in, head_of, item_at, Stops};
 
 use crate::cursor::{number, numbers, until};
 use crate::head::Head;
-use crate::header::{Section, section_of};
+use crate::header::{Section, section_among, section_of};
 use graph::Literal;
 
 // A symbol, or a line of a section with its literals. A latch's reset is 0, 1 or the latch.
@@ -156,11 +156,18 @@ pub fn row_at(line: &[u8], i: usize, h: Head) -> Option<Row>
     }
 }
 
-// Does that line end all: a `c` behind the gates?
-pub fn stops_at(line: &[u8], i: usize, h: Head) -> bool
-    ensures { result ≡ stops_at (head_of h) i line.now }
+// Does the i-th line behind a header that says so many of each end all: a `c` behind the gates?
+pub fn stops_at(
+    line: &[u8],
+    i: usize,
+    inputs: usize,
+    latches: usize,
+    outputs: usize,
+    gates: usize,
+) -> bool
+    ensures { Stops inputs latches outputs gates i line.now result }
 {
-    match section_of(i, h) {
+    match section_among(i, inputs, latches, outputs, gates) {
         Section::Symbols => is_comment(line),
         _ => false,
     }

@@ -25,7 +25,7 @@ fn any_line(bytes: &[u8], at: usize, i: usize, h: Head) -> Step
     if bytes.len() <= e {
         return Step::Last;
     }
-    if stops_at(&bytes[at..e], i, h) {
+    if stops_at(&bytes[at..e], i, h.inputs, h.latches, h.outputs, h.gates) {
         return Step::Stop;
     }
     Step::Line(row_at(&bytes[at..e], i, h), e)

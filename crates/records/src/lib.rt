@@ -4,7 +4,7 @@
 ghost use Rattle.std.specs.Prelude.{◌≡◌, ◌-◌, length};
 ghost use Rattle.std.specs.Iterator.{at_most};
 ghost use Rattle.rules.specs.Records.{size_of};
-ghost use Rattle.records.specs.Values.{number_of, number_or_zero, known, named_by, size_at, endpoint_at};
+ghost use Rattle.records.specs.Values.{number_or_zero, known, named_by, size_at, endpoint_at};
 ghost use Rattle.records.specs.Walk.{Steps};
 
 use graph::{Literal, Pin, pin_of};
@@ -29,15 +29,18 @@ pub fn kind_of(number: u32) -> Option<Kind>
     }
 }
 
-// How many numbers stand behind a kind.
-pub fn size_of(kind: Kind) -> usize
-    ensures { result ≡ size_of (number_of kind) }
+// How many numbers stand behind a kind; none behind no kind.
+pub fn size_of(kind: Option<Kind>) -> usize
+    ensures { result ≡ size_of (number_or_zero kind) }
 {
     match kind {
-        Kind::Output => 1,
-        Kind::FlipFlop => 2,
-        Kind::Memory => 91,
-        Kind::StagedPin => 1,
+        Some(kind) => match kind {
+            Kind::Output => 1,
+            Kind::FlipFlop => 2,
+            Kind::Memory => 91,
+            Kind::StagedPin => 1,
+        },
+        None => 0,
     }
 }
 
@@ -45,19 +48,19 @@ pub fn size_of(kind: Kind) -> usize
 pub fn size_for(number: u32) -> usize
     ensures { result ≡ size_of number }
 {
-    match kind_of(number) {
-        Some(kind) => size_of(kind),
-        None => 0,
-    }
+    size_of(kind_of(number))
 }
 
-// The pin that a number behind a kind names.
-pub fn named(kind: Kind, number: u32) -> Pin
-    ensures { result.0 ≡ named_by (number_of kind) number }
+// The pin that a number behind a kind names; behind no kind it is the pin itself.
+pub fn named(kind: Option<Kind>, number: u32) -> Pin
+    ensures { result.0 ≡ named_by (number_or_zero kind) number }
 {
     match kind {
-        Kind::StagedPin => Pin(number),
-        Kind::Output | Kind::FlipFlop | Kind::Memory => pin_of(Literal(number)),
+        Some(kind) => match kind {
+            Kind::StagedPin => Pin(number),
+            Kind::Output | Kind::FlipFlop | Kind::Memory => pin_of(Literal(number)),
+        },
+        None => Pin(number),
     }
 }
 
@@ -79,10 +82,7 @@ pub fn endpoint(records: &[u32], at: usize, i: usize) -> Pin
     if size_at(records, at) <= i {
         return Pin(0);
     }
-    match kind_of(records[at]) {
-        Some(kind) => named(kind, records[at + 1 + i]),
-        None => Pin(0),
-    }
+    named(kind_of(records[at]), records[at + 1 + i])
 }
 
 // Where each whole record starts, as far as one stands behind the other.

@@ -4,7 +4,7 @@
 ghost use Rattle.std.specs.Prelude.{◌≡◌, true};
 ghost use Rattle.rules.specs.Cells.{is_height};
 ghost use Rattle.sheet_form.specs.Forms.{form_fits};
-ghost use Rattle.sheet_form.specs.Kinds.{number_for};
+ghost use Rattle.sheet_form.specs.Kinds.{number_for, kind_for};
 
 use cell::Cell;
 use cells::Height;
@@ -16,6 +16,19 @@ pub enum SheetKind {
     Pins,
     // 2: cells with their inversions.
     Cells,
+}
+
+impl From<u32> for SheetKind {
+    ghost from_gives = { λ number kind. kind ≡ kind_for number };
+
+    // A number other than 1 is read as 2 is.
+    #[tactic(auto, using(std::proofs::lemmas::Bool::Decides::nat_tests), unfolding(crate::specs::Kinds::kind_for))]
+    fn from(number: u32) -> SheetKind {
+        match number {
+            1 => SheetKind::Pins,
+            _ => SheetKind::Cells,
+        }
+    }
 }
 
 impl SheetKind {

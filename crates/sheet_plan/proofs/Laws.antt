@@ -1,2 +1,3 @@
 pub mod Cells
 pub mod Lifts
+pub mod Kinds

@@ -9,7 +9,7 @@ ghost use Rattle.stage_runs.specs.Ran.{EndAt, Ran};
 use cells::Height;
 use classes::split_waiting;
 use puts::put_runs;
-use stage_sparse::{Sparse, sparse_runs};
+use stage_sparse::{Runs, sparse_runs};
 
 mod classes;
 mod puts;
@@ -41,13 +41,8 @@ pub fn write_runs(
     let split = split_waiting(work, m, n);
     let k = split.needed;
     let last = !split.untouched;
-    // Level 1 has at most 128 runs, and there is no heap.
-    let mut records = [Sparse {
-        filled: 0,
-        start: 0,
-    }; 128];
-    let count = sparse_runs(&mut records, stage, half);
-    let runs = &records[..count];
+    let Runs { records, len } = sparse_runs(stage, half);
+    let runs = &records[..len];
     let put = put_runs(gates, stage, work, words, m, half, k, last, at, room, runs);
     Spent {
         last,

@@ -16,7 +16,7 @@ pub fn call(rt: &impl Print, function: usize, numbers: &[u8]) -> io::Result<()> 
         2 => position(rt, x),
         3 => cell(rt, numbers),
         4 => literal(rt, Pin(x), narrow(numbers, 2)),
-        5 => say(rt, records::size_for(x)),
+        5 => say(rt, records::size_of(records::kind_of(x))),
         6 => area(rt, numbers),
         _ => sized(rt, numbers),
     }

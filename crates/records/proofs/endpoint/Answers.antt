@@ -2,8 +2,7 @@
 use Prim.Native.Nat.{◌+◌, ◌<◌}
 use native.Mathlib.Omega.{arith}
 use lib.ListN.{length}
-use Rattle.records.specs.Values.{number_or_zero}
-use Rattle.records.proofs.Reading.{stands, endpoint_none, endpoint_there, kind_there}
+use Rattle.records.proofs.Reading.{stands, endpoint_none, endpoint_there}
 use Rattle.records.proofs.endpoint.Goals as goal
 use Rattle.records.proofs.endpoint.Goals.{Else-size_at-i}
 
@@ -22,19 +21,14 @@ bounds-records-at c = omega (arith, here (goal.at.bounds-records-at c).Else-size
 pub overflow_add-at : goal.overflow_add-at
 overflow_add-at c = omega (arith, here (goal.at.overflow_add-at c).Else-size_at-i)
 
-pub overflow_add-at-in-Some : goal.overflow_add-at-in-Some
-overflow_add-at-in-Some c = omega (arith, here (goal.at.overflow_add-at-in-Some c).Else-size_at-i)
+pub overflow_add-at-2 : goal.overflow_add-at-2
+overflow_add-at-2 c = omega (arith, here (goal.at.overflow_add-at-2 c).Else-size_at-i)
 
-pub offset_bounds-records-at-in-Some : goal.offset_bounds-records-at-in-Some
-offset_bounds-records-at-in-Some c = omega (arith, here (goal.at.offset_bounds-records-at-in-Some c).Else-size_at-i)
+pub offset_bounds-records-at-2 : goal.offset_bounds-records-at-2
+offset_bounds-records-at-2 c = omega (arith, here (goal.at.offset_bounds-records-at-2 c).Else-size_at-i)
 
-pub bounds-records-at-in-Some : goal.bounds-records-at-in-Some
-bounds-records-at-in-Some c = omega (arith, here (goal.at.bounds-records-at-in-Some c).Else-size_at-i)
+pub bounds-records-at-2 : goal.bounds-records-at-2
+bounds-records-at-2 c = omega (arith, here (goal.at.bounds-records-at-2 c).Else-size_at-i)
 
-pub returns-in-Some : goal.returns-in-Some
-unfolding number_or_zero
-returns-in-Some c = endpoint_there _ _ _ (omega arith) (rw (c.in-Some.is, number_or_zero) at c.kind_of.ensures) c.named.ensures
-
-pub returns-in-None : goal.returns-in-None
-unfolding number_or_zero
-returns-in-None c = absurd (kind_there c.args.records.now c.args.at c.args.i (omega arith) (rw (c.in-None.is, number_or_zero) at c.kind_of.ensures))
+pub returns : goal.returns
+returns c = endpoint_there _ _ _ (omega arith) c.kind_of.ensures c.named.ensures
