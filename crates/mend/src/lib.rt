@@ -10,6 +10,7 @@ use cells::Height;
 use checks::refusal;
 use mend_list::{count_changes, write_changes};
 use mend_plan::mend_plan;
+use merge_slots::copy;
 use placer_start::reservation::Count;
 use plan_check::room::counted;
 use plan_check::stages::plan_place;
@@ -44,7 +45,7 @@ fn settle(
         return Err(Refused::from(Refusal::ShortList));
     }
     write_changes(height, plan, made, list);
-    plan.copy_from_slice(made);
+    copy(plan, made);
     Ok(n)
 }
 
@@ -65,12 +66,14 @@ fn rebuild(
     requires { JudgeAt height.0 gates.now given.now records.now plan.old counts.now stages count made.old }
     ensures { Rebuilds height.0 gates.now given.now records.now plan.old words.now counts.now stages list.old plan.new list.new result }
 {
-    made.copy_from_slice(plan);
+    copy(made, plan);
     mend_plan(height, gates, given, made, stages);
-    plan_place(
+    match plan_place(
         height, gates, given, records, made, words, counts, stages, count,
-    )?;
-    settle(height, plan, made, list)
+    ) {
+        Ok(()) => settle(height, plan, made, list),
+        Err(place) => Err(Refused::from(place)),
+    }
 }
 
 // A plan that passed the checks of its input.

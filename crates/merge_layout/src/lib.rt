@@ -7,7 +7,7 @@ ghost use Rattle.merge_layout.specs.Layout.{OrderAt, Ordered, GatherAt, Gathered
 
 use columns::wide;
 use merge_slots::{
-    CELLS, GROWS, ORDER, STAGES, UNION, WORDS, open_all, order_keys, sort, start_of,
+    CELLS, GROWS, ORDER, STAGES, UNION, WORDS, copy, open_all, order_keys, sort, start_of,
 };
 
 #[derive(Clone, Copy)]
@@ -39,7 +39,7 @@ fn gather(indices: &[u32], lengths: &[u32], order: &[u32], to: &mut [u32], k: us
         let s = wide(order[i]);
         let start = start_of(lengths, s);
         let size = wide(lengths[s]);
-        to[at..at + size].copy_from_slice(&indices[start..start + size]);
+        copy(&mut to[at..at + size], &indices[start..start + size]);
         at += size;
     }
 }
@@ -102,8 +102,8 @@ fn write_lists(lengths: &mut [u32], stages: &mut [u32], own: &mut [u32], k: usiz
     let stages_sum = total(own, n, STAGES, k);
     let words_sum = total(own, n, WORDS, k);
     let cells_sum = total(own, n, CELLS, k);
-    lengths.copy_from_slice(&own[a..b]);
-    stages.copy_from_slice(&own[b..c]);
+    copy(lengths, &own[a..b]);
+    copy(stages, &own[b..c]);
     Totals {
         partitions: k,
         stages: stages_sum,
@@ -127,10 +127,10 @@ fn arrange(
     let n = lengths.len();
     let k = final_order(lengths, &mut work[base..base + 8 * n]);
     let from = base + ORDER * n;
-    stages.copy_from_slice(&work[from..from + n]);
+    copy(stages, &work[from..from + n]);
     let last = spare + indices.len();
     gather(indices, lengths, stages, &mut work[spare..last], k);
-    indices.copy_from_slice(&work[spare..last]);
+    copy(indices, &work[spare..last]);
     k
 }
 

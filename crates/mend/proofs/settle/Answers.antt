@@ -9,4 +9,4 @@ pub write_changes-requires : goal.write_changes-requires
 write_changes-requires c = write_at _ _ _ _ c.requires _ c.count_changes-n.ensures c.if-list-n.false
 
 pub returns : goal.returns
-returns c = settle_listed _ _ _ _ c.requires _ c.count_changes-n.ensures c.if-list-n.false _ c.write_changes.ensures _ c.copy_from_slice.ensures.after
+returns c = settle_listed _ _ _ _ c.requires _ c.count_changes-n.ensures c.if-list-n.false _ c.write_changes.ensures _ c.copy.ensures

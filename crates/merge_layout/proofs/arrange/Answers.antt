@@ -7,7 +7,7 @@ pub final_order-k-requires : goal.final_order-k-requires
 final_order-k-requires c = order_ready c.requires
 
 pub gather-requires : goal.gather-requires
-gather-requires c = gather_at c.requires c.final_order-k.ensures refl refl c.copy_from_slice.ensures.after
+gather-requires c = gather_at c.requires c.final_order-k.ensures refl refl c.copy.ensures
 
 pub returns : goal.returns
-returns c = arranged c.requires c.final_order-k.ensures refl refl c.copy_from_slice.ensures.after c.gather.ensures c.gather.auto.to c.copy_from_slice-2.ensures.after
+returns c = arranged c.requires c.final_order-k.ensures refl refl c.copy.ensures c.gather.ensures c.gather.auto.to c.copy-2.ensures

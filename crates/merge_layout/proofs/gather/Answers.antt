@@ -14,14 +14,14 @@ overflow_add-at c = let e = gathering_fits c.requires c.loop-i.invariant c.loop-
 pub offset_bounds-to-at : goal.offset_bounds-to-at
 offset_bounds-to-at c = let e = gathering_fits c.requires c.loop-i.invariant c.loop-i-test.true c.wide-s.ensures in omega (arith, c.wide-size.ensures, c.loop-i.invariant.size)
 
-pub slice_bounds-copy_from_slice-end : goal.slice_bounds-copy_from_slice-end
-slice_bounds-copy_from_slice-end c = let e = gathering_fits c.requires c.loop-i.invariant c.loop-i-test.true c.wide-s.ensures in omega (arith, c.wide-size.ensures)
+pub slice_bounds-copy-end : goal.slice_bounds-copy-end
+slice_bounds-copy-end c = let e = gathering_fits c.requires c.loop-i.invariant c.loop-i-test.true c.wide-s.ensures in omega (arith, c.wide-size.ensures)
 
 pub offset_bounds-indices-start : goal.offset_bounds-indices-start
 offset_bounds-indices-start c = let e = gathering_end c.requires c.loop-i.invariant c.loop-i-test.true c.wide-s.ensures c.start_of-start.ensures c.wide-size.ensures in omega (arith, c.requires.few)
 
-pub slice_bounds-copy_from_slice-end-in-loop-i : goal.slice_bounds-copy_from_slice-end-in-loop-i
-slice_bounds-copy_from_slice-end-in-loop-i c = let e = gathering_end c.requires c.loop-i.invariant c.loop-i-test.true c.wide-s.ensures c.start_of-start.ensures c.wide-size.ensures in omega arith
+pub slice_bounds-copy-end-in-loop-i : goal.slice_bounds-copy-end-in-loop-i
+slice_bounds-copy-end-in-loop-i c = let e = gathering_end c.requires c.loop-i.invariant c.loop-i-test.true c.wide-s.ensures c.start_of-start.ensures c.wide-size.ensures in omega arith
 
 pub loop-i-preserved : goal.loop-i-preserved
-loop-i-preserved c = gathering_more c.requires c.loop-i.invariant c.loop-i-test.true c.wide-s.ensures c.start_of-start.ensures c.wide-size.ensures c.copy_from_slice.ensures.after
+loop-i-preserved c = gathering_more c.requires c.loop-i.invariant c.loop-i-test.true c.wide-s.ensures c.start_of-start.ensures c.wide-size.ensures c.copy.ensures

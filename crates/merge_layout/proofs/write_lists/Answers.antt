@@ -13,4 +13,4 @@ pub total-cells_sum-requires : goal.total-cells_sum-requires
 total-cells_sum-requires c = total_at c.requires c.tabulate.ensures 3 (omega arith)
 
 pub returns : goal.returns
-returns c = written c.requires c.tabulate.ensures c.copy_from_slice.ensures.after c.copy_from_slice-2.ensures.after c.total-stages_sum.ensures c.total-words_sum.ensures c.total-cells_sum.ensures
+returns c = written c.requires c.tabulate.ensures c.copy.ensures c.copy-2.ensures c.total-stages_sum.ensures c.total-words_sum.ensures c.total-cells_sum.ensures

@@ -1,11 +1,11 @@
 -- Where a slot starts; a copy; the begun blocks: what their loops keep. Assumes nothing.
 use Prim.Native.Nat.{ℕ, zero, suc, ◌+◌, ◌-◌, ◌*◌, ◌/◌, ◌<◌, ◌≤◌, max}
-use mathlib.Core.List.{List, [], ◌∷◌, ◌++◌}
+use mathlib.Core.List.{List, [], ◌∷◌, ◌++◌, append-nil}
 use mathlib.Core.Path.{◌≡◌, refl, sym, ap, ◌∙◌}
 use native.Mathlib.Numerals.{add-one}
 use native.Mathlib.Omega.{arith}
-use lib.ListN.{length, get_or, take, drop, take-append-drop}
-use lib.Seq.{take-suc}
+use lib.ListN.{length, get_or, set, take, drop, length-set, take-append-drop}
+use lib.Seq.{take-suc, paste-suc, take-length, drop-length}
 use borrow.Author.Tests.{le-leb, lt-leb}
 use Rattle.rules.specs.Lists.{sum}
 use Rattle.rules.specs.Merge.{begun}
@@ -50,6 +50,33 @@ pub summing_done : {ls : List ℕ} {s at i : ℕ} → Summing ls s at i → s �
 summing_done {s = s} {i = i} N h = let e : i ≡ s = omega (arith, N.upto) in rw e at N.is
 
 -- ---- the first i numbers are copied
+
+-- the front of one list over another
+pub record Copying (to from now : List ℕ) (i : ℕ) : Type 0 where
+  pub upto : i ≤ length from
+  pub same : length now ≡ length to
+  pub is : now ≡ take i from ++ drop i to
+
+-- before the first number nothing is copied
+pub copying_none : {to from : List ℕ} → Copying to from to 0
+copying_none = record { upto = omega arith; same = refl; is = refl }
+
+module _ {to from now : List ℕ} {i : ℕ} (e : length to ≡ length from) (N : Copying to from now i) where
+  -- one more number is copied
+  pub copying_more : i < length now → Copying to from (set now i (get_or from i 0)) (i + 1)
+  copying_more h =
+      let l : i < length from = omega (arith, N.same) in
+      let z : 0 + i ≡ i = omega arith in
+      let y : 0 + suc i ≡ suc i = omega arith in
+      let p : set (take i from ++ drop i to) i (get_or from i 0) ≡ take (suc i) from ++ drop (suc i) to = rw (z, y) at (paste-suc to 0 from i 0 (omega arith) l) in
+      record { upto = omega arith; same = length-set now i (get_or from i 0) ∙ N.same; is = rw (add-one i) (ap (λ (x : List ℕ). set x i (get_or from i 0)) N.is ∙ p) }
+
+  -- all numbers are copied
+  pub copying_done : length now ≤ i → now ≡ from
+  copying_done h =
+      let l : i ≡ length from = omega (arith, N.upto, N.same) in
+      let m : length from ≡ length to = sym e in
+      N.is ∙ rw (l, take-length from, m, drop-length to) (append-nil from)
 
 -- ---- the blocks up to `start` are begun
 
