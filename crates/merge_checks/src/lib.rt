@@ -117,9 +117,14 @@ pub fn merge_refusal(
         counts.len(),
         work.len(),
     );
-    refusal(height, sized, gates, given, records)?;
-    if may_merge(records, indices, lengths, extra) {
-        return Ok(());
+    match refusal(height, sized, gates, given, records) {
+        Ok(()) => {
+            if may_merge(records, indices, lengths, extra) {
+                Ok(())
+            } else {
+                Err(Refusal::WrongGroups)
+            }
+        }
+        Err(why) => Err(why),
     }
-    Err(Refusal::WrongGroups)
 }

@@ -132,7 +132,7 @@ pub fn build(
 ) -> Result<Built, Refused>
     ensures { outcome result plan.new words.new counts.new work.new ≡ placer needed_runs height gates.now given.now records.now (areas plan.old words.old counts.old work.old) }
 {
-    check(
+    let checked = check(
         height,
         gates,
         given,
@@ -141,7 +141,10 @@ pub fn build(
         words.len(),
         counts.len(),
         work.len(),
-    )?;
+    );
+    if let Err(why) = checked {
+        return Err(Refused::from(why));
+    }
     let limit = Height(height).word_limit();
     let rooms = Height(height).rooms(plan.len());
     let need = 16 * pin_count(gates) + 8 * records.len() + RECORDS;

@@ -76,7 +76,10 @@ pub fn check_plan(
     ensures { outcome result ≡ plan_checker height gates.now given.now records.now plan.now words.now counts.now stages }
 {
     let sized = plan_fits(height, plan.len(), counts.len(), stages);
-    refusal(height, sized, gates, given, records)?;
+    let checked = refusal(height, sized, gates, given, records);
+    if let Err(why) = checked {
+        return Err(Refused::from(why));
+    }
     let count = counted(gates, records);
     plan_place(
         Height(height),
