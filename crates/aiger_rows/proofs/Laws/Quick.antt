@@ -6,18 +6,13 @@ use mathlib.Core.List.{List, [], ◌∷◌, ◌++◌, append_assoc}
 use native.Mathlib.Omega.{arith}
 use lib.ListN.{length, get_or, take, drop, length-append, length-drop}
 use lib.Seq.{take-suc, split_at, take_at, get_or-take, get_or-drop, drop-drop, length-take-le}
-use borrow.Author.Tests.{ne_eqb, le-leb}
+use borrow.Author.Tests.{ne_eqb}
 use Rattle.rules.specs.Lists.{found, every, Out}
 use Rattle.rules.proofs.Lists.Members.{out_head, out_tail}
 use Rattle.aiger_form.specs.Text.{parts, words, is_digit, more_digits, number, numbers, before, numbers_of}
 use Rattle.aiger_form.proofs.Texts.{parts_one, every_append, out_digits, more_snoc, space_digit, feed_digit}
 use Rattle.aiger_rows.specs.Cursor.{until, Figured, Worded, Tripled}
 use Rattle.aiger_rows.proofs.Laws.Cursor.{number_digits}
-
--- a byte in range is a digit
-pub is_digit_lem : (c : ℕ) → 48 ≤ c → c ≤ 57 → is_digit c ≡ true
-unfolding is_digit
-is_digit_lem c a b = rw (le-leb 48 c a, le-leb c 57 b)
 
 module _ (bytes : List ℕ) (at : ℕ) where
   -- no digit yet
