@@ -32,6 +32,10 @@ pub known_size : (k : ℕ) → size_of (known k) ≡ size_of k
 unfolding known size_of or_zero
 known_size k = kinds k (λ e. rw e) (λ e. rw e) (λ e. rw e) (λ e. rw e) (λ e. rw (known_none k e) (sym e))
 
+no_size : size_of 0 ≡ 0
+unfolding size_of
+no_size = refl
+
 -- a kind that has a size is known, and stays as it is
 pub known_is : (k : ℕ) → 0 < size_of k → known k ≡ k
 unfolding known
@@ -181,6 +185,13 @@ module _ (xs : List ℕ) (at : ℕ) where
       let s = rw (t, or_zero_true (size_of (get_or xs at 0))) at h in
       rw (t, or_zero_true, get_or-eq_default (endpoints_of (group_at (drop at xs))) 0 {n = i} (omega (arith, l, ap size_of kind_at))))
       (λ t. rw (t, or_zero_false))
+
+  -- a whole record's kind is known
+  pub kind_there : (i : ℕ) → i < size_at xs at → 0 ≡ known (get_or xs at 0) → ⊥
+  kind_there i h e =
+      let w = stands (omega arith) in
+      let s : size_of 0 ≡ size_of (get_or xs at 0) = ap size_of e ∙ known_size (get_or xs at 0) in
+      absurd (omega (arith, w.size, s, no_size))
 
   -- the pin that the code reads from the i-th number is the i-th endpoint
   pub endpoint_there : (i : ℕ) {k q : ℕ} → i < size_at xs at → k ≡ known (get_or xs at 0) → q ≡ named_by k (get_or xs (at + 1 + i) 0) → q ≡ endpoint_at xs at i
